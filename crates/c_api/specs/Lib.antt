@@ -1,0 +1,2 @@
+-- The C interface: what the exported functions answer.
+pub mod Answer

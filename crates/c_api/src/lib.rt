@@ -1,0 +1,2 @@
+// The exported functions, for programs in other languages.
+pub mod read;

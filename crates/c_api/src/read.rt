@@ -1,0 +1,98 @@
+// A single reading.
+ghost use mathlib.Core.Path.{_≡_};
+ghost use Rattle.chain.specs.Reading.{reading, readingOutcome, refusalNumber as chainNumber};
+ghost use Rattle.register.specs.Load.{refusalNumber as registerNumber};
+ghost use Rattle.register.specs.Outcome.{done, refused as refusedWith};
+ghost use Rattle.c_api.specs.Answer.{readNumbers, ReadAnswer};
+use chain::reading::ReadingAnswer;
+use register::cells::Cell;
+
+fn register_number(refusal: register::Refusal) -> u32
+    ensures { λ r. ⌜ r ≡ registerNumber refusal ⌝ }
+{
+    match refusal {
+        register::Refusal::Length => 1,
+        register::Refusal::SizeLimit => 2,
+        register::Refusal::Mark => 3,
+        register::Refusal::MissingValue => 4,
+        register::Refusal::Reference => 5,
+    }
+}
+
+fn chain_number(refusal: chain::reading::Refusal) -> u32
+    ensures { λ r. ⌜ r ≡ chainNumber refusal ⌝ }
+{
+    match refusal {
+        chain::reading::Refusal::Form => 7,
+        chain::reading::Refusal::Field => 9,
+        chain::reading::Refusal::Kind => 10,
+        chain::reading::Refusal::Hops => 11,
+    }
+}
+
+// The numbers of a reading's answer.
+pub struct ReadNumbers {
+    pub number: u32,
+    pub line: u64,
+    pub value: i64,
+    pub filled: u64,
+}
+
+fn refused(number: u32, line: u64) -> ReadNumbers
+    ensures { λ r. ⌜ r ≡ readNumbers (refusedWith number line) ⌝ }
+{
+    ReadNumbers {
+        number,
+        line,
+        value: 0,
+        filled: 0,
+    }
+}
+
+fn read(cell: Cell) -> ReadNumbers
+    ensures { λ r. ⌜ r ≡ readNumbers (done cell) ⌝ }
+{
+    match cell {
+        Cell::Missing => ReadNumbers {
+            number: 0,
+            line: 0,
+            value: 0,
+            filled: 0,
+        },
+        Cell::Value(value) => ReadNumbers {
+            number: 0,
+            line: 0,
+            value: integers::widen(value),
+            filled: 1,
+        },
+    }
+}
+
+fn numbers(answer: ReadingAnswer) -> ReadNumbers
+    ensures { λ r. ⌜ r ≡ readNumbers (readingOutcome answer) ⌝ }
+{
+    match answer {
+        ReadingAnswer::Read(cell) => read(cell),
+        ReadingAnswer::Register(refusal) => refused(register_number(refusal), 0),
+        ReadingAnswer::Chain(refusal) => refused(chain_number(refusal), 1),
+        ReadingAnswer::Record => refused(16, 0),
+    }
+}
+
+// The reading of a chain at record u: the refusal number, 0 for none.
+#[no_mangle]
+pub extern "C" fn plot_read(
+    file: &[u8],
+    text: &[u8],
+    u: u64,
+    value: &mut i64,
+    answer: &mut [u64; 8],
+) -> u32
+    ensures { λ r. ⌜ ReadAnswer (readNumbers (reading (now (file .entry)) (now (text .entry)) u)) r (now (value .exit)) (now (answer .exit)) ⌝ }
+{
+    let numbers = numbers(chain::reading::reading(file, text, u));
+    let found = numbers.value;
+    *value = found;
+    *answer = [numbers.line, 0, 0, 0, 0, 0, numbers.filled, 0];
+    numbers.number
+}

@@ -1,0 +1,66 @@
+-- A chain as its hop word: the fields from the inside out. Fields 0 to 7 are the references A to H, 8 to 15 the measures
+-- M to T. A word packed into one number is how programs and plans hold a chain.
+use Prim.Native.Nat.{ℕ, zero, suc, _+_, _-_, _*_, _/_, _%_}
+use mathlib.Core.Bool.{Bool, true, cond, _&&_, _||_}
+use mathlib.Core.List.{List, [], _∷_}
+use lib.Dec.{leb, ltb, eqb}
+use lib.IntN.{pos, natAbs}
+use lib.ListN.{getD}
+use Rattle.register.specs.File.{cellIndex}
+use Rattle.register.specs.declared.Sizes.{Sizes}
+use Rattle.register.specs.declared.cells.Cell.{Cell}
+use Rattle.register.specs.declared.cells.Cell.the-variants.{Missing, Value}
+
+unfoldable pub isReference : ℕ → Bool
+isReference f = ltb f 8
+
+-- whether a register of these sizes has the field
+unfoldable pub hasField : Sizes → ℕ → Bool
+hasField s f = ltb f (s .references) || (leb 8 f && ltb f (8 + s .measures))
+
+-- a word that can be followed: every field is one of the register's, and all but the outermost are references
+unfoldable pub readable : Sizes → List ℕ → Bool
+readable s [] = true
+readable s (f ∷ []) = hasField s f
+readable s (f ∷ g ∷ w) = ltb f (s .references) && readable s (g ∷ w)
+
+-- the column of a field: "reference fields first"
+unfoldable pub column : Sizes → ℕ → ℕ
+column s f = cond (isReference f) f (s .references + (f - 8))
+
+-- the cell of record u and field f
+unfoldable pub cell : Sizes → List Cell → ℕ → ℕ → Cell
+cell s cells u f = getD cells (cellIndex s u (column s f)) Missing
+
+-- one hop: on from the record that a cell refers to; an unfilled cell stays unfilled
+unfoldable pub hop : Sizes → List Cell → Cell → ℕ → Cell
+hop s cells Missing f = Missing
+hop s cells (Value z) f = cell s cells (natAbs z) f
+
+-- "Its value at a record is found by following hop by hop"
+unfoldable pub follow : Sizes → List Cell → Cell → List ℕ → Cell
+follow s cells c [] = c
+follow s cells c (f ∷ w) = follow s cells (hop s cells c f) w
+
+-- the value of a chain at record u: at `u` alone the record's own number
+unfoldable pub valueAtRecord : Sizes → List Cell → List ℕ → ℕ → Cell
+valueAtRecord s cells w u = follow s cells (Value (pos u)) w
+
+-- one more hop in front of a packed word
+unfoldable pub push : ℕ → ℕ → ℕ
+push n f = cond (eqb n 0) (f + 1) (f + 8 * n + 9)
+
+unfoldable pub pack : List ℕ → ℕ
+pack [] = 0
+pack (f ∷ w) = push (pack w) f
+
+-- the word of a packed number; the first argument is at least as large as the word is long
+unfoldable pub unpackWithin : ℕ → ℕ → List ℕ
+unpackWithin zero n = []
+unpackWithin (suc k) n =
+    cond (eqb n 0) []
+    (cond (leb n 16) ((n - 1) ∷ [])
+    (((n - 9) % 8) ∷ unpackWithin k ((n - 9) / 8)))
+
+unfoldable pub unpack : ℕ → List ℕ
+unpack n = unpackWithin n n

@@ -1,0 +1,3 @@
+-- The cases that document 01 marks (P), shown by evaluating the definitions.
+pub mod Printed
+pub mod Readings

@@ -1,0 +1,20 @@
+-- Tests joined by `&&`, as branches leave them.
+use Prim.Native.Nat.{ℕ}
+use mathlib.Core.Path.{_≡_, refl}
+use mathlib.Core.Bool.{Bool, true, false, _&&_}
+use native.Mathlib.Omega.{arith}
+
+-- what the first test leaves of both
+pub and-true : {a : Bool} (b : Bool) → a ≡ true → b ≡ a && b
+and-true b h = rw h
+
+pub and-false : {a : Bool} (b : Bool) → a ≡ false → a ≡ a && b
+and-false b h = rw h
+
+-- both hold
+pub and-both : (a b : Bool) → a && b ≡ true → (a ≡ true) × (b ≡ true)
+and-both true b e = (refl, e)
+and-both false b e = absurd (let z : _≡_ {A = ℕ} 0 1 = cc in omega arith)
+
+pub true-false : {A : Type 0} {a : Bool} → a ≡ true → a ≡ false → A
+true-false p q = absurd (let z : _≡_ {A = ℕ} 0 1 = cc in omega arith)

@@ -1,0 +1,3 @@
+-- Numbers as the register file and the sums have them.
+pub mod Bytes
+pub mod Range

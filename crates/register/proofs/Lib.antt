@@ -1,0 +1,9 @@
+-- Laws of the definitions of `specs/`, for the proofs here and in the crates above.
+pub mod First
+pub mod Bounds
+pub mod Refusals
+pub mod Parts
+pub mod Loading
+pub mod Arrays
+pub mod Sound
+pub mod Roundtrip

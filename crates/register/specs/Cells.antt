@@ -1,0 +1,41 @@
+-- A cell, and the two arrays of a register file as a list of cells.
+use Prim.Native.Nat.{ℕ, _*_}
+use mathlib.Core.Bool.{cond}
+use mathlib.Core.List.{List, [], _∷_, _++_, map}
+use lib.Dec.{eqb}
+use lib.IntN.{ℤ, pos}
+use lib.ListN.{getD, drop}
+use Rattle.integers.specs.Bytes.{valueAt, valueBytes}
+use Rattle.register.specs.declared.cells.Cell.{Cell}
+use Rattle.register.specs.declared.cells.Cell.the-variants.{Missing, Value}
+
+-- "An unfilled cell has value 0."
+unfoldable pub valueOf : Cell → ℤ
+valueOf Missing = pos 0
+valueOf (Value z) = z
+
+-- the mark: 1 filled, 0 unfilled
+unfoldable pub markOf : Cell → ℕ
+markOf Missing = 0
+markOf (Value z) = 1
+
+-- the cell of a value and its mark
+unfoldable pub cellOf : ℤ → ℕ → Cell
+cellOf z mark = cond (eqb mark 0) Missing (Value z)
+
+-- cell j of the two parallel arrays, values and marks
+unfoldable pub cellAt : List ℕ → List ℕ → ℕ → Cell
+cellAt values marks j = cellOf (valueAt values (4 * j)) (getD marks j 0)
+
+-- the cells of the two arrays
+unfoldable pub cellsOf : List ℕ → List ℕ → List Cell
+cellsOf values [] = []
+cellsOf values (mark ∷ marks) = cellOf (valueAt values 0) mark ∷ cellsOf (drop 4 values) marks
+
+-- the array of values, and that of marks, of a list of cells
+unfoldable pub valuesOf : List Cell → List ℕ
+valuesOf [] = []
+valuesOf (c ∷ cs) = valueBytes (valueOf c) ++ valuesOf cs
+
+unfoldable pub marksOf : List Cell → List ℕ
+marksOf cs = map markOf cs

@@ -1,0 +1,6 @@
+-- The register file of document 01.
+pub mod Outcome
+pub mod Cells
+pub mod File
+pub mod Load
+pub mod Shape

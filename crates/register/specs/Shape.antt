@@ -1,0 +1,50 @@
+-- What is known of a register that loads, for the code that works on it.
+use Prim.Native.Nat.{ℕ, _*_, _≤_, _<_}
+use mathlib.Core.Path.{_≡_}
+use mathlib.Core.Bool.{Bool, true}
+use mathlib.Core.List.{List}
+use lib.Dec.{ltb}
+use lib.ListN.{length, getD}
+use mir.Syntax.{w32}
+use mir.Val.{SFits}
+use Rattle.integers.specs.Range.{isIndex}
+use Rattle.register.specs.Outcome.{first}
+use Rattle.register.specs.Cells.{valueOf}
+use Rattle.register.specs.declared.Sizes.{Sizes}
+use Rattle.register.specs.declared.cells.Cell.{Cell}
+use Rattle.register.specs.declared.cells.Cell.the-variants.{Missing, Value}
+use Rattle.register.specs.File.{width, cellCount, cellIndex}
+use Rattle.register.specs.Load.{refusalAt}
+
+-- the limits of the sizes, as bounds
+pub record Limits (s : Sizes) : Type 0 where
+  pub records≤ : s .records ≤ 4096
+  pub references≤ : s .references ≤ 8
+  pub measures≤ : s .measures ≤ 8
+
+-- two lists of bytes that are the values and the marks of a register of these sizes
+pub record Parts (s : Sizes) (values marks : List ℕ) : Type 0 where
+  pub limits : Limits s
+  pub values-length : length values ≡ 4 * cellCount s
+  pub marks-length : length marks ≡ cellCount s
+
+-- "A filled reference is 0 to n − 1."
+unfoldable pub refersWithin : ℕ → Cell → Bool
+refersWithin n Missing = true
+refersWithin n (Value z) = isIndex n z
+
+-- cells that a register of these sizes may hold
+pub record Valid (s : Sizes) (cells : List Cell) : Type 0 where
+  pub limits : Limits s
+  pub count : length cells ≡ cellCount s
+  pub values : (j : ℕ) → SFits w32 (valueOf (getD cells j Missing))
+  pub references : (u f : ℕ) → u < s .records → f < s .references → refersWithin (s .records) (getD cells (cellIndex s u f) Missing) ≡ true
+
+-- the fields from a to b of record u are all references or all measures, and no field before them is refused
+pub record Fields (s : Sizes) (values marks : List ℕ) (u a b : ℕ) (reference : Bool) : Type 0 where
+  pub parts : Parts s values marks
+  pub row : u < s .records
+  pub start : a ≤ b
+  pub end : b ≤ width s
+  pub kind : (f : ℕ) → a ≤ f → f < b → ltb f (s .references) ≡ reference
+  pub before : first a (refusalAt s values marks u) ≡ 0

@@ -1,0 +1,67 @@
+// Cells, read from and written to the parts of a register file.
+ghost use mathlib.Core.Path.{_≡_};
+ghost use Prim.Native.Nat.{_+_, _*_, _≤_, _<_};
+ghost use lib.ListN.{length};
+ghost use Rattle.register.specs.Cells.{cellAt, valueOf, markOf};
+ghost use Rattle.register.specs.File.{cellCount, valuesPart, marksPart, putCell};
+ghost use Rattle.register.specs.Shape.{Limits};
+ghost use lib.ListN.{set};
+ghost use lib.Seq.{sets};
+ghost use Rattle.integers.specs.Bytes.{valueBytes};
+use crate::Sizes;
+
+// Document 01's cell: unfilled, or filled with a value.
+pub enum Cell {
+    Missing,
+    Value(i32),
+}
+
+// The values, a part of the file behind the sizes.
+pub fn values_part(file: &[u8], sizes: Sizes) -> &[u8]
+    requires { ⌜ Limits sizes × (length (now file) ≡ 12 + 5 * cellCount sizes) ⌝ }
+    ensures { λ r. ⌜ now r ≡ valuesPart sizes (now (file .entry)) ⌝ }
+{
+    let split = 12 + 4 * crate::cell_count(sizes);
+    &file[12..split]
+}
+
+// The marks, the part of the file behind the values.
+pub fn marks_part(file: &[u8], sizes: Sizes) -> &[u8]
+    requires { ⌜ Limits sizes × (length (now file) ≡ 12 + 5 * cellCount sizes) ⌝ }
+    ensures { λ r. ⌜ now r ≡ marksPart sizes (now (file .entry)) ⌝ }
+{
+    let split = 12 + 4 * crate::cell_count(sizes);
+    &file[split..]
+}
+
+// Cell j of the two arrays.
+pub fn cell_at(values: &[u8], marks: &[u8], j: usize) -> Cell
+    requires { ⌜ (4 * j + 4 ≤ length (now values)) × (j < length (now marks)) ⌝ }
+    ensures { λ r. ⌜ r ≡ cellAt (now (values .entry)) (now (marks .entry)) j ⌝ }
+{
+    if marks[j] == 0 {
+        return Cell::Missing;
+    }
+    Cell::Value(integers::value_at(values, 4 * j))
+}
+
+// Cell j of a file, written to its values part and its marks part.
+pub fn put_cell(file: &mut [u8], sizes: Sizes, j: usize, cell: Cell)
+    requires { ⌜ Limits sizes × (length (now file) ≡ 12 + 5 * cellCount sizes) × (j < cellCount sizes) ⌝ }
+    ensures { λ _. ⌜ now (file .exit) ≡ putCell sizes j cell (now (file .entry)) ⌝ }
+{
+    let split = 12 + 4 * crate::cell_count(sizes);
+    match cell {
+        Cell::Missing => put(file, split, j, 0, 0),
+        Cell::Value(value) => put(file, split, j, value, 1),
+    }
+}
+
+fn put(file: &mut [u8], split: usize, j: usize, value: i32, mark: u8)
+    requires { ⌜ (12 + 4 * j + 4 ≤ split) × (split + j < length (now file)) ⌝ }
+    ensures { λ _. ⌜ now (file .exit) ≡ set (sets (now (file .entry)) (12 + 4 * j) (valueBytes value)) (split + j) mark ⌝ }
+{
+    integers::put_value(&mut file[12..split], 4 * j, value);
+    let marks = &mut file[split..];
+    marks[j] = mark;
+}

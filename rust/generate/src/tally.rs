@@ -1,0 +1,41 @@
+//! How often each answer came up.
+
+use std::collections::BTreeMap;
+use std::io::Write;
+
+/// Counts by what was answered.
+#[derive(Clone, Debug, Default)]
+pub struct Tally {
+    counts: BTreeMap<String, u64>,
+}
+
+impl Tally {
+    /// Counts an answer.
+    pub fn count(&mut self, answer: &str) {
+        match self.counts.get_mut(answer) {
+            Some(count) => *count += 1,
+            None => drop(self.counts.insert(answer.to_owned(), 1)),
+        }
+    }
+
+    /// Prints every count, also where a test's output is captured.
+    pub fn print(&self, title: &str) {
+        let mut out = std::io::stdout().lock();
+        let mut print = || -> std::io::Result<()> {
+            writeln!(out, "{title}")?;
+            for (answer, count) in &self.counts {
+                writeln!(out, "  {answer:<28} {count:>9}")?;
+            }
+            Ok(())
+        };
+        print().expect("standard output takes the counts");
+    }
+
+    /// Fails unless each of these answers came up so often.
+    pub fn require(&self, least: u64, answers: &[&str]) {
+        for answer in answers {
+            let count = self.counts.get(*answer).copied().unwrap_or(0);
+            assert!(count >= least, "{answer}: {count} times, not {least}");
+        }
+    }
+}

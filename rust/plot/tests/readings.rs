@@ -1,0 +1,146 @@
+//! Single readings of the library and of the reference agree, case by case.
+
+use generate::random::Random;
+use generate::tally::Tally;
+use generate::{chains, damage, registers};
+use plot::lent::{self, Answer};
+use reference::reading::reading;
+use reference::refusal::Refusal;
+use reference::register::{Cell, Sizes};
+
+const SMALL_REGISTERS: usize = 24_000;
+const LARGE_REGISTERS: usize = 500;
+const READINGS: usize = 4;
+const LEAST: u64 = 100;
+
+/// The answer that the library must give, whole.
+#[derive(Debug, PartialEq, Eq)]
+struct Expected {
+    refusal: u32,
+    value: i64,
+    answer: Answer,
+}
+
+fn expected(answer: Result<Cell, Refusal>) -> Expected {
+    let mut expected = Expected {
+        refusal: 0,
+        value: 0,
+        answer: [0; 8],
+    };
+    match answer {
+        Ok(Cell::Missing) => (),
+        Ok(Cell::Value(value)) => {
+            expected.value = i64::from(value);
+            expected.answer[lent::FILLED] = 1;
+        }
+        Err(refusal) => {
+            expected.refusal = refusal.reason.number();
+            expected.answer[lent::LINE] = refusal.line as u64;
+        }
+    }
+    expected
+}
+
+fn name(chain: &[u8], answer: Result<Cell, Refusal>) -> String {
+    match answer {
+        Ok(Cell::Value(_)) if chain == b"u" => "own number".to_owned(),
+        Ok(Cell::Value(0)) => "filled zero".to_owned(),
+        Ok(Cell::Value(_)) => "filled".to_owned(),
+        Ok(Cell::Missing) => "unfilled".to_owned(),
+        Err(refusal) => format!("refusal {:>2}", refusal.reason.number()),
+    }
+}
+
+/// One case: the library, lent a value and an answer full of rubbish, sets both whole.
+fn compare(random: &mut Random, tally: &mut Tally, register: &[u8], chain: &[u8], record: u64) {
+    let mut value = random.number() as i64;
+    let mut answer: Answer = std::array::from_fn(|_| random.number());
+    let refusal = lent::read(register, chain, record, &mut value, &mut answer);
+    let from_paper = reading(register, chain, record);
+    assert_eq!(
+        Expected {
+            refusal,
+            value,
+            answer
+        },
+        expected(from_paper),
+        "record {record} of a register of {} bytes {:?}, chain of {} bytes {:?}",
+        register.len(),
+        &register[..register.len().min(60)],
+        chain.len(),
+        String::from_utf8_lossy(&chain[..chain.len().min(80)]),
+    );
+    tally.count(&name(chain, from_paper));
+}
+
+/// A record number: mostly one of the register's, else n, above or far above.
+fn record(random: &mut Random, sizes: Sizes) -> u64 {
+    let records = sizes.records as u64;
+    match random.below(24) {
+        0 => records,
+        1 => records + 1 + random.below(5000) as u64,
+        2 => random.number(),
+        3 => random.pick(&[u64::MAX, 1 << 32, (1 << 32) + 1, 1 << 63]),
+        4 => records.saturating_sub(1),
+        5 => 0,
+        _ => random.below(sizes.records.max(1)) as u64,
+    }
+}
+
+fn compare_register(random: &mut Random, tally: &mut Tally, sizes: Sizes) {
+    let mut register = registers::file(random, sizes);
+    if random.percent(40) {
+        for _ in 0..random.between(1, 3) {
+            damage::damage(random, sizes, &mut register);
+        }
+    }
+    for _ in 0..READINGS {
+        let chain = chains::any(random, sizes);
+        let record = record(random, sizes);
+        compare(random, tally, &register, &chain, record);
+    }
+}
+
+#[test]
+fn readings_agree() {
+    let mut random = Random::new(1);
+    let mut tally = Tally::default();
+    for _ in 0..SMALL_REGISTERS {
+        let sizes = registers::sizes(&mut random);
+        compare_register(&mut random, &mut tally, sizes);
+    }
+    for _ in 0..LARGE_REGISTERS {
+        let sizes = registers::large_sizes(&mut random);
+        compare_register(&mut random, &mut tally, sizes);
+    }
+    tally.print("single readings");
+    tally.require(LEAST, &["filled", "filled zero", "unfilled", "own number"]);
+    let refusals = [1, 2, 3, 4, 5, 7, 9, 10, 11, 16].map(|number| format!("refusal {number:>2}"));
+    tally.require(LEAST, &refusals.each_ref().map(String::as_str));
+}
+
+#[test]
+fn any_bytes_are_a_register_or_refused() {
+    let mut random = Random::new(2);
+    let mut tally = Tally::default();
+    for _ in 0..4_000 {
+        let length = random.below(64);
+        let register: Vec<u8> = (0..length).map(|_| random.byte()).collect();
+        let chain = chains::random_bytes(&mut random);
+        let record = random.number();
+        compare(&mut random, &mut tally, &register, &chain, record);
+    }
+}
+
+#[test]
+fn bindings_answer_in_rust_values() {
+    let register = reference::printed::register();
+    assert_eq!(plot::read(&register, b"M[u]", 0), Ok(None));
+    assert_eq!(plot::read(&register, b"M[u]", 1), Ok(Some(0)));
+    assert_eq!(plot::read(&register, b"M[A[A[u]]]", 0), Ok(Some(180)));
+    assert_eq!(plot::read(&register, b"u", 2), Ok(Some(2)));
+    let refusal = |number, line| Err(plot::Refusal { number, line });
+    assert_eq!(plot::read(&register, b"A[M[u]]", 0), refusal(10, 1));
+    assert_eq!(plot::read(&register, b"u", 3), refusal(16, 0));
+    assert_eq!(plot::read(&[], b"", 0), refusal(1, 0));
+}

@@ -1,0 +1,192 @@
+//! What a step does with its readings: local rules, then remote writes. Both
+//! machines do it alike; they differ in how a record comes to know a reading.
+
+use crate::program::{Reading, Step};
+use crate::register::{Cell, Sizes};
+use crate::rule::{Action, Comparison, Sort, Stored, Term, Test};
+
+/// What the records know of the cells as they stood before a step.
+pub trait Knowledge {
+    /// A reading at a record.
+    fn read(&self, reading: &Reading, record: usize) -> Cell;
+}
+
+/// A record and a field.
+#[derive(Clone, Copy, Debug, PartialEq, Eq)]
+pub struct Place {
+    /// The record's number.
+    pub record: usize,
+    /// The field, counted from 0, references first.
+    pub field: usize,
+}
+
+/// All places where a sum or a total is out of range; 21 may name any of them.
+pub type OutOfRange = Vec<Place>;
+
+/// A step in work: the cells that it leaves, and the amounts added to them.
+#[derive(Clone, Debug)]
+pub struct Work {
+    sizes: Sizes,
+    /// The cells, which stand as the step leaves them once it has been applied.
+    pub cells: Vec<Cell>,
+    amounts: Vec<i64>,
+}
+
+impl Work {
+    /// Room for the steps of a register.
+    pub fn new(sizes: Sizes) -> Work {
+        Work {
+            sizes,
+            cells: vec![Cell::Missing; sizes.cells()],
+            amounts: vec![0; sizes.cells()],
+        }
+    }
+
+    /// Applies a step to the cells before it; gives the number of remote letters.
+    pub fn apply(
+        &mut self,
+        step: &Step,
+        before: &[Cell],
+        known: &impl Knowledge,
+    ) -> Result<u64, OutOfRange> {
+        self.cells.copy_from_slice(before);
+        self.local_writes(step, known)?;
+        let letters = self.remote_writes(step, known);
+        if step.has_additions() {
+            self.add_amounts()?;
+        }
+        Ok(letters)
+    }
+
+    fn place(&self, record: usize, field: usize) -> usize {
+        record * self.sizes.fields() + field
+    }
+
+    /// For each record, each local rule in order; later ones overwrite earlier
+    /// ones, but a sum out of range stops the run even where overwritten.
+    fn local_writes(&mut self, step: &Step, known: &impl Knowledge) -> Result<(), OutOfRange> {
+        let mut outside = Vec::new();
+        for record in 0..self.sizes.records {
+            for rule in &step.rules {
+                let Action::Local(stored) = &rule.action else {
+                    continue;
+                };
+                if !passes(&rule.test, record, known) {
+                    continue;
+                }
+                let place = self.place(record, rule.field);
+                match evaluate(stored, record, known) {
+                    Some(cell) => self.cells[place] = cell,
+                    None => outside.push(Place {
+                        record,
+                        field: rule.field,
+                    }),
+                }
+            }
+        }
+        none_outside(outside)
+    }
+
+    /// One letter for each remote write whose test, if any, holds and whose C
+    /// and X are filled.
+    fn remote_writes(&mut self, step: &Step, known: &impl Knowledge) -> u64 {
+        let mut letters = 0;
+        for record in 0..self.sizes.records {
+            for rule in &step.rules {
+                let Action::Remote(sort, target, x) = &rule.action else {
+                    continue;
+                };
+                if !passes(&rule.test, record, known) {
+                    continue;
+                }
+                let (target, x) = (known.read(target, record), value(x, record, known));
+                if let (Cell::Value(target), Cell::Value(x)) = (target, x) {
+                    self.deliver(*sort, self.place(target as usize, rule.field), x);
+                    letters += 1;
+                }
+            }
+        }
+        letters
+    }
+
+    /// `<?=` keeps the smaller, and fills a missing cell; `+=` collects amounts.
+    fn deliver(&mut self, sort: Sort, place: usize, x: i32) {
+        match (sort, self.cells[place]) {
+            (Sort::Least, Cell::Missing) => self.cells[place] = Cell::Value(x),
+            (Sort::Least, Cell::Value(cell)) => self.cells[place] = Cell::Value(cell.min(x)),
+            (Sort::Add, _) => self.amounts[place] += i64::from(x),
+        }
+    }
+
+    /// All amounts go to their cells as one whole number; only this total must be
+    /// in range. A missing cell stays missing and has no total.
+    fn add_amounts(&mut self) -> Result<(), OutOfRange> {
+        let fields = self.sizes.fields();
+        let mut outside = Vec::new();
+        for (place, (cell, amount)) in self.cells.iter_mut().zip(&mut self.amounts).enumerate() {
+            let amount = std::mem::take(amount);
+            if let Cell::Value(value) = cell {
+                match i32::try_from(i64::from(*value) + amount) {
+                    Ok(total) => *value = total,
+                    Err(_) => outside.push(Place {
+                        record: place / fields,
+                        field: place % fields,
+                    }),
+                }
+            }
+        }
+        none_outside(outside)
+    }
+}
+
+fn none_outside(outside: OutOfRange) -> Result<(), OutOfRange> {
+    match outside.is_empty() {
+        true => Ok(()),
+        false => Err(outside),
+    }
+}
+
+/// Whether a rule is done: without a test, or with one that holds. A test with a
+/// missing side does not hold, `!=` included.
+fn passes(test: &Option<Test<Reading>>, record: usize, known: &impl Knowledge) -> bool {
+    let Some(test) = test else {
+        return true;
+    };
+    let sides = (
+        value(&test.left, record, known),
+        value(&test.right, record, known),
+    );
+    match sides {
+        (Cell::Value(left), Cell::Value(right)) => match test.comparison {
+            Comparison::Less => left < right,
+            Comparison::Equal => left == right,
+            Comparison::NotEqual => left != right,
+        },
+        _ => false,
+    }
+}
+
+fn value(term: &Term<Reading>, record: usize, known: &impl Knowledge) -> Cell {
+    match term {
+        Term::Chain(reading) => known.read(reading, record),
+        Term::Number(number) => Cell::Value(*number as i32),
+    }
+}
+
+/// What a local rule stores; none where its sum is out of range.
+fn evaluate(stored: &Stored<Reading>, record: usize, known: &impl Knowledge) -> Option<Cell> {
+    let value = |term| value(term, record, known);
+    match stored {
+        Stored::Term(x) => Some(value(x)),
+        Stored::Sum(x, y) => combine(value(x), value(y), i32::checked_add),
+        Stored::Difference(x, y) => combine(value(x), value(y), i32::checked_sub),
+    }
+}
+
+/// A sum with a missing side is missing.
+fn combine(x: Cell, y: Cell, sum: impl Fn(i32, i32) -> Option<i32>) -> Option<Cell> {
+    match (x, y) {
+        (Cell::Value(x), Cell::Value(y)) => sum(x, y).map(Cell::Value),
+        _ => Some(Cell::Missing),
+    }
+}

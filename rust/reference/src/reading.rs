@@ -1,0 +1,30 @@
+//! A chain's value at a record, and the single reading (demand 2).
+
+use crate::chain::{Word, read_chain};
+use crate::refusal::{Reason, Refusal};
+use crate::register::{Cell, Register};
+
+/// Follows a hop word from a record, hop by hop; the first missing cell makes
+/// the whole reading missing.
+pub fn follow(word: &Word, record: usize, cell: impl Fn(usize, usize) -> Cell) -> Cell {
+    let mut reached = Cell::Value(record as i32);
+    for &field in word.fields() {
+        match reached {
+            Cell::Missing => return Cell::Missing,
+            Cell::Value(at) => reached = cell(at as usize, usize::from(field)),
+        }
+    }
+    reached
+}
+
+/// A single reading: the register is looked at first, then the chain, then 16.
+pub fn reading(register: &[u8], chain: &[u8], record: u64) -> Result<Cell, Refusal> {
+    let register = Register::load(register)?;
+    let word = read_chain(chain, &register.sizes).map_err(|reason| reason.at(1))?;
+    if record >= register.sizes.records as u64 {
+        return Err(Reason::NoSuchRecord.into());
+    }
+    Ok(follow(&word, record as usize, |record, field| {
+        register.cell(record, field)
+    }))
+}

@@ -1,0 +1,44 @@
+//! Runs of both machines, which must agree.
+
+use reference::direct::run_direct;
+use reference::messages::run_messages;
+use reference::refusal::Refusal;
+use reference::register::{Cell, Register, Sizes, encode};
+use reference::run::{Run, Scratch};
+
+/// Enough for every small register.
+pub const AMPLE: Scratch = Scratch {
+    values: 10_000,
+    marks: 10_000,
+};
+
+/// What a run of the message machine leaves, and the cells at the end.
+pub struct Left {
+    pub run: Run,
+    pub cells: Vec<Cell>,
+}
+
+/// Runs a text by both machines, checks that they agree, and gives what the
+/// message machine answers.
+pub fn run(sizes: Sizes, cells: &[Cell], text: &str, budget: u16) -> Left {
+    let register = encode(sizes, cells);
+    let (direct, direct_output) = output(run_direct, &register, text, budget);
+    let (messages, message_output) = output(run_messages, &register, text, budget);
+    assert_eq!(direct_output, message_output);
+    assert_eq!(direct.finished, messages.finished);
+    assert_eq!(direct.end, messages.end);
+    assert_eq!((direct.counts.exchanges, direct.counts.letters), (0, 0));
+    Left {
+        run: messages,
+        cells: Register::load(&message_output).unwrap().cells(),
+    }
+}
+
+type Runs = fn(&[u8], &[u8], u16, &mut [u8], Scratch) -> Result<Run, Refusal>;
+
+/// A run with an output that holds rubbish at the start.
+fn output(runs: Runs, register: &[u8], text: &str, budget: u16) -> (Run, Vec<u8>) {
+    let mut output = vec![0xa5; register.len()];
+    let run = runs(register, text.as_bytes(), budget, &mut output, AMPLE).unwrap();
+    (run, output)
+}

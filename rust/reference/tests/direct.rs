@@ -1,0 +1,385 @@
+//! "The straight machine" and "Edges": local rules, tests, remote writes, loops,
+//! the budget. Every run is done by both machines.
+
+mod common;
+
+use common::{AMPLE, Left, run};
+use reference::apply::Place;
+use reference::direct::run_direct;
+use reference::messages::run_messages;
+use reference::printed;
+use reference::register::Cell::{self, Missing, Value};
+use reference::register::Sizes;
+use reference::run::{End, Scratch};
+
+const MAX: i32 = i32::MAX;
+
+/// A run over the printed register.
+fn printed_run(text: &str, budget: u16) -> Left {
+    run(printed::SIZES, &printed::CELLS, text, budget)
+}
+
+/// A step of these rules over the printed register.
+fn step(rules: &str) -> Left {
+    printed_run(&format!("step\n{rules}\nend\n"), 1)
+}
+
+/// The field of every record after a step over the printed register.
+fn column(field: usize, rules: &str) -> Vec<Cell> {
+    let left = step(rules);
+    assert_eq!(left.run.end, End::Whole);
+    left.cells.into_iter().skip(field).step_by(2).collect()
+}
+
+/// A step over two records with one measure each.
+fn two(cells: [Cell; 2], rules: &str) -> Left {
+    let sizes = Sizes {
+        records: 2,
+        references: 0,
+        measures: 1,
+    };
+    run(sizes, &cells, &format!("step\n{rules}\nend\n"), 9)
+}
+
+#[test]
+fn printed_values() {
+    assert_eq!(
+        column(1, "M[u] := M[A[A[u]]]"),
+        [Value(180), Missing, Missing]
+    );
+    assert_eq!(
+        column(0, "M[u] := M[A[A[u]]]"),
+        [Value(1), Value(2), Missing]
+    );
+}
+
+#[test]
+fn own_number_fills_everywhere() {
+    assert_eq!(column(0, "A[u] := u"), [Value(0), Value(1), Value(2)]);
+}
+
+#[test]
+fn missing_reading_makes_the_cell_missing() {
+    assert_eq!(
+        column(1, "M[u] := M[A[u]]"),
+        [Value(0), Value(180), Missing]
+    );
+    assert_eq!(
+        column(1, "M[u] := M[u] + 1"),
+        [Missing, Value(1), Value(181)]
+    );
+    assert_eq!(
+        column(1, "M[u] := 1 - M[u]"),
+        [Missing, Value(1), Value(-179)]
+    );
+}
+
+#[test]
+fn step_reads_the_cells_before_it() {
+    assert_eq!(
+        column(1, "M[u] := 7\nM[u] := M[A[u]]"),
+        [Value(0), Value(180), Missing]
+    );
+    assert_eq!(
+        column(1, "A[u] := u\nM[u] := M[A[u]]"),
+        [Value(0), Value(180), Missing]
+    );
+    assert_eq!(
+        column(1, "A[u] := u\nremote M[A[u]] += 5"),
+        [Missing, Value(5), Value(185)]
+    );
+}
+
+#[test]
+fn later_local_rules_overwrite_earlier_ones() {
+    assert_eq!(column(1, "M[u] := 1\nM[u] := 2"), [Value(2); 3]);
+    assert_eq!(
+        column(1, "M[u] := 1\nif M[u] == 0: M[u] := 2"),
+        [Value(1), Value(2), Value(1)]
+    );
+}
+
+#[test]
+fn test_with_a_missing_side_does_not_hold() {
+    for comparison in ["<", "==", "!="] {
+        let kept = column(1, &format!("if M[u] {comparison} M[A[u]]: M[u] := 9"));
+        assert_eq!([kept[0], kept[2]], [Missing, Value(180)], "{comparison}");
+    }
+    assert_eq!(
+        column(1, "if M[u] != 0: M[u] := 9"),
+        [Missing, Value(0), Value(9)]
+    );
+    assert_eq!(
+        column(1, "if M[u] < 180: M[u] := 9"),
+        [Missing, Value(9), Value(180)]
+    );
+    assert_eq!(
+        column(0, "if A[u] == A[u]: A[u] := u"),
+        [Value(0), Value(1), Missing]
+    );
+    assert_eq!(
+        column(1, "if u != A[u]: M[u] := 4"),
+        [Value(4), Value(4), Value(180)]
+    );
+}
+
+#[test]
+fn sum_out_of_range_stops() {
+    let left = step("M[u] := 2147483647 + 1");
+    let places: Vec<Place> = (0..3).map(|record| Place { record, field: 1 }).collect();
+    assert_eq!(left.run.end, End::OutOfRange(places));
+    assert_eq!(left.run.finished, 0);
+    assert_eq!(left.cells, printed::CELLS);
+    assert_eq!(column(1, "M[u] := 2147483647 + 0"), [Value(MAX); 3]);
+    assert_eq!(column(1, "M[u] := -2147483648 + 0"), [Value(i32::MIN); 3]);
+    assert_eq!(step("M[u] := -2147483648 - 1").run.end.number(), 21);
+    assert_eq!(step("M[u] := 0 - -2147483648").run.end.number(), 21);
+}
+
+#[test]
+fn overwritten_sum_stops_and_undone_sum_does_not() {
+    assert_eq!(
+        step("M[u] := 2147483647 + 1\nM[u] := 0").run.end.number(),
+        21
+    );
+    assert_eq!(
+        column(1, "if 1 < 0: M[u] := 2147483647 + 1"),
+        [Missing, Value(0), Value(180)]
+    );
+    let left = step("M[u] := 2147483647 + M[u]");
+    assert_eq!(
+        left.run.end,
+        End::OutOfRange(vec![Place {
+            record: 2,
+            field: 1
+        }])
+    );
+    assert_eq!(
+        column(1, "if M[u] == 0: M[u] := 2147483647 + M[u]"),
+        [Missing, Value(MAX), Value(180)]
+    );
+}
+
+#[test]
+fn remote_least_keeps_the_smaller_and_fills() {
+    assert_eq!(
+        column(1, "remote M[A[u]] <?= 7"),
+        [Missing, Value(0), Value(7)]
+    );
+    assert_eq!(
+        column(1, "remote M[u] <?= -7"),
+        [Value(-7), Value(-7), Value(-7)]
+    );
+    assert_eq!(
+        column(0, "remote A[u] <?= u"),
+        [Value(0), Value(1), Value(2)]
+    );
+    assert_eq!(
+        two([Missing, Value(5)], "remote M[u] <?= M[u]").cells,
+        [Missing, Value(5)]
+    );
+}
+
+#[test]
+fn remote_add_leaves_a_missing_cell_missing() {
+    assert_eq!(
+        column(1, "remote M[u] += 7"),
+        [Missing, Value(7), Value(187)]
+    );
+    assert_eq!(
+        column(1, "remote M[u] += M[A[u]]"),
+        [Missing, Value(180), Value(180)]
+    );
+    let amount = "remote M[u] += 2147483647\nremote M[u] += 2147483647";
+    assert_eq!(two([Missing; 2], amount).cells, [Missing; 2]);
+}
+
+#[test]
+fn remote_writes_come_after_local_ones() {
+    assert_eq!(column(1, "remote M[u] += 1\nM[u] := 10"), [Value(11); 3]);
+    assert_eq!(column(1, "remote M[u] <?= 3\nM[u] := 10"), [Value(3); 3]);
+    assert_eq!(
+        column(1, "M[u] := M[A[A[u]]]\nremote M[u] += 1"),
+        [Value(181), Missing, Missing]
+    );
+}
+
+#[test]
+fn amounts_are_added_in_their_own_step() {
+    let sizes = Sizes {
+        records: 2,
+        references: 0,
+        measures: 1,
+    };
+    let text = "step\nremote M[u] += 5\nend\n".repeat(3);
+    let left = run(sizes, &[Value(1), Missing], &text, 9);
+    assert_eq!(left.cells, [Value(16), Missing]);
+}
+
+#[test]
+fn only_the_final_total_must_be_in_range() {
+    let rules = "remote M[u] += 1\nremote M[u] += -1";
+    assert_eq!(
+        two([Value(MAX), Value(i32::MIN)], rules).cells,
+        [Value(MAX), Value(i32::MIN)]
+    );
+    let left = two([Value(MAX), Value(0)], "remote M[u] += 1");
+    assert_eq!(
+        left.run.end,
+        End::OutOfRange(vec![Place {
+            record: 0,
+            field: 0
+        }])
+    );
+    assert_eq!(left.cells, [Value(MAX), Value(0)]);
+    let left = two([Value(i32::MIN), Value(0)], "remote M[u] += -1");
+    assert_eq!(
+        left.run.end,
+        End::OutOfRange(vec![Place {
+            record: 0,
+            field: 0
+        }])
+    );
+}
+
+#[test]
+fn budget_is_looked_at_before_each_step() {
+    let left = printed_run("", 0);
+    assert_eq!((left.run.finished, left.run.end), (0, End::Whole));
+    let left = printed_run("step\nend\n", 0);
+    assert_eq!((left.run.finished, left.run.end), (0, End::BudgetExhausted));
+    let text = "step\nM[u] := 1\nend\nstep\nM[u] := 2\nend\n";
+    let left = printed_run(text, 1);
+    assert_eq!((left.run.finished, left.run.end), (1, End::BudgetExhausted));
+    assert_eq!(left.cells, printed::CELLS);
+    let left = printed_run(text, 2);
+    assert_eq!((left.run.finished, left.run.end), (2, End::Whole));
+    assert_eq!(left.cells[1], Value(2));
+}
+
+#[test]
+fn loop_runs_until_its_field_is_the_same() {
+    let text = "loop M\nstep\nif M[u] < 182: M[u] := M[u] + 1\nend\ndone\n";
+    let left = printed_run(text, 1000);
+    assert_eq!((left.run.finished, left.run.end), (183, End::Whole));
+    assert_eq!(
+        left.cells[1..]
+            .iter()
+            .step_by(2)
+            .copied()
+            .collect::<Vec<_>>(),
+        [Missing, Value(182), Value(182)]
+    );
+    let left = printed_run(text, 182);
+    assert_eq!(
+        (left.run.finished, left.run.end),
+        (182, End::BudgetExhausted)
+    );
+    let left = printed_run(text, 183);
+    assert_eq!((left.run.finished, left.run.end), (183, End::Whole));
+}
+
+#[test]
+fn loop_compares_marks_as_well() {
+    // M goes from a filled 0 to missing: the same values, other marks.
+    let sizes = Sizes {
+        records: 1,
+        references: 1,
+        measures: 1,
+    };
+    let text = "loop M\nstep\nM[u] := M[A[u]]\nend\ndone\n";
+    let left = run(sizes, &[Missing, Value(0)], text, 9);
+    assert_eq!((left.run.finished, left.cells), (2, vec![Missing, Missing]));
+}
+
+#[test]
+fn loop_looks_at_whole_passes_and_its_own_field() {
+    let back_and_forth = "loop M\nstep\nM[u] := 1\nend\nstep\nM[u] := 0\nend\ndone\n";
+    let sizes = Sizes {
+        records: 2,
+        references: 0,
+        measures: 2,
+    };
+    let left = run(sizes, &[Value(0); 4], back_and_forth, 9);
+    assert_eq!((left.run.finished, left.run.end), (2, End::Whole));
+    let other = "loop N\nstep\nM[u] := M[u] + 1\nend\ndone\n";
+    assert_eq!(run(sizes, &[Value(0); 4], other, 9).run.finished, 1);
+}
+
+#[test]
+fn endless_loop_exhausts_the_budget() {
+    let text = "loop M\nstep\nM[u] := 1 - M[u]\nend\ndone\n";
+    let left = printed_run(text, u16::MAX);
+    assert_eq!(
+        (left.run.finished, left.run.end),
+        (u16::MAX, End::BudgetExhausted)
+    );
+    assert_eq!(left.cells, printed::CELLS);
+}
+
+#[test]
+fn list_ranking_by_pointer_jumping() {
+    // Source 001, figure 2.6: record 0 is the head and points at itself.
+    let sizes = Sizes {
+        records: 9,
+        references: 1,
+        measures: 1,
+    };
+    let cells: Vec<Cell> = (0..9)
+        .flat_map(|u: i32| [Value((u - 1).max(0)), Value(i32::from(u > 0))])
+        .collect();
+    let text =
+        "loop A\nstep\nif A[A[u]] != A[u]: M[u] := M[u] + M[A[u]]\nA[u] := A[A[u]]\nend\ndone\n";
+    let left = run(sizes, &cells, text, 1000);
+    let ranks: Vec<Cell> = left.cells.iter().skip(1).step_by(2).copied().collect();
+    assert_eq!(ranks, (0..9).map(Value).collect::<Vec<_>>());
+    assert_eq!((left.run.finished, left.run.counts.exchanges), (4, 8));
+}
+
+#[test]
+fn finished_steps_before_a_sum_out_of_range_count() {
+    let left = printed_run(
+        "step\nend\nloop M\nstep\nM[u] := M[u] + M[u]\nend\ndone\n",
+        1000,
+    );
+    // 180 × 2^23 is the last that fits; the next sum is out of range.
+    assert_eq!(left.run.finished, 24);
+    assert_eq!(
+        left.run.end,
+        End::OutOfRange(vec![Place {
+            record: 2,
+            field: 1
+        }])
+    );
+    assert_eq!(left.cells, printed::CELLS);
+}
+
+/// The refusal of both machines for an output and scratch buffers of these lengths.
+fn lent(text: &[u8], output: usize, values: usize, marks: usize) -> u32 {
+    let register = printed::register();
+    let scratch = Scratch { values, marks };
+    let mut out = vec![7; output];
+    let direct = run_direct(&register, text, 9, &mut out, scratch).map_err(|r| r.reason.number());
+    if direct.is_err() {
+        assert_eq!(out, vec![7; output]);
+    }
+    let messages =
+        run_messages(&register, text, 9, &mut out, scratch).map_err(|r| r.reason.number());
+    assert_eq!(direct.is_ok(), messages.is_ok());
+    messages.err().unwrap_or(0)
+}
+
+#[test]
+fn output_length_is_18_and_short_scratch_is_19() {
+    // n × (L + r + m + 1) = 3 × (3 + 1 + 1 + 1)
+    assert_eq!(lent(printed::TEXT, 42, 18, 18), 0);
+    assert_eq!(lent(printed::TEXT, 41, 18, 18), 18);
+    assert_eq!(lent(printed::TEXT, 43, 18, 18), 18);
+    assert_eq!(lent(printed::TEXT, 42, 17, 18), 19);
+    assert_eq!(lent(printed::TEXT, 42, 18, 17), 19);
+    assert_eq!(lent(printed::TEXT, 0, 0, 0), 18);
+    assert_eq!(lent(b"x", 0, 0, 0), 7);
+    assert_eq!(lent(b"", 42, 9, 9), 0);
+    assert_eq!(lent(b"", 42, 8, 9), 19);
+    assert_eq!(lent(b"", 42, AMPLE.values, AMPLE.marks), 0);
+}
