@@ -1,3 +1,4 @@
 -- The cases that document 01 marks (P), shown by evaluating the definitions.
 pub mod Printed
 pub mod Readings
+pub mod Rounds

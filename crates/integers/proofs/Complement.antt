@@ -1,6 +1,6 @@
 -- Two's complement: what a value's bits are, and how far a sum or difference of two values can reach.
 use Prim.Native.Nat.{ℕ, suc, _+_, _-_, _≤_, _<_}
-use mathlib.Core.Path.{_≡_, refl, sym, ap, _∙_}
+use mathlib.Core.Path.{_≡_, refl, sym, ap, ap₂, _∙_}
 use mathlib.Core.Bool.{Bool, true, false, cond, _&&_}
 use native.Mathlib.Omega.{arith}
 use borrow.Author.Tests.{lt-ltb, le-ltb, le-leb, leb-true, ltb-true, eqb-true, eqb-false, eq-eqb, ne-eqb}
@@ -99,6 +99,14 @@ sum-fits a b ha hb = record { sfits = omega (arith, mag-sum a b, ha .sfits, hb .
 
 pub difference-fits : (a b : ℤ) → SFits w32 a → SFits w32 b → SFits w64 (a -ℤ b)
 difference-fits a b ha hb = record { sfits = omega (arith, mag-sum a (negℤ b), mag-neg b, ha .sfits, hb .sfits) }
+
+-- two values widened and combined, where the result cannot leave 64 bits
+module _ (op : ℤ → ℤ → ℤ) {a b : ℤ} (ha : SFits w32 a) (hb : SFits w32 b) (fits : SFits w64 (op a b)) where
+  pub combined-fits : SFits w64 (op (toZ w64 (ofZ w64 (toZ w32 (ofZ w32 a)))) (toZ w64 (ofZ w64 (toZ w32 (ofZ w32 b)))))
+  combined-fits = rw (widened ha, widened hb) fits
+
+  pub combined : toZ w64 (ofZ w64 (op (toZ w64 (ofZ w64 (toZ w32 (ofZ w32 a)))) (toZ w64 (ofZ w64 (toZ w32 (ofZ w32 b)))))) ≡ op a b
+  combined = toZ-ofZ combined-fits ∙ ap₂ op (widened ha) (widened hb)
 
 -- the bounds of the range, as a bound on the magnitude
 pub range-fits : (z : ℤ) → leZ (negsuc 2147483647) z ≡ true → leZ z (pos 2147483647) ≡ true → SFits w32 z

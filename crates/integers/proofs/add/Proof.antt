@@ -1,13 +1,17 @@
 -- `integers::add` meets its contract: at 64 bits the sum cannot leave its range.
 -- Assumes nothing.
-use mathlib.Core.Path.{ap, ap₂, _∙_}
+use mathlib.Core.Path.{ap, _∙_}
 use borrow.Author.Needs.{needs}
 use lib.IntN.{_+ℤ_}
-use mir.Facts.{toZ-ofZ}
+use mir.Syntax.{w64}
+use mir.Val.{SFits}
 use Rattle.integers.specs.Range.{sumOf}
-use Rattle.integers.proofs.Complement.{widened, widened-fits, sum-fits}
+use Rattle.integers.proofs.Complement.{widened-fits, sum-fits, combined-fits, combined}
 use Rattle.integers.proofs.add.Statement.{statement}
 use Rattle.integers.proofs.add.Tie as tie
+
+fits : (c : tie.Start) → SFits w64 (c .args .a +ℤ c .args .b)
+fits c = sum-fits (c .args .a) (c .args .b) (c .fits .a) (c .fits .b)
 
 cast-in-range : tie.Need-cast-in-range
 cast-in-range c = widened-fits (c .fits .a)
@@ -16,9 +20,7 @@ cast-in-range-2 : tie.Need-cast-in-range-2
 cast-in-range-2 c = widened-fits (c .fits .b)
 
 add-in-range : tie.Need-add-in-range
-add-in-range c =
-    rw (widened (c .fits .a), widened (c .fits .b))
-    (sum-fits (c .args .a) (c .args .b) (c .fits .a) (c .fits .b))
+add-in-range c = combined-fits _+ℤ_ (c .fits .a) (c .fits .b) (fits c)
 
 in-range-requires : tie.Need-in-range-requires
 in-range-requires c κs = search needs
@@ -26,10 +28,7 @@ in-range-requires c κs = search needs
 returns : tie.Need-returns
 returns c =
     let s = c .before in
-    c .in-range .ensures
-    ∙ ap sumOf
-    (toZ-ofZ (rw (widened (s .fits .a), widened (s .fits .b)) (sum-fits (s .args .a) (s .args .b) (s .fits .a) (s .fits .b)))
-    ∙ ap₂ _+ℤ_ (widened (s .fits .a)) (widened (s .fits .b)))
+    c .in-range .ensures ∙ ap sumOf (combined _+ℤ_ (s .fits .a) (s .fits .b) (fits s))
 
 pub add-spec : {M : Type 1} → statement M
 add-spec = tie.close (tie.spec cast-in-range cast-in-range-2 add-in-range in-range-requires returns)
