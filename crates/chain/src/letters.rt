@@ -24,7 +24,7 @@ pub fn is_capital(b: u8) -> bool
 }
 
 // The field of a capital letter.
-fn field_of(letter: u8) -> u64
+pub fn field_of(letter: u8) -> u64
     requires { ⌜ 65 ≤ letter ⌝ }
     ensures { λ r. ⌜ r ≡ fieldOf letter ⌝ }
 {
@@ -36,7 +36,7 @@ fn field_of(letter: u8) -> u64
 }
 
 // Whether a letter names a field of the register.
-fn names_field(sizes: Sizes, letter: u8) -> bool
+pub fn names_field(sizes: Sizes, letter: u8) -> bool
     requires { ⌜ (sizes .references ≤ 8) × (sizes .measures ≤ 8) ⌝ }
     ensures { λ r. ⌜ r ≡ names sizes letter ⌝ }
 {

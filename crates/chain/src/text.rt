@@ -16,7 +16,7 @@ pub enum Scanned {
 }
 
 // Whether byte b stands at `at`.
-fn starts_with(text: &[u8], at: usize, b: u8) -> bool
+pub fn starts_with(text: &[u8], at: usize, b: u8) -> bool
     ensures { λ r. ⌜ r ≡ startsWith b (drop at (now (text .entry))) ⌝ }
 {
     if text.len() <= at {

@@ -1,0 +1,1 @@
+// The rules text: so far its definitions and what follows from them.

@@ -1,0 +1,8 @@
+-- Laws of the definitions of `specs/`, for the proofs here and in the crates above.
+pub mod Tokens
+pub mod Words
+pub mod Digits
+pub mod Numbers
+pub mod Terms
+pub mod Answers
+pub mod Lines

@@ -1,0 +1,13 @@
+-- `syntax::numeral::is_digit` meets its contract.
+-- Assumes nothing.
+use mathlib.Core.Path.{refl}
+use Rattle.syntax.specs.Numeral.{isDigit}
+use Rattle.syntax.proofs.numeral.is_digit.Statement.{statement}
+use Rattle.syntax.proofs.numeral.is_digit.Tie as tie
+
+returns : tie.Need-returns
+unfolding isDigit
+returns c = refl
+
+pub is-digit-spec : {M : Type 1} → statement M
+is-digit-spec = tie.close (tie.spec returns)

@@ -1,0 +1,60 @@
+-- `syntax::numeral::signed_digits` meets its contract: its two tests are those of a numeral.
+-- Assumes nothing.
+use mathlib.Core.Path.{sym, ap, ap₂, _∙_}
+use mathlib.Core.Bool.{not}
+use native.Mathlib.Omega.{arith}
+use borrow.Author.Needs.{needs}
+use lib.ListN.{drop}
+use mir.Syntax.{w64}
+use mir.Facts.{toZ-ofZ}
+use denote.Ref.{now}
+use Rattle.syntax.specs.Numeral.{signedValue, decimal, digits}
+use Rattle.syntax.specs.declared.numeral.NumberRead.the-variants.{Number}
+use Rattle.syntax.proofs.Digits.{digits-inside, capped-bound}
+use Rattle.syntax.proofs.Numbers.{numeral-at, read-empty, read-unformed, read-formed}
+use Rattle.syntax.proofs.numeral.signed_digits.Statement.{statement}
+use Rattle.syntax.proofs.numeral.signed_digits.Tie as tie
+
+digits-at-requires : tie.Need-digits-at-requires
+digits-at-requires c κs = search needs
+
+returns : tie.Need-returns
+returns c =
+    let a = c .before .before .before .args in
+    sym (read-empty (a .at) (a .negative) (drop (a .at) (now (a .line))) (omega (arith, c .before .digits-at .ensures .end-is, c .if1 .taken)))
+
+shared-slice-read-if2 : tie.Need-shared-slice-read-if2
+shared-slice-read-if2 c =
+    let a = c .before .before .before .before .args in
+    digits-inside (now (a .line)) (a .at) (c .before .before .digits-at .result .end) (c .before .before .digits-at .ensures .end-is) (c .before .if1 .left)
+
+sub-if2 : tie.Need-sub-if2
+sub-if2 c = search needs
+
+returns-2 : tie.Need-returns-2
+returns-2 c =
+    let a = c .before .before .before .before .before .args in
+    let d = c .before .before .before .digits-at in
+    sym (read-unformed (a .at) (a .negative) (drop (a .at) (now (a .line))) (numeral-at (now (a .line)) (a .at) (d .result .end) (a .negative) (d .ensures .end-is) (c .before .before .if1 .left) ∙ ap not (c .if2 .taken)))
+
+signed-value-requires : tie.Need-signed-value-requires
+signed-value-requires c κs = omega (arith, c .before .before .before .digits-at .ensures .value-is, capped-bound (decimal 0 (digits (drop (c .before .before .before .before .before .args .at) (now (c .before .before .before .before .before .args .line))))))
+
+returns-3 : tie.Need-returns-3
+returns-3 c =
+    let a = c .before .before .before .before .before .before .args in
+    let d = c .before .before .before .before .digits-at in
+    ap₂ Number (toZ-ofZ {w = w64} (record { sfits = c .signed-value .ok }) ∙ c .signed-value .ensures ∙ ap (signedValue (a .negative)) (d .ensures .value-is)) (d .ensures .end-is)
+    ∙ sym (read-formed (a .at) (a .negative) (drop (a .at) (now (a .line))) (numeral-at (now (a .line)) (a .at) (d .result .end) (a .negative) (d .ensures .end-is) (c .before .before .before .if1 .left) ∙ ap not (c .before .if2 .left)))
+
+pub signed-digits-spec : {M : Type 1} → statement M
+signed-digits-spec =
+    tie.close
+    (tie.spec
+    digits-at-requires
+    returns
+    shared-slice-read-if2
+    sub-if2
+    returns-2
+    signed-value-requires
+    returns-3)

@@ -1,0 +1,9 @@
+-- The lines of a rules text.
+pub mod Bytes
+pub mod Written
+pub mod Numeral
+pub mod Token
+pub mod Term
+pub mod Line
+pub mod Parts
+pub mod Read

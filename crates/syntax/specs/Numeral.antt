@@ -1,0 +1,62 @@
+-- A number in a rules text: "optional minus, digits, no leading zero, no `-0`".
+use Prim.Native.Nat.{ℕ, _+_, _-_, _*_, min}
+use mathlib.Core.Bool.{Bool, true, false, cond, not, _&&_, _||_}
+use mathlib.Core.List.{List, [], _∷_}
+use lib.Dec.{leb, eqb}
+use lib.IntN.{ℤ, pos, negℤ}
+use lib.ListN.{length, drop}
+use Rattle.chain.specs.Scan.{startsWith}
+
+unfoldable pub isDigit : ℕ → Bool
+isDigit b = leb 48 b && leb b 57
+
+-- whether a text begins with a digit, and the digits that it begins with
+unfoldable pub startsDigit : List ℕ → Bool
+startsDigit [] = false
+startsDigit (b ∷ t) = isDigit b
+
+unfoldable pub digits : List ℕ → List ℕ
+digits [] = []
+digits (b ∷ t) = cond (isDigit b) (b ∷ digits t) []
+
+-- the number that is written by n and then the digits
+unfoldable pub decimal : ℕ → List ℕ → ℕ
+decimal n [] = n
+decimal n (d ∷ ds) = decimal (10 * n + (d - 48)) ds
+
+-- "digits, no leading zero, no `-0`", behind a minus or not
+unfoldable pub isNumeral : Bool → List ℕ → Bool
+isNumeral negative [] = false
+isNumeral negative (d ∷ []) = not (eqb d 48) || not negative
+isNumeral negative (d ∷ e ∷ ds) = not (eqb d 48)
+
+-- A text that begins with a number: whether it has a minus, its digits, and what stands behind it; or none.
+pub data NumberForm : Type 0 where
+  number : Bool → List ℕ → List ℕ → NumberForm
+  unformed : NumberForm
+
+unfoldable pub signedForm : Bool → List ℕ → NumberForm
+signedForm negative t = cond (isNumeral negative (digits t)) (number negative (digits t) (drop (length (digits t)) t)) unformed
+
+-- 45 is the minus
+unfoldable pub numberForm : List ℕ → NumberForm
+numberForm t = cond (startsWith 45 t) (signedForm true (drop 1 t)) (signedForm false t)
+
+-- the text of a number, and its value
+unfoldable pub printedNumber : Bool → List ℕ → List ℕ
+printedNumber true ds = 45 ∷ ds
+printedNumber false ds = ds
+
+unfoldable pub signedValue : Bool → ℕ → ℤ
+signedValue true n = negℤ (pos n)
+signedValue false n = pos n
+
+unfoldable pub numberValue : Bool → List ℕ → ℤ
+numberValue negative ds = signedValue negative (decimal 0 ds)
+
+-- a number may have any length: 2,147,483,649 stands for all numbers from there on, which are out of range with either sign
+unfoldable pub capped : ℕ → ℕ
+capped n = min 2147483649 n
+
+unfoldable pub cappedValue : Bool → List ℕ → ℤ
+cappedValue negative ds = signedValue negative (capped (decimal 0 ds))
