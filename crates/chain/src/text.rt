@@ -26,7 +26,7 @@ pub fn starts_with(text: &[u8], at: usize, b: u8) -> bool
 }
 
 // Whether a field letter and `[` stand at `at`.
-fn opens_at(text: &[u8], at: usize) -> bool
+pub fn opens_at(text: &[u8], at: usize) -> bool
     ensures { λ r. ⌜ r ≡ opens (drop at (now (text .entry))) ⌝ }
 {
     if text.len() < 2 {

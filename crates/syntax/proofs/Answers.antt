@@ -49,7 +49,7 @@ reference-letter l h = ap (λ (x : Bool). ltb l 77 || x) (le-ltb 90 l (leb-true 
     go true = refl
     go false = refl
 
-reference-first : (t ls r : List ℕ) → form t ≡ formed ls r → ltb (getD t 0 0) 77 || ltb 90 (getD t 0 0) ≡ isReferenceTerm (W.chain ls)
+pub reference-first : (t ls r : List ℕ) → form t ≡ formed ls r → ltb (getD t 0 0) 77 || ltb 90 (getD t 0 0) ≡ isReferenceTerm (W.chain ls)
 unfolding isReferenceTerm printed every
 reference-first t ls r e =
     let w = spelled t ls r e in
@@ -59,7 +59,7 @@ reference-first t ls r e =
     go [] h = refl
     go (l ∷ ls) h = reference-letter l (and-both (isCapital l) (every isCapital ls) h .0)
 
-chain-parts : (s : Sizes) (ls : List ℕ) (b : ℕ) → ltb b 77 || ltb 90 b ≡ isReferenceTerm (W.chain ls) → chainParts (summary s ls) b ≡ partsOf s (W.chain ls)
+pub chain-parts : (s : Sizes) (ls : List ℕ) (b : ℕ) → ltb b 77 || ltb 90 b ≡ isReferenceTerm (W.chain ls) → chainParts (summary s ls) b ≡ partsOf s (W.chain ls)
 unfolding chainParts summary partsOf termOf termChecks termNamed termKinded termShort termInRange
 chain-parts s ls b h = rw (h, at-most 16 (length ls))
   where

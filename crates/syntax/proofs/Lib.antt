@@ -6,3 +6,6 @@ pub mod Numbers
 pub mod Terms
 pub mod Answers
 pub mod Lines
+pub mod Actions
+pub mod Remotes
+pub mod Reading

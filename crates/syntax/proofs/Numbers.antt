@@ -53,7 +53,7 @@ or-true : (negative : Bool) → negative || true ≡ true
 or-true true = refl
 or-true false = refl
 
-and-one : (x : Bool) → x && true ≡ x
+pub and-one : (x : Bool) → x && true ≡ x
 and-one true = refl
 and-one false = refl
 

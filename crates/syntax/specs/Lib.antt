@@ -7,3 +7,5 @@ pub mod Term
 pub mod Line
 pub mod Parts
 pub mod Read
+pub mod ActionRead
+pub mod LineRead

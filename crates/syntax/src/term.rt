@@ -43,7 +43,7 @@ pub enum TermRead {
 }
 
 // A chain, by its letters and the first byte of its text.
-fn chain_parts(letters: Letters, first: u8) -> TermParts
+pub fn chain_parts(letters: Letters, first: u8) -> TermParts
     ensures { λ r. ⌜ r ≡ chainParts letters first ⌝ }
 {
     let checks = Checks {

@@ -1,0 +1,47 @@
+-- `syntax::line::read_equal` meets its contract.
+-- Assumes nothing.
+use mathlib.Core.Path.{sym, _∙_}
+use borrow.Author.Needs.{needs}
+use denote.Ref.{now}
+use Rattle.syntax.specs.Bytes.{bytes}
+use Rattle.syntax.proofs.Words.{literal-taken, literal-refused}
+use Rattle.syntax.proofs.Reading.{equal-none, equal-some}
+use Rattle.syntax.proofs.line.read_equal.Statement.{statement}
+use Rattle.syntax.proofs.line.read_equal.Tie as tie
+
+slice-aggregate-literal : tie.Need-slice-aggregate-literal
+slice-aggregate-literal c = search needs
+
+literal-requires : tie.Need-literal-requires
+literal-requires c κs = search needs
+
+enum-known-end : tie.Need-enum-known-end
+enum-known-end c = search needs
+
+enum-told : tie.Need-enum-told
+enum-told c = search needs
+
+read-unequal-requires : tie.Need-read-unequal-requires
+read-unequal-requires c κs = search needs
+
+returns : tie.Need-returns
+returns c =
+    let a = c .before .before .before .before .before .before .args in
+    c .read-unequal .ensures ∙ sym (equal-none (now (a .line)) (a .at) (literal-refused (now (a .line)) (bytes " == ") (a .at) (sym (c .before .before .before .literal .ensures) ∙ c .before .enum-told .given .1)))
+
+returns-2 : tie.Need-returns-2
+returns-2 c =
+    let a = c .before .before .before .before .before .before .args in
+    equal-some (now (a .line)) (a .at) _ (literal-taken (now (a .line)) (bytes " == ") (a .at) (c .before .before .before .before .before .before .pre) (sym (c .before .before .before .literal .ensures) ∙ c .before .end .given .1))
+
+pub read-equal-spec : {M : Type 1} → statement M
+read-equal-spec =
+    tie.close
+    (tie.spec
+    slice-aggregate-literal
+    literal-requires
+    enum-known-end
+    enum-told
+    read-unequal-requires
+    returns
+    returns-2)

@@ -1,0 +1,55 @@
+-- `syntax::line::read_open` meets its contract.
+-- Assumes nothing.
+use mathlib.Core.Path.{sym, ap, _∙_}
+use native.Mathlib.Omega.{arith}
+use borrow.Author.Needs.{needs}
+use denote.Ref.{now}
+use Rattle.syntax.specs.Bytes.{bytes}
+use Rattle.syntax.specs.LineRead.{lineRead}
+use Rattle.syntax.proofs.Words.{literal-taken, literal-refused}
+use Rattle.syntax.proofs.Reading.{open-ruled, open-loop}
+use Rattle.syntax.proofs.line.read_open.Statement.{statement}
+use Rattle.syntax.proofs.line.read_open.Tie as tie
+
+slice-aggregate-literal : tie.Need-slice-aggregate-literal
+slice-aggregate-literal c = search needs
+
+literal-requires : tie.Need-literal-requires
+literal-requires c κs = search needs
+
+enum-known-at : tie.Need-enum-known-at
+enum-known-at c = search needs
+
+enum-told : tie.Need-enum-told
+enum-told c = search needs
+
+read-ruled-requires : tie.Need-read-ruled-requires
+read-ruled-requires c κs = search needs
+
+returns : tie.Need-returns
+returns c =
+    let a = c .before .before .before .before .before .before .args in
+    c .read-ruled .ensures ∙ sym (ap (lineRead (a .sizes)) (open-ruled (now (a .line)) (literal-refused (now (a .line)) (bytes "loop ") 0 (sym (c .before .before .before .literal .ensures) ∙ c .before .enum-told .given .1))))
+
+read-loop-requires : tie.Need-read-loop-requires
+read-loop-requires c κs =
+    let a = c .before .before .before .before .before .before .args in
+    (c .before .before .before .before .before .before .pre, literal-taken (now (a .line)) (bytes "loop ") 0 (omega arith) (sym (c .before .before .before .literal .ensures) ∙ c .before .at .given .1) .inside)
+
+returns-2 : tie.Need-returns-2
+returns-2 c =
+    let a = c .before .before .before .before .before .before .before .args in
+    c .read-loop .ensures ∙ sym (ap (lineRead (a .sizes)) (open-loop (now (a .line)) _ (literal-taken (now (a .line)) (bytes "loop ") 0 (omega arith) (sym (c .before .before .before .before .literal .ensures) ∙ c .before .before .at .given .1))))
+
+pub read-open-spec : {M : Type 1} → statement M
+read-open-spec =
+    tie.close
+    (tie.spec
+    slice-aggregate-literal
+    literal-requires
+    enum-known-at
+    enum-told
+    read-ruled-requires
+    returns
+    read-loop-requires
+    returns-2)

@@ -1,0 +1,121 @@
+-- What the readers of a rule and its parts answer.
+use Prim.Native.Nat.{ℕ, _+_}
+use mathlib.Core.Path.{_≡_}
+use mathlib.Core.Bool.{Bool, not, _&&_}
+use mathlib.Core.List.{List, [], _∷_}
+use mathlib.Core.Option.{Option, none, some}
+use lib.ListN.{take}
+use Rattle.register.specs.declared.Sizes.{Sizes}
+use Rattle.chain.specs.Word.{pack}
+use Rattle.chain.specs.Text.{names, fieldOf, wordOf, isReferenceLetter, Form, formed, unformed}
+use Rattle.chain.specs.Scan.{chainEnd}
+use Rattle.chain.specs.declared.letters.Letters.{Letters}
+use Rattle.syntax.specs.Written as W
+use Rattle.syntax.specs.Token.{Token, token, other, then, word, or, finished}
+use Rattle.syntax.specs.Term.{termForm}
+use Rattle.syntax.specs.Bytes.{bytes}
+use Rattle.syntax.specs.Parts.{everyTerm, termNamed, termKinded, termShort, termInRange, actionTerms, target, actionKinds, isReferenceTerm}
+use Rattle.syntax.specs.Read.{termOf, partsOf, termChecks, chainParts}
+use Rattle.syntax.specs.declared.term.Checks.{Checks}
+use Rattle.syntax.specs.declared.term.TermParts.{TermParts}
+use Rattle.syntax.specs.declared.rule.Rule.{Rule}
+use Rattle.syntax.specs.declared.rule.Rule.the-variants.{Set, Sum, Difference, Least, Total}
+use Rattle.syntax.specs.declared.action.Letter.{Letter}
+use Rattle.syntax.specs.declared.action.Letter.the-variants.{Capital, NoForm as NoLetter}
+use Rattle.syntax.specs.declared.action.LastRead.{LastRead}
+use Rattle.syntax.specs.declared.action.LastRead.the-variants.{Term, NoForm as NoTerm}
+use Rattle.syntax.specs.declared.action.ActionRead.{ActionRead}
+use Rattle.syntax.specs.declared.action.ActionRead.the-variants.{Action, NoForm}
+use Rattle.syntax.specs.declared.remote.Target.{Target}
+use Rattle.syntax.specs.declared.remote.TargetRead.{TargetRead}
+use Rattle.syntax.specs.declared.remote.TargetRead.the-variants.{At, NoForm as NoTarget}
+
+-- what 9 to 12 ask of two parts, and of some terms
+unfoldable pub bothChecks : Checks → Checks → Checks
+bothChecks a b = record {
+  named = a .named && b .named;
+  kinded = a .kinded && b .kinded;
+  short = a .short && b .short;
+  ranged = a .ranged && b .ranged;
+}
+
+unfoldable pub termsChecks : Sizes → List W.Term → Checks
+termsChecks s xs = record {
+  named = everyTerm (termNamed s) xs;
+  kinded = everyTerm termKinded xs;
+  short = everyTerm termShort xs;
+  ranged = everyTerm termInRange xs;
+}
+
+-- with a rule's own: that its field is named, and that its kinds agree
+unfoldable pub ruleChecks : Bool → Bool → Checks → Checks
+ruleChecks field kinds c = record { named = field && c .named; kinded = c .kinded && kinds; short = c .short; ranged = c .ranged }
+
+unfoldable pub actionChecks : Sizes → W.Action → Checks
+actionChecks s a = ruleChecks (names s (target a)) (actionKinds a) (termsChecks s (actionTerms a))
+
+-- whether a field and a term, by its kind, are measures
+unfoldable pub measured : ℕ → Bool → Bool
+measured f reference = not (isReferenceLetter f) && not reference
+
+-- a rule as a program holds it
+abbrev packed : List ℕ → ℕ
+packed ls = pack (wordOf (take 16 ls))
+
+unfoldable pub ruleOfAction : W.Action → Rule
+ruleOfAction (W.set f x) = Set (fieldOf f) (termOf x)
+ruleOfAction (W.sum f x y) = Sum (fieldOf f) (termOf x) (termOf y)
+ruleOfAction (W.difference f x y) = Difference (fieldOf f) (termOf x) (termOf y)
+ruleOfAction (W.least f c x) = Least (fieldOf f) (packed c) (termOf x)
+ruleOfAction (W.total f c x) = Total (fieldOf f) (packed c) (termOf x)
+
+unfoldable pub actionRead : Sizes → Option W.Action → ActionRead
+actionRead s none = NoForm
+actionRead s (some a) = Action (ruleOfAction a) (actionChecks s a)
+
+unfoldable pub letterRead : Token ℕ → Letter
+letterRead other = NoLetter
+letterRead (token l r) = Capital l
+
+-- a word, and behind it the term that ends the line
+unfoldable pub lastTerm : List ℕ → List ℕ → Option W.Term
+lastTerm w t = word w t (λ r. then (termForm r) finished)
+
+unfoldable pub lastRead : Sizes → Option W.Term → LastRead
+lastRead s none = NoTerm
+lastRead s (some x) = Term (partsOf s x)
+
+abbrev pub made : {A : Type 0} → (W.Term → A) → List ℕ → List ℕ → Option A
+made make w t = word w t (λ r. then (termForm r) (λ y. finished (make y)))
+
+-- ` - Y`, and ` + Y` or ` - Y`, behind `F[u] := X`
+abbrev pub minusForm : ℕ → W.Term → List ℕ → Option W.Action
+minusForm f x t = made (W.difference f x) (bytes " - ") t
+
+abbrev pub sumForm : ℕ → W.Term → List ℕ → Option W.Action
+sumForm f x t = or (made (W.sum f x) (bytes " + ") t) (minusForm f x t)
+
+-- an answer that is right for every term with these parts
+abbrev pub ForTerm : Sizes → TermParts → (W.Term → ActionRead) → ActionRead → Type 0
+ForTerm s p answer r = (w : W.Term) → p ≡ partsOf s w → r ≡ answer w
+
+-- ` += X` behind `remote F[C]`
+abbrev pub totalForm : ℕ → List ℕ → List ℕ → Option W.Action
+totalForm f c t = made (W.total f c) (bytes " += ") t
+
+-- a target by its letter and the letters of C, and by what is known of those and the first byte of their text
+unfoldable pub targetOf : Sizes → ℕ → List ℕ → Target
+targetOf s f c = record { letter = f; chain = packed c; reference = isReferenceTerm (W.chain c); checks = termChecks s (W.chain c) }
+
+unfoldable pub targetFrom : ℕ → Letters → ℕ → Target
+targetFrom f x b = record { letter = f; chain = x .packed; reference = chainParts x b .reference; checks = chainParts x b .checks }
+
+-- `at` is where C begins
+unfoldable pub targetRead : Sizes → ℕ → Form → TargetRead
+targetRead s at unformed = NoTarget
+targetRead s at (formed [] r) = NoTarget
+targetRead s at (formed (f ∷ c) r) = At (targetOf s f c) (chainEnd at c + 1)
+
+-- an answer that is right for every target with these parts
+abbrev pub ForTarget : Sizes → Target → (ℕ → List ℕ → ActionRead) → ActionRead → Type 0
+ForTarget s p answer r = (f : ℕ) (c : List ℕ) → p ≡ targetOf s f c → r ≡ answer f c
