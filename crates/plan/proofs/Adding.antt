@@ -23,7 +23,7 @@ holds-facts h = rw (h .facts-are) h
 pub extended-holds : {l : List Fact} {r : Added} → Extended l r → r .full ≡ false → Holds (r .plan) l
 extended-holds {l} e n = e .holds (ltb-false 64 (length l) (sym (e .full-is) ∙ n))
 
-extended-more : {l : List Fact} {r : Added} (m : List Fact) → Extended l r → r .full ≡ true → length l ≤ length m → Extended m r
+pub extended-more : {l : List Fact} {r : Added} (m : List Fact) → Extended l r → r .full ≡ true → length l ≤ length m → Extended m r
 extended-more {l} m e y h =
     let b : 64 < length l = ltb-true 64 (length l) (sym (e .full-is) ∙ y) in
     record { full-is = y ∙ sym (lt-ltb 64 (length m) (omega arith)); holds = λ k. absurd (omega arith) }

@@ -55,11 +55,11 @@ pub each-append : {A : Type 0} (P : A → Type 0) (l m : List A) → Each P l �
 each-append P [] m h k = k
 each-append P (a ∷ l) m h k = (h .0, each-append P l m (h .1) k)
 
-each-front : {A : Type 0} (P : A → Type 0) (l m : List A) → Each P (l ++ m) → Each P l
+pub each-front : {A : Type 0} (P : A → Type 0) (l m : List A) → Each P (l ++ m) → Each P l
 each-front P [] m h = tt
 each-front P (a ∷ l) m h = (h .0, each-front P l m (h .1))
 
-each-back : {A : Type 0} (P : A → Type 0) (l m : List A) → Each P (l ++ m) → Each P m
+pub each-back : {A : Type 0} (P : A → Type 0) (l m : List A) → Each P (l ++ m) → Each P m
 each-back P [] m h = h
 each-back P (a ∷ l) m h = each-back P l m (h .1)
 
@@ -84,13 +84,13 @@ last-kind (g ∷ []) f = refl
 last-kind (g ∷ k ∷ w) f = last-kind (k ∷ w) f
 
 -- a term that has passed 9 to 12
-record Fine (s : Sizes) (x : W.Term) : Type 0 where
-  is-named : termNamed s x ≡ true
-  is-kinded : termKinded x ≡ true
-  is-short : termShort x ≡ true
-  in-range : termInRange x ≡ true
+pub record Fine (s : Sizes) (x : W.Term) : Type 0 where
+  pub is-named : termNamed s x ≡ true
+  pub is-kinded : termKinded x ≡ true
+  pub is-short : termShort x ≡ true
+  pub in-range : termInRange x ≡ true
 
-terms-fine : (s : Sizes) (xs : List W.Term) → everyTerm (termNamed s) xs ≡ true → everyTerm termKinded xs ≡ true → everyTerm termShort xs ≡ true → everyTerm termInRange xs ≡ true → Each (Fine s) xs
+pub terms-fine : (s : Sizes) (xs : List W.Term) → everyTerm (termNamed s) xs ≡ true → everyTerm termKinded xs ≡ true → everyTerm termShort xs ≡ true → everyTerm termInRange xs ≡ true → Each (Fine s) xs
 unfolding everyTerm
 terms-fine s [] a b c d = tt
 terms-fine s (x ∷ xs) a b c d =
