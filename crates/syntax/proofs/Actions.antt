@@ -17,12 +17,13 @@ use Rattle.syntax.specs.Term.{termForm}
 use Rattle.syntax.specs.Line.{assigned, localForm}
 use Rattle.syntax.specs.Parts.{same, target, actionKinds, areMeasures, actionTerms, everyTerm, termNamed, termKinded, termShort, termInRange}
 use Rattle.syntax.specs.Read.{begins, partsOf, termChecks}
-use Rattle.syntax.specs.ActionRead.{letterRead, lastTerm, lastRead, made, minusForm, sumForm, bothChecks, termsChecks, ruleChecks, actionChecks, measured, ruleOfAction, actionRead}
+use Rattle.syntax.specs.ActionRead.{letterRead, lastTerm, lastRead, made, combined, minusForm, sumForm, bothChecks, termsChecks, ruleChecks, actionChecks, measured, ruleOfAction, actionRead}
 use Rattle.syntax.specs.declared.action.Letter.the-variants.{Capital, NoForm as NoLetter}
 use Rattle.syntax.specs.declared.action.LastRead.{LastRead}
 use Rattle.syntax.specs.declared.action.LastRead.the-variants.{Term, NoForm as NoTerm}
 use Rattle.syntax.specs.declared.action.ActionRead.the-variants.{Action, NoForm}
-use Rattle.syntax.specs.declared.rule.Rule.the-variants.{Set, Sum, Difference}
+use Rattle.syntax.specs.declared.rule.Rule.{Rule}
+use Rattle.syntax.specs.declared.rule.Rule.the-variants.{Set}
 use Rattle.syntax.specs.declared.term.TermParts.{TermParts}
 use Rattle.syntax.proofs.Tokens.{word-begins, capital-is}
 use Rattle.syntax.proofs.Words.{Taken}
@@ -195,32 +196,28 @@ module _ (s : Sizes) (f : ℕ) (p : TermParts) (x : W.Term) (e : p ≡ partsOf s
   set-read = rw (e, checks-one s x)
 
   module _ (q : TermParts) (y : W.Term) (h : q ≡ partsOf s y) where
-    pub sum-read : Action (Sum (fieldOf f) (p .term) (q .term)) (ruleChecks (names s f) (measured f (p .reference) && measured f (q .reference)) (bothChecks (p .checks) (q .checks)))
-        ≡ actionRead s (some (W.sum f x y))
-    unfolding actionRead ruleOfAction actionChecks target actionKinds areMeasures measured actionTerms partsOf
-    sum-read = rw (e, h, checks-two s x y)
-
-    pub difference-read : Action (Difference (fieldOf f) (p .term) (q .term)) (ruleChecks (names s f) (measured f (p .reference) && measured f (q .reference)) (bothChecks (p .checks) (q .checks)))
-        ≡ actionRead s (some (W.difference f x y))
-    unfolding actionRead ruleOfAction actionChecks target actionKinds areMeasures measured actionTerms partsOf
-    difference-read = rw (e, h, checks-two s x y)
+    pub combined-read : (minus : Bool) {r : Rule} → r ≡ ruleOfAction (combined minus f x y)
+        → Action r (ruleChecks (names s f) (measured f (p .reference) && measured f (q .reference)) (bothChecks (p .checks) (q .checks))) ≡ actionRead s (some (combined minus f x y))
+    unfolding actionRead actionChecks target actionKinds areMeasures measured actionTerms partsOf
+    combined-read true k = rw (k, e, h, checks-two s x y)
+    combined-read false k = rw (k, e, h, checks-two s x y)
 
 -- the answers behind `F[u] := X`, by what the reader of the last term finds
 module _ (s : Sizes) (f : ℕ) (x : W.Term) (t : List ℕ) where
   pub minus-none : lastRead s (lastTerm (bytes " - ") t) ≡ NoTerm → actionRead s (minusForm f x t) ≡ NoForm
   unfolding actionRead
-  minus-none e = ap (actionRead s) (made-none s (bytes " - ") t (W.difference f x) e)
+  minus-none e = ap (actionRead s) (made-none s (bytes " - ") t (combined true f x) e)
 
-  pub minus-some : {p : TermParts} (l : Last s (bytes " - ") t p) → minusForm f x t ≡ some (W.difference f x (l .written))
-  minus-some l = made-some s (bytes " - ") t (W.difference f x) l
+  pub minus-some : {p : TermParts} (l : Last s (bytes " - ") t p) → minusForm f x t ≡ some (combined true f x (l .written))
+  minus-some l = made-some s (bytes " - ") t (combined true f x) l
 
   pub sum-none : lastRead s (lastTerm (bytes " + ") t) ≡ NoTerm → sumForm f x t ≡ minusForm f x t
   unfolding or
-  sum-none e = rw (made-none s (bytes " + ") t (W.sum f x) e)
+  sum-none e = rw (made-none s (bytes " + ") t (combined false f x) e)
 
-  pub sum-some : {p : TermParts} (l : Last s (bytes " + ") t p) → sumForm f x t ≡ some (W.sum f x (l .written))
+  pub sum-some : {p : TermParts} (l : Last s (bytes " + ") t p) → sumForm f x t ≡ some (combined false f x (l .written))
   unfolding or
-  sum-some l = rw (made-some s (bytes " + ") t (W.sum f x) l)
+  sum-some l = rw (made-some s (bytes " + ") t (combined false f x) l)
 
 module _ (f : ℕ) (x : W.Term) (t : List ℕ) (at : ℕ) where
   pub assigned-more : at < length t → assigned f x (drop at t) ≡ sumForm f x (drop at t)

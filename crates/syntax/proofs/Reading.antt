@@ -24,6 +24,7 @@ use Rattle.syntax.specs.ActionRead.{bothChecks, termsChecks, ruleChecks,
 use Rattle.syntax.specs.LineRead.{written, comparisonOf, testOf, lineChecks, lineRead, conditionParts, alwaysParts, whenParts, ruleRead, unequalRead, equalRead, comparisonRead, comparedForm, ruledForm, loopForm, openForm, isWord}
 use Rattle.syntax.specs.declared.term.Checks.{Checks}
 use Rattle.syntax.specs.declared.term.TermParts.{TermParts}
+use Rattle.syntax.specs.declared.line.TestParts.{TestParts}
 use Rattle.syntax.specs.declared.rule.Comparison.{Comparison}
 use Rattle.syntax.specs.declared.rule.Comparison.the-variants.{Less, Equal, Unequal}
 use Rattle.syntax.specs.declared.line.ComparisonRead.the-variants.{At, NoForm as NoComparison}
@@ -72,10 +73,10 @@ rule-checks s c a =
     (e termShort)
     (e termInRange)
 
-pub rule-read : (s : Sizes) (c : W.Condition) (o : Option W.Action) → ruleRead (conditionParts s c) (actionRead s o) ≡ lineRead s (ruleOf c o)
+pub rule-read : (s : Sizes) {p : TestParts} (c : W.Condition) (o : Option W.Action) → p ≡ conditionParts s c → ruleRead p (actionRead s o) ≡ lineRead s (ruleOf c o)
 unfolding ruleRead actionRead lineRead ruleOf conditionParts
-rule-read s c none = refl
-rule-read s c (some a) = ap (Rule (record { test = testOf c; rule = ruleOfAction a })) (rule-checks s c a)
+rule-read s c none e = refl
+rule-read s c (some a) e = rw e (ap (Rule (record { test = testOf c; rule = ruleOfAction a })) (rule-checks s c a))
 
 -- tests
 comparison-same : (c : Comparison) → comparisonOf (written c) ≡ c

@@ -1,7 +1,7 @@
 -- What the readers of a rule and its parts answer.
 use Prim.Native.Nat.{ℕ, _+_}
 use mathlib.Core.Path.{_≡_}
-use mathlib.Core.Bool.{Bool, not, _&&_}
+use mathlib.Core.Bool.{Bool, true, false, not, _&&_}
 use mathlib.Core.List.{List, [], _∷_}
 use mathlib.Core.Option.{Option, none, some}
 use lib.ListN.{take}
@@ -88,16 +88,24 @@ lastRead s (some x) = Term (partsOf s x)
 abbrev pub made : {A : Type 0} → (W.Term → A) → List ℕ → List ℕ → Option A
 made make w t = word w t (λ r. then (termForm r) (λ y. finished (make y)))
 
+-- `F[u] := X + Y`, or with a minus `F[u] := X - Y`
+abbrev pub combined : Bool → ℕ → W.Term → W.Term → W.Action
+combined true f x y = W.difference f x y
+combined false f x y = W.sum f x y
+
 -- ` - Y`, and ` + Y` or ` - Y`, behind `F[u] := X`
 abbrev pub minusForm : ℕ → W.Term → List ℕ → Option W.Action
-minusForm f x t = made (W.difference f x) (bytes " - ") t
+minusForm f x t = made (combined true f x) (bytes " - ") t
 
 abbrev pub sumForm : ℕ → W.Term → List ℕ → Option W.Action
-sumForm f x t = or (made (W.sum f x) (bytes " + ") t) (minusForm f x t)
+sumForm f x t = or (made (combined false f x) (bytes " + ") t) (minusForm f x t)
 
--- an answer that is right for every term with these parts
+-- an answer that is right for every term, or for every two terms, with these parts
 abbrev pub ForTerm : Sizes → TermParts → (W.Term → ActionRead) → ActionRead → Type 0
 ForTerm s p answer r = (w : W.Term) → p ≡ partsOf s w → r ≡ answer w
+
+abbrev pub ForTerms : Sizes → TermParts → TermParts → (W.Term → W.Term → ActionRead) → ActionRead → Type 0
+ForTerms s p q answer r = (v w : W.Term) → p ≡ partsOf s v → q ≡ partsOf s w → r ≡ answer v w
 
 -- ` += X` behind `remote F[C]`
 abbrev pub totalForm : ℕ → List ℕ → List ℕ → Option W.Action

@@ -1,6 +1,7 @@
 // A rule without its test, read token after token.
 ghost use mathlib.Core.Path.{_≡_};
 ghost use mathlib.Core.Bool.{true};
+ghost use mathlib.Core.Option.{some};
 ghost use Prim.Native.Nat.{_≤_};
 ghost use lib.ListN.{length, drop};
 ghost use Rattle.register.specs.Shape.{Limits};
@@ -9,7 +10,7 @@ ghost use Rattle.syntax.specs.Token.{capital};
 ghost use Rattle.syntax.specs.Parts.{same as sameKind};
 ghost use Rattle.syntax.specs.Line.{assigned, localForm};
 ghost use Rattle.syntax.specs.declared.action.ActionRead.the-variants.{Action};
-ghost use Rattle.syntax.specs.ActionRead.{bothChecks, ruleChecks, lastTerm, lastRead, letterRead, measured, actionRead, ForTerm, minusForm, sumForm};
+ghost use Rattle.syntax.specs.ActionRead.{bothChecks, ruleChecks, lastTerm, lastRead, letterRead, measured, actionRead, combined as combinedAction, ForTerm, ForTerms, minusForm, sumForm};
 use crate::rule::Rule;
 use crate::term;
 use crate::term::Checks;
@@ -106,6 +107,23 @@ pub fn read_last(line: &[u8], at: usize, word: &[u8], sizes: Sizes) -> LastRead
     LastRead::Term(x)
 }
 
+// `F[u] := X + Y`, or with a minus `F[u] := X - Y`, by the parts of X and Y.
+fn combined(minus: bool, letter: u8, x: TermParts, y: TermParts, sizes: Sizes) -> ActionRead
+    requires { ⌜ Limits sizes × (isCapital letter ≡ true) ⌝ }
+    ensures { λ r. ⌜ ForTerms sizes x y (λ v w. actionRead sizes (some (combinedAction minus letter v w))) r ⌝ }
+{
+    let field = letters::field_of(letter);
+    let first = x.term;
+    let second = y.term;
+    let rule = if minus {
+        Rule::Difference(field, first, second)
+    } else {
+        Rule::Sum(field, first, second)
+    };
+    let kinds = measures(letter, x.reference) & measures(letter, y.reference);
+    action(rule, letter, kinds, both(x.checks, y.checks), sizes)
+}
+
 // ` - Y` behind `F[u] := X`.
 fn read_difference(line: &[u8], at: usize, letter: u8, x: TermParts, sizes: Sizes) -> ActionRead
     requires { ⌜ Limits sizes × (at ≤ length (now line)) × (isCapital letter ≡ true) ⌝ }
@@ -114,11 +132,7 @@ fn read_difference(line: &[u8], at: usize, letter: u8, x: TermParts, sizes: Size
     let LastRead::Term(y) = read_last(line, at, b" - ", sizes) else {
         return ActionRead::NoForm;
     };
-    let kinds = measures(letter, x.reference) & measures(letter, y.reference);
-    let first = x.term;
-    let second = y.term;
-    let rule = Rule::Difference(letters::field_of(letter), first, second);
-    action(rule, letter, kinds, both(x.checks, y.checks), sizes)
+    combined(true, letter, x, y, sizes)
 }
 
 // ` + Y` or ` - Y` behind `F[u] := X`.
@@ -129,11 +143,7 @@ fn read_sum(line: &[u8], at: usize, letter: u8, x: TermParts, sizes: Sizes) -> A
     let LastRead::Term(y) = read_last(line, at, b" + ", sizes) else {
         return read_difference(line, at, letter, x, sizes);
     };
-    let kinds = measures(letter, x.reference) & measures(letter, y.reference);
-    let first = x.term;
-    let second = y.term;
-    let rule = Rule::Sum(letters::field_of(letter), first, second);
-    action(rule, letter, kinds, both(x.checks, y.checks), sizes)
+    combined(false, letter, x, y, sizes)
 }
 
 // What stands behind `F[u] := X`.

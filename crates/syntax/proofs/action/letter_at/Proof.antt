@@ -10,9 +10,7 @@ use Rattle.syntax.proofs.action.letter_at.Statement.{statement}
 use Rattle.syntax.proofs.action.letter_at.Tie as tie
 
 returns : tie.Need-returns
-returns c =
-    let a = c .before .before .args in
-    sym (letter-past (now (a .line)) (a .at) (c .if1 .taken))
+returns c = sym (letter-past _ _ (c .if1 .taken))
 
 shared-slice-read-is-capital : tie.Need-shared-slice-read-is-capital
 shared-slice-read-is-capital c = search needs
@@ -23,7 +21,7 @@ is-capital-requires c κs = search needs
 returns-2 : tie.Need-returns-2
 returns-2 c =
     let a = c .before .before .before .before .before .args in
-    sym (letter-none (now (a .line)) (a .at) (omega (arith, c .before .before .before .if1 .left)) (sym (c .before .is-capital .ensures) ∙ not-true _ (c .if2 .taken)))
+    sym (letter-none (now (a .line)) (a .at) (omega arith) (sym (c .before .is-capital .ensures) ∙ not-true _ (c .if2 .taken)))
 
 shared-slice-read-t6 : tie.Need-shared-slice-read-t6
 shared-slice-read-t6 c = search needs
@@ -31,7 +29,7 @@ shared-slice-read-t6 c = search needs
 returns-3 : tie.Need-returns-3
 returns-3 c =
     let a = c .before .before .before .before .before .before .args in
-    sym (letter-some (now (a .line)) (a .at) (omega (arith, c .before .before .before .before .if1 .left)) (sym (c .before .before .is-capital .ensures) ∙ not-false _ (c .before .if2 .left)))
+    sym (letter-some (now (a .line)) (a .at) (omega arith) (sym (c .before .before .is-capital .ensures) ∙ not-false _ (c .before .if2 .left)))
 
 pub letter-at-spec : {M : Type 1} → statement M
 letter-at-spec =

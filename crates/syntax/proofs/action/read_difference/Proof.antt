@@ -4,10 +4,9 @@ use mathlib.Core.Path.{sym, ap, _∙_}
 use borrow.Author.Needs.{needs}
 use lib.ListN.{drop}
 use denote.Ref.{now}
-use Rattle.chain.proofs.Steps.{capital-low}
 use Rattle.syntax.specs.Bytes.{bytes}
 use Rattle.syntax.specs.ActionRead.{actionRead}
-use Rattle.syntax.proofs.Actions.{last-taken, minus-none, minus-some, difference-read}
+use Rattle.syntax.proofs.Actions.{last-taken, minus-none, minus-some}
 use Rattle.syntax.proofs.action.read_difference.Statement.{statement}
 use Rattle.syntax.proofs.action.read_difference.Tie as tie
 
@@ -26,32 +25,16 @@ enum-told c = search needs
 returns : tie.Need-returns
 returns c =
     let a = c .before .before .before .before .before .args in
-    λ w e. sym (minus-none (a .sizes) (a .letter) w (drop (a .at) (now (a .line))) (sym (c .before .before .read-last .ensures) ∙ c .enum-told .given .1))
+    λ w e. sym (minus-none (a .sizes) (a .letter) w _ (sym (c .before .before .read-last .ensures) ∙ c .enum-told .given .1))
 
-measures-requires : tie.Need-measures-requires
-measures-requires c κs = search needs
-
-measures-requires-2 : tie.Need-measures-requires-2
-measures-requires-2 c κs = search needs
-
-field-of-requires : tie.Need-field-of-requires
-field-of-requires c κs = capital-low (c .before .before .before .before .before .before .before .before .args .letter) (c .before .before .before .before .before .before .before .before .pre .2)
-
-both-requires : tie.Need-both-requires
-both-requires c κs = search needs
-
-action-requires : tie.Need-action-requires
-action-requires c κs = search needs
+combined-requires : tie.Need-combined-requires
+combined-requires c κs = search needs
 
 returns-2 : tie.Need-returns-2
 returns-2 c =
-    let a = c .before .before .before .before .before .before .before .before .before .before .before .args in
-    let t = drop (a .at) (now (a .line)) in
-    let l = last-taken (a .sizes) (bytes " - ") t (sym (c .before .before .before .before .before .before .before .before .read-last .ensures) ∙ c .before .before .before .before .before .before .y .given .1) in
-    λ w e.
-    c .action .ensures
-    ∙ rw (c .before .before .field-of .ensures, c .before .before .before .before .measures .ensures, c .before .before .before .measures2 .ensures, c .before .both .ensures)
-    (difference-read (a .sizes) (a .letter) (a .x) w e _ (l .written) (l .parts) ∙ sym (ap (actionRead (a .sizes)) (minus-some (a .sizes) (a .letter) w t l)))
+    let a = c .before .before .before .before .before .before .before .args in
+    let l = last-taken (a .sizes) (bytes " - ") (drop (a .at) (now (a .line))) (sym (c .before .before .before .before .read-last .ensures) ∙ c .before .before .y .given .1) in
+    λ w e. c .combined .ensures w (l .written) e (l .parts) ∙ sym (ap (actionRead (a .sizes)) (minus-some (a .sizes) (a .letter) w _ l))
 
 pub read-difference-spec : {M : Type 1} → statement M
 read-difference-spec =
@@ -62,9 +45,5 @@ read-difference-spec =
     enum-known-y
     enum-told
     returns
-    measures-requires
-    measures-requires-2
-    field-of-requires
-    both-requires
-    action-requires
+    combined-requires
     returns-2)

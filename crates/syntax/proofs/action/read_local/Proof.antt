@@ -6,11 +6,22 @@ use borrow.Author.Needs.{needs}
 use denote.Ref.{now}
 use Rattle.syntax.specs.Bytes.{bytes}
 use Rattle.syntax.specs.ActionRead.{actionRead}
-use Rattle.syntax.proofs.Words.{literal-taken, literal-refused}
-use Rattle.syntax.proofs.Answers.{term-taken, term-refused}
-use Rattle.syntax.proofs.Actions.{letter-taken, letter-refused, local-no-letter, local-no-word, local-no-term, local-term}
+use Rattle.syntax.proofs.Words.{literal-taken, literal-refused, Taken}
+use Rattle.syntax.proofs.Answers.{term-taken, term-refused, TermTaken}
+use Rattle.syntax.proofs.Actions.{letter-taken, letter-refused, local-no-letter, local-no-word, local-no-term, local-term, Lettered}
 use Rattle.syntax.proofs.action.read_local.Statement.{statement}
 use Rattle.syntax.proofs.action.read_local.Tie as tie
+
+-- the letter, the word and the term that were read on the way
+letter-read : (c : tie.After-letter) → let a = c .before .before .before .before .args in Lettered (now (a .line)) (a .at) (c .letter .given .0 .0)
+letter-read c = letter-taken _ _ (sym (c .before .before .letter-at .ensures) ∙ c .letter .given .1)
+
+word-read : (c : tie.After-start) → let a = c .before .before .before .before .before .before .before .before .before .args in Taken (now (a .line)) (bytes "[u] := ") (a .at + 1) (c .start .given .0 .0)
+word-read c = literal-taken _ _ _ (letter-read (c .before .before .before .before .before) .inside) (sym (c .before .before .literal .ensures) ∙ c .start .given .1)
+
+term-read : (c : tie.After-x) → let a = c .before .before .before .before .before .before .before .before .before .before .before .before .before .args in
+    TermTaken (a .sizes) (now (a .line)) (c .before .before .before .before .start .given .0 .0) (c .x .given .0 .0) (c .x .given .0 .1 .0)
+term-read c = term-taken _ _ _ (word-read (c .before .before .before .before) .inside) (sym (c .before .before .read-term .ensures) ∙ c .x .given .1)
 
 letter-at-requires : tie.Need-letter-at-requires
 letter-at-requires c κs = search needs
@@ -25,7 +36,8 @@ returns : tie.Need-returns
 unfolding actionRead
 returns c =
     let a = c .before .before .before .before .args in
-    sym (ap (actionRead (a .sizes)) (local-no-letter (now (a .line)) (a .at) (letter-refused (now (a .line)) (a .at) (sym (c .before .before .letter-at .ensures) ∙ c .enum-told .given .1))))
+    let refused = letter-refused (now (a .line)) (a .at) (sym (c .before .before .letter-at .ensures) ∙ c .enum-told .given .1) in
+    sym (ap (actionRead (a .sizes)) (local-no-letter (now (a .line)) (a .at) refused))
 
 add-literal : tie.Need-add-literal
 add-literal c = search needs
@@ -34,7 +46,7 @@ slice-aggregate-literal : tie.Need-slice-aggregate-literal
 slice-aggregate-literal c = search needs
 
 literal-requires : tie.Need-literal-requires
-literal-requires c κs = letter-taken (now (c .before .before .before .before .before .before .args .line)) (c .before .before .before .before .before .before .args .at) (sym (c .before .before .before .before .letter-at .ensures) ∙ c .before .before .letter .given .1) .inside
+literal-requires c κs = letter-read (c .before .before) .inside
 
 enum-known-start : tie.Need-enum-known-start
 enum-known-start c = search needs
@@ -45,16 +57,11 @@ enum-told-2 c = search needs
 returns-2 : tie.Need-returns-2
 unfolding actionRead
 returns-2 c =
-    let a = c .before .before .before .before .before .before .before .before .before .args in
-    let k = letter-taken (now (c .before .before .before .before .before .before .before .before .before .args .line)) (c .before .before .before .before .before .before .before .before .before .args .at) (sym (c .before .before .before .before .before .before .before .letter-at .ensures) ∙ c .before .before .before .before .before .letter .given .1) in
-    sym (ap (actionRead (a .sizes)) (local-no-word (now (a .line)) (a .at) _ k (literal-refused (now (a .line)) (bytes "[u] := ") (a .at + 1) (sym (c .before .before .literal .ensures) ∙ c .enum-told2 .given .1))))
+    let refused = literal-refused _ _ _ (sym (c .before .before .literal .ensures) ∙ c .enum-told2 .given .1) in
+    sym (ap (actionRead _) (local-no-word _ _ _ (letter-read (c .before .before .before .before .before)) refused))
 
 read-term-requires : tie.Need-read-term-requires
-read-term-requires c κs =
-    let a = c .before .before .before .before .before .before .before .before .before .before .args in
-    let k = letter-taken (now (c .before .before .before .before .before .before .before .before .before .before .args .line)) (c .before .before .before .before .before .before .before .before .before .before .args .at) (sym (c .before .before .before .before .before .before .before .before .letter-at .ensures) ∙ c .before .before .before .before .before .before .letter .given .1) in
-    let p = literal-taken (now (a .line)) (bytes "[u] := ") (a .at + 1) (k .inside) (sym (c .before .before .before .literal .ensures) ∙ c .before .start .given .1) in
-    (c .before .before .before .before .before .before .before .before .before .before .pre .0, p .inside)
+read-term-requires c κs = (c .before .before .before .before .before .before .before .before .before .before .pre .0, word-read (c .before) .inside)
 
 enum-known-x : tie.Need-enum-known-x
 enum-known-x c = search needs
@@ -65,26 +72,18 @@ enum-told-3 c = search needs
 returns-3 : tie.Need-returns-3
 unfolding actionRead
 returns-3 c =
-    let a = c .before .before .before .before .before .before .before .before .before .before .before .before .before .args in
-    let k = letter-taken (now (c .before .before .before .before .before .before .before .before .before .before .before .before .before .args .line)) (c .before .before .before .before .before .before .before .before .before .before .before .before .before .args .at) (sym (c .before .before .before .before .before .before .before .before .before .before .before .letter-at .ensures) ∙ c .before .before .before .before .before .before .before .before .before .letter .given .1) in
-    let p = literal-taken (now (a .line)) (bytes "[u] := ") (a .at + 1) (k .inside) (sym (c .before .before .before .before .before .before .literal .ensures) ∙ c .before .before .before .before .start .given .1) in
-    sym (ap (actionRead (a .sizes)) (local-no-term (now (a .line)) (a .at) _ k _ p (term-refused (a .sizes) (now (a .line)) _ (sym (c .before .before .read-term .ensures) ∙ c .enum-told3 .given .1))))
+    let refused = term-refused _ _ _ (sym (c .before .before .read-term .ensures) ∙ c .enum-told3 .given .1) in
+    sym (ap (actionRead _) (local-no-term _ _ _ (letter-read (c .before .before .before .before .before .before .before .before .before)) _ (word-read (c .before .before .before .before)) refused))
 
 read-assigned-requires : tie.Need-read-assigned-requires
 read-assigned-requires c κs =
-    let a = c .before .before .before .before .before .before .before .before .before .before .before .before .before .before .args in
-    let k = letter-taken (now (c .before .before .before .before .before .before .before .before .before .before .before .before .before .before .args .line)) (c .before .before .before .before .before .before .before .before .before .before .before .before .before .before .args .at) (sym (c .before .before .before .before .before .before .before .before .before .before .before .before .letter-at .ensures) ∙ c .before .before .before .before .before .before .before .before .before .before .letter .given .1) in
-    let p = literal-taken (now (a .line)) (bytes "[u] := ") (a .at + 1) (k .inside) (sym (c .before .before .before .before .before .before .before .literal .ensures) ∙ c .before .before .before .before .before .start .given .1) in
-    let q = term-taken (a .sizes) (now (a .line)) (c .before .before .before .before .before .start .given .0 .0) (p .inside) (sym (c .before .before .before .read-term .ensures) ∙ c .before .x .given .1) in
-    (c .before .before .before .before .before .before .before .before .before .before .before .before .before .before .pre .0, q .inside, k .is-capital)
+    (c .before .before .before .before .before .before .before .before .before .before .before .before .before .before .pre .0, term-read (c .before) .inside, letter-read (c .before .before .before .before .before .before .before .before .before .before) .is-capital)
 
 returns-4 : tie.Need-returns-4
 returns-4 c =
-    let a = c .before .before .before .before .before .before .before .before .before .before .before .before .before .before .before .args in
-    let k = letter-taken (now (c .before .before .before .before .before .before .before .before .before .before .before .before .before .before .before .args .line)) (c .before .before .before .before .before .before .before .before .before .before .before .before .before .before .before .args .at) (sym (c .before .before .before .before .before .before .before .before .before .before .before .before .before .letter-at .ensures) ∙ c .before .before .before .before .before .before .before .before .before .before .before .letter .given .1) in
-    let p = literal-taken (now (a .line)) (bytes "[u] := ") (a .at + 1) (k .inside) (sym (c .before .before .before .before .before .before .before .before .literal .ensures) ∙ c .before .before .before .before .before .before .start .given .1) in
-    let q = term-taken (a .sizes) (now (a .line)) (c .before .before .before .before .before .before .start .given .0 .0) (p .inside) (sym (c .before .before .before .before .read-term .ensures) ∙ c .before .before .x .given .1) in
-    c .read-assigned .ensures (q .written) (q .parts) ∙ sym (ap (actionRead (a .sizes)) (local-term (now (a .line)) (a .at) _ k _ p (a .sizes) _ _ q))
+    let q = term-read (c .before .before) in
+    c .read-assigned .ensures (q .written) (q .parts)
+    ∙ sym (ap (actionRead _) (local-term _ _ _ (letter-read (c .before .before .before .before .before .before .before .before .before .before .before)) _ (word-read (c .before .before .before .before .before .before)) _ _ _ q))
 
 pub read-local-spec : {M : Type 1} → statement M
 read-local-spec =

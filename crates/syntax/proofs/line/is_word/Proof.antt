@@ -3,7 +3,6 @@
 use mathlib.Core.Path.{sym, _∙_}
 use native.Mathlib.Omega.{arith}
 use borrow.Author.Needs.{needs}
-use denote.Ref.{now}
 use Rattle.syntax.proofs.Words.{literal-taken, literal-refused}
 use Rattle.syntax.proofs.Reading.{word-not, word-whole}
 use Rattle.syntax.proofs.line.is_word.Statement.{statement}
@@ -19,14 +18,10 @@ enum-told : tie.Need-enum-told
 enum-told c = search needs
 
 returns : tie.Need-returns
-returns c =
-    let a = c .before .before .before .before .before .args in
-    sym (word-not (now (a .word)) (now (a .line)) (literal-refused (now (a .line)) (now (a .word)) 0 (sym (c .before .before .literal .ensures) ∙ c .enum-told .given .1)))
+returns c = sym (word-not _ _ (literal-refused _ _ 0 (sym (c .before .before .literal .ensures) ∙ c .enum-told .given .1)))
 
 returns-2 : tie.Need-returns-2
-returns-2 c =
-    let a = c .before .before .before .before .before .before .args in
-    word-whole (now (a .word)) (now (a .line)) _ (literal-taken (now (a .line)) (now (a .word)) 0 (omega arith) (sym (c .before .before .before .literal .ensures) ∙ c .before .end .given .1))
+returns-2 c = word-whole _ _ _ (literal-taken _ _ 0 (omega arith) (sym (c .before .before .before .literal .ensures) ∙ c .before .end .given .1))
 
 pub is-word-spec : {M : Type 1} → statement M
 is-word-spec = tie.close (tie.spec literal-requires enum-known-end enum-told returns returns-2)

@@ -2,19 +2,23 @@
 -- Assumes nothing.
 use mathlib.Core.Path.{sym, ap, _∙_}
 use borrow.Author.Needs.{needs}
-use lib.ListN.{drop}
 use denote.Ref.{now}
 use Rattle.syntax.specs.Bytes.{bytes}
 use Rattle.syntax.specs.Written as W
-use Rattle.syntax.specs.Line.{actionForm}
-use Rattle.syntax.specs.ActionRead.{actionRead}
-use Rattle.syntax.specs.LineRead.{written, ruleRead, lineRead}
-use Rattle.syntax.specs.declared.line.TestParts.{TestParts}
-use Rattle.syntax.proofs.Words.{literal-taken, literal-refused}
-use Rattle.syntax.proofs.Answers.{term-taken, term-refused}
+use Rattle.syntax.specs.LineRead.{written, lineRead}
+use Rattle.syntax.proofs.Words.{literal-taken, literal-refused, Taken}
+use Rattle.syntax.proofs.Answers.{term-taken, term-refused, TermTaken}
 use Rattle.syntax.proofs.Reading.{when-parts, rule-read, compared-no-term, compared-no-colon, compared-rule}
 use Rattle.syntax.proofs.line.read_compared.Statement.{statement}
 use Rattle.syntax.proofs.line.read_compared.Tie as tie
+
+-- the term and the colon that were read on the way
+term-read : (c : tie.After-y) → let a = c .before .before .before .before .args in
+    TermTaken (a .sizes) (now (a .line)) (a .at) (c .y .given .0 .0) (c .y .given .0 .1 .0)
+term-read c = term-taken _ _ _ (c .before .before .before .before .pre .1) (sym (c .before .before .read-term .ensures) ∙ c .y .given .1)
+
+colon-read : (c : tie.After-start) → Taken (now (c .before .before .before .before .before .before .before .before .before .args .line)) (bytes ": ") (c .before .before .before .before .before .y .given .0 .1 .0) (c .start .given .0 .0)
+colon-read c = literal-taken _ _ _ (term-read (c .before .before .before .before .before) .inside) (sym (c .before .before .literal .ensures) ∙ c .start .given .1)
 
 read-term-requires : tie.Need-read-term-requires
 read-term-requires c κs = search needs
@@ -28,16 +32,14 @@ enum-told c = search needs
 returns : tie.Need-returns
 returns c =
     let a = c .before .before .before .before .args in
-    λ w e. sym (compared-no-term (a .sizes) (now (a .line)) (a .at) w (a .comparison) (term-refused (a .sizes) (now (a .line)) (a .at) (sym (c .before .before .read-term .ensures) ∙ c .enum-told .given .1)))
+    let refused = term-refused _ _ _ (sym (c .before .before .read-term .ensures) ∙ c .enum-told .given .1) in
+    λ w e. sym (compared-no-term _ (now (a .line)) (a .at) w _ refused)
 
 slice-aggregate-literal : tie.Need-slice-aggregate-literal
 slice-aggregate-literal c = search needs
 
 literal-requires : tie.Need-literal-requires
-literal-requires c κs =
-    let a = c .before .before .before .before .before .before .args in
-    let q = term-taken (a .sizes) (now (a .line)) (a .at) (c .before .before .before .before .before .before .pre .1) (sym (c .before .before .before .before .read-term .ensures) ∙ c .before .before .y .given .1) in
-    q .inside
+literal-requires c κs = term-read (c .before .before) .inside
 
 enum-known-start : tie.Need-enum-known-start
 enum-known-start c = search needs
@@ -47,30 +49,23 @@ enum-told-2 c = search needs
 
 returns-2 : tie.Need-returns-2
 returns-2 c =
-    let a = c .before .before .before .before .before .before .before .before .before .args in
-    let q = term-taken (a .sizes) (now (a .line)) (a .at) (c .before .before .before .before .before .before .before .before .before .pre .1) (sym (c .before .before .before .before .before .before .before .read-term .ensures) ∙ c .before .before .before .before .before .y .given .1) in
-    λ w e. sym (compared-no-colon (a .sizes) (now (a .line)) (a .at) w (a .comparison) _ _ q (literal-refused (now (a .line)) (bytes ": ") _ (sym (c .before .before .literal .ensures) ∙ c .enum-told2 .given .1)))
+    let refused = literal-refused _ _ _ (sym (c .before .before .literal .ensures) ∙ c .enum-told2 .given .1) in
+    λ w e. sym (compared-no-colon _ _ _ w _ _ _ (term-read (c .before .before .before .before .before)) refused)
 
 when-requires : tie.Need-when-requires
 when-requires c κs = search needs
 
 read-rule-requires : tie.Need-read-rule-requires
-read-rule-requires c κs =
-    let a = c .before .before .before .before .before .before .before .before .before .before .before .args in
-    let q = term-taken (a .sizes) (now (a .line)) (a .at) (c .before .before .before .before .before .before .before .before .before .before .before .pre .1) (sym (c .before .before .before .before .before .before .before .before .before .read-term .ensures) ∙ c .before .before .before .before .before .before .before .y .given .1) in
-    let k = literal-taken (now (a .line)) (bytes ": ") (c .before .before .before .before .before .before .before .y .given .0 .1 .0) (q .inside) (sym (c .before .before .before .before .literal .ensures) ∙ c .before .before .start .given .1) in
-    (c .before .before .before .before .before .before .before .before .before .before .before .pre .0, k .inside)
+read-rule-requires c κs = (c .before .before .before .before .before .before .before .before .before .before .before .pre .0, colon-read (c .before .before) .inside)
 
 returns-3 : tie.Need-returns-3
 returns-3 c =
     let a = c .before .before .before .before .before .before .before .before .before .before .before .before .args in
-    let q = term-taken (a .sizes) (now (a .line)) (a .at) (c .before .before .before .before .before .before .before .before .before .before .before .before .pre .1) (sym (c .before .before .before .before .before .before .before .before .before .before .read-term .ensures) ∙ c .before .before .before .before .before .before .before .before .y .given .1) in
-    let k = literal-taken (now (a .line)) (bytes ": ") (c .before .before .before .before .before .before .before .before .y .given .0 .1 .0) (q .inside) (sym (c .before .before .before .before .before .literal .ensures) ∙ c .before .before .before .start .given .1) in
+    let q = term-read (c .before .before .before .before .before .before .before .before) in
     λ w e.
     c .read-rule .ensures
-    ∙ ap (λ (t : TestParts). ruleRead t (actionRead (a .sizes) (actionForm (drop (c .before .before .before .start .given .0 .0) (now (a .line)))))) (c .before .when .ensures ∙ when-parts (a .sizes) (a .x) (a .comparison) _ w (q .written) e (q .parts))
-    ∙ rule-read (a .sizes) (W.when w (written (a .comparison)) (q .written)) _
-    ∙ sym (ap (lineRead (a .sizes)) (compared-rule (a .sizes) (now (a .line)) (a .at) w (a .comparison) _ _ q _ k))
+    ∙ rule-read (a .sizes) (W.when w (written (a .comparison)) (q .written)) _ (c .before .when .ensures ∙ when-parts _ _ _ _ w (q .written) e (q .parts))
+    ∙ sym (ap (lineRead (a .sizes)) (compared-rule _ _ _ w _ _ _ q _ (colon-read (c .before .before .before))))
 
 pub read-compared-spec : {M : Type 1} → statement M
 read-compared-spec =

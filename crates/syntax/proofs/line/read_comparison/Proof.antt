@@ -2,8 +2,6 @@
 -- Assumes nothing.
 use mathlib.Core.Path.{sym, _∙_}
 use borrow.Author.Needs.{needs}
-use denote.Ref.{now}
-use Rattle.syntax.specs.Bytes.{bytes}
 use Rattle.syntax.proofs.Words.{literal-taken, literal-refused}
 use Rattle.syntax.proofs.Reading.{less-none, less-some}
 use Rattle.syntax.proofs.line.read_comparison.Statement.{statement}
@@ -26,13 +24,12 @@ read-equal-requires c κs = search needs
 
 returns : tie.Need-returns
 returns c =
-    let a = c .before .before .before .before .before .before .args in
-    c .read-equal .ensures ∙ sym (less-none (now (a .line)) (a .at) (literal-refused (now (a .line)) (bytes " < ") (a .at) (sym (c .before .before .before .literal .ensures) ∙ c .before .enum-told .given .1)))
+    let refused = literal-refused _ _ _ (sym (c .before .before .before .literal .ensures) ∙ c .before .enum-told .given .1) in
+    c .read-equal .ensures ∙ sym (less-none _ _ refused)
 
 returns-2 : tie.Need-returns-2
 returns-2 c =
-    let a = c .before .before .before .before .before .before .args in
-    less-some (now (a .line)) (a .at) _ (literal-taken (now (a .line)) (bytes " < ") (a .at) (c .before .before .before .before .before .before .pre) (sym (c .before .before .before .literal .ensures) ∙ c .before .end .given .1))
+    less-some _ _ _ (literal-taken _ _ _ (c .before .before .before .before .before .before .pre) (sym (c .before .before .before .literal .ensures) ∙ c .before .end .given .1))
 
 pub read-comparison-spec : {M : Type 1} → statement M
 read-comparison-spec =

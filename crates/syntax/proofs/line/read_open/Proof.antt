@@ -6,10 +6,14 @@ use borrow.Author.Needs.{needs}
 use denote.Ref.{now}
 use Rattle.syntax.specs.Bytes.{bytes}
 use Rattle.syntax.specs.LineRead.{lineRead}
-use Rattle.syntax.proofs.Words.{literal-taken, literal-refused}
+use Rattle.syntax.proofs.Words.{literal-taken, literal-refused, Taken}
 use Rattle.syntax.proofs.Reading.{open-ruled, open-loop}
 use Rattle.syntax.proofs.line.read_open.Statement.{statement}
 use Rattle.syntax.proofs.line.read_open.Tie as tie
+
+-- the word that was read
+word-read : (c : tie.After-at) → Taken (now (c .before .before .before .before .before .args .line)) (bytes "loop ") 0 (c .at .given .0 .0)
+word-read c = literal-taken _ _ 0 (omega arith) (sym (c .before .before .literal .ensures) ∙ c .at .given .1)
 
 slice-aggregate-literal : tie.Need-slice-aggregate-literal
 slice-aggregate-literal c = search needs
@@ -28,18 +32,14 @@ read-ruled-requires c κs = search needs
 
 returns : tie.Need-returns
 returns c =
-    let a = c .before .before .before .before .before .before .args in
-    c .read-ruled .ensures ∙ sym (ap (lineRead (a .sizes)) (open-ruled (now (a .line)) (literal-refused (now (a .line)) (bytes "loop ") 0 (sym (c .before .before .before .literal .ensures) ∙ c .before .enum-told .given .1))))
+    let refused = literal-refused _ _ 0 (sym (c .before .before .before .literal .ensures) ∙ c .before .enum-told .given .1) in
+    c .read-ruled .ensures ∙ sym (ap (lineRead _) (open-ruled _ refused))
 
 read-loop-requires : tie.Need-read-loop-requires
-read-loop-requires c κs =
-    let a = c .before .before .before .before .before .before .args in
-    (c .before .before .before .before .before .before .pre, literal-taken (now (a .line)) (bytes "loop ") 0 (omega arith) (sym (c .before .before .before .literal .ensures) ∙ c .before .at .given .1) .inside)
+read-loop-requires c κs = (c .before .before .before .before .before .before .pre, word-read (c .before) .inside)
 
 returns-2 : tie.Need-returns-2
-returns-2 c =
-    let a = c .before .before .before .before .before .before .before .args in
-    c .read-loop .ensures ∙ sym (ap (lineRead (a .sizes)) (open-loop (now (a .line)) _ (literal-taken (now (a .line)) (bytes "loop ") 0 (omega arith) (sym (c .before .before .before .before .literal .ensures) ∙ c .before .before .at .given .1))))
+returns-2 c = c .read-loop .ensures ∙ sym (ap (lineRead _) (open-loop _ _ (word-read (c .before .before))))
 
 pub read-open-spec : {M : Type 1} → statement M
 read-open-spec =

@@ -18,7 +18,7 @@ enum-told c = search needs
 
 returns : tie.Need-returns
 unfolding ruleRead
-returns c = sym (ap (ruleRead (c .before .before .before .before .args .test)) (sym (c .before .before .read-action .ensures) ∙ c .enum-told .given .1))
+returns c = sym (ap (ruleRead _) (sym (c .before .before .read-action .ensures) ∙ c .enum-told .given .1))
 
 both-requires : tie.Need-both-requires
 both-requires c κs = search needs
@@ -26,8 +26,9 @@ both-requires c κs = search needs
 returns-2 : tie.Need-returns-2
 unfolding ruleRead
 returns-2 c =
-    ap (Rule (record { test = c .before .before .before .before .before .before .args .test .test; rule = c .before .before .rule .given .0 .0 })) (c .both .ensures)
-    ∙ sym (ap (ruleRead (c .before .before .before .before .before .before .args .test)) (sym (c .before .before .before .before .read-action .ensures) ∙ c .before .before .rule .given .1))
+    let p = c .before .before .before .before .before .before .args .test in
+    ap (Rule (record { test = p .test; rule = c .before .before .rule .given .0 .0 })) (c .both .ensures)
+    ∙ sym (ap (ruleRead p) (sym (c .before .before .before .before .read-action .ensures) ∙ c .before .before .rule .given .1))
 
 pub read-rule-spec : {M : Type 1} → statement M
 read-rule-spec =

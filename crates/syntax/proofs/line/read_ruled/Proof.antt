@@ -6,14 +6,15 @@ use borrow.Author.Needs.{needs}
 use denote.Ref.{now}
 use Rattle.syntax.specs.Bytes.{bytes}
 use Rattle.syntax.specs.Written as W
-use Rattle.syntax.specs.Line.{actionForm}
-use Rattle.syntax.specs.ActionRead.{actionRead}
-use Rattle.syntax.specs.LineRead.{ruleRead, lineRead}
-use Rattle.syntax.specs.declared.line.TestParts.{TestParts}
-use Rattle.syntax.proofs.Words.{literal-taken, literal-refused}
+use Rattle.syntax.specs.LineRead.{lineRead}
+use Rattle.syntax.proofs.Words.{literal-taken, literal-refused, Taken}
 use Rattle.syntax.proofs.Reading.{rule-read, always-parts, ruled-plain, ruled-tested}
 use Rattle.syntax.proofs.line.read_ruled.Statement.{statement}
 use Rattle.syntax.proofs.line.read_ruled.Tie as tie
+
+-- the word that was read
+word-read : (c : tie.After-at) → Taken (now (c .before .before .before .before .before .args .line)) (bytes "if ") 0 (c .at .given .0 .0)
+word-read c = literal-taken _ _ 0 (omega arith) (sym (c .before .before .literal .ensures) ∙ c .at .given .1)
 
 slice-aggregate-literal : tie.Need-slice-aggregate-literal
 slice-aggregate-literal c = search needs
@@ -35,21 +36,15 @@ read-rule-requires c κs = search needs
 
 returns : tie.Need-returns
 returns c =
-    let a = c .before .before .before .before .before .before .before .args in
-    c .read-rule .ensures
-    ∙ ap (λ (t : TestParts). ruleRead t (actionRead (a .sizes) (actionForm (now (a .line))))) (c .before .always .ensures ∙ always-parts (a .sizes))
-    ∙ rule-read (a .sizes) W.always (actionForm (now (a .line)))
-    ∙ sym (ap (lineRead (a .sizes)) (ruled-plain (now (a .line)) (literal-refused (now (a .line)) (bytes "if ") 0 (sym (c .before .before .before .before .literal .ensures) ∙ c .before .before .enum-told .given .1))))
+    let s = c .before .before .before .before .before .before .before .args .sizes in
+    let refused = literal-refused _ _ 0 (sym (c .before .before .before .before .literal .ensures) ∙ c .before .before .enum-told .given .1) in
+    c .read-rule .ensures ∙ rule-read s W.always _ (c .before .always .ensures ∙ always-parts s) ∙ sym (ap (lineRead s) (ruled-plain _ refused))
 
 read-tested-requires : tie.Need-read-tested-requires
-read-tested-requires c κs =
-    let a = c .before .before .before .before .before .before .args in
-    (c .before .before .before .before .before .before .pre, literal-taken (now (a .line)) (bytes "if ") 0 (omega arith) (sym (c .before .before .before .literal .ensures) ∙ c .before .at .given .1) .inside)
+read-tested-requires c κs = (c .before .before .before .before .before .before .pre, word-read (c .before) .inside)
 
 returns-2 : tie.Need-returns-2
-returns-2 c =
-    let a = c .before .before .before .before .before .before .before .args in
-    c .read-tested .ensures ∙ sym (ap (lineRead (a .sizes)) (ruled-tested (now (a .line)) _ (literal-taken (now (a .line)) (bytes "if ") 0 (omega arith) (sym (c .before .before .before .before .literal .ensures) ∙ c .before .before .at .given .1))))
+returns-2 c = c .read-tested .ensures ∙ sym (ap (lineRead _) (ruled-tested _ _ (word-read (c .before .before))))
 
 pub read-ruled-spec : {M : Type 1} → statement M
 read-ruled-spec =

@@ -2,8 +2,6 @@
 -- Assumes nothing.
 use mathlib.Core.Path.{sym, _∙_}
 use borrow.Author.Needs.{needs}
-use denote.Ref.{now}
-use Rattle.syntax.specs.Bytes.{bytes}
 use Rattle.syntax.proofs.Words.{literal-taken, literal-refused}
 use Rattle.syntax.proofs.Reading.{unequal-none, unequal-some}
 use Rattle.syntax.proofs.line.read_unequal.Statement.{statement}
@@ -22,14 +20,11 @@ enum-told : tie.Need-enum-told
 enum-told c = search needs
 
 returns : tie.Need-returns
-returns c =
-    let a = c .before .before .before .before .before .args in
-    sym (unequal-none (now (a .line)) (a .at) (literal-refused (now (a .line)) (bytes " != ") (a .at) (sym (c .before .before .literal .ensures) ∙ c .enum-told .given .1)))
+returns c = sym (unequal-none _ _ (literal-refused _ _ _ (sym (c .before .before .literal .ensures) ∙ c .enum-told .given .1)))
 
 returns-2 : tie.Need-returns-2
 returns-2 c =
-    let a = c .before .before .before .before .before .before .args in
-    unequal-some (now (a .line)) (a .at) _ (literal-taken (now (a .line)) (bytes " != ") (a .at) (c .before .before .before .before .before .before .pre) (sym (c .before .before .before .literal .ensures) ∙ c .before .end .given .1))
+    unequal-some _ _ _ (literal-taken _ _ _ (c .before .before .before .before .before .before .pre) (sym (c .before .before .before .literal .ensures) ∙ c .before .end .given .1))
 
 pub read-unequal-spec : {M : Type 1} → statement M
 read-unequal-spec =

@@ -22,7 +22,7 @@ a-digit : (c : tie.Then1 Inv-loop μ-loop) → startsDigit (drop (c .before .bef
 a-digit c = sym (c .before .digit-at .ensures) ∙ c .if1 .taken
 
 inside : (c : tie.Then1 Inv-loop μ-loop) → c .before .before .loop .i < length (now (c .before .before .before .before .args .line))
-inside c = digit-inside (now (c .before .before .before .before .args .line)) (c .before .before .loop .i) (a-digit c)
+inside c = digit-inside _ _ (a-digit c)
 
 loop-holds : tie.Need-loop-holds Inv-loop μ-loop
 loop-holds c = record { inside = c .before .pre; small = omega arith; same = refl; place = refl }
@@ -34,7 +34,9 @@ shared-slice-read-with-digit : tie.Need-shared-slice-read-with-digit Inv-loop μ
 shared-slice-read-with-digit c = inside (c .before)
 
 with-digit-requires : tie.Need-with-digit-requires Inv-loop μ-loop
-with-digit-requires c κs = (c .before .before .before .loop .inv .small, digit-here (now (c .before .before .before .before .before .args .line)) (c .before .before .before .loop .i) (a-digit (c .before)))
+with-digit-requires c κs =
+    let l = c .before .before .before .loop in
+    (l .inv .small, digit-here (now (c .before .before .before .before .before .args .line)) (l .i) (a-digit (c .before)))
 
 add-i : tie.Need-add-i Inv-loop μ-loop
 add-i c = record { fits = omega (arith, inside (c .before .before)) }

@@ -19,33 +19,27 @@ digits-at-requires : tie.Need-digits-at-requires
 digits-at-requires c κs = search needs
 
 returns : tie.Need-returns
-returns c =
-    let a = c .before .before .before .args in
-    sym (read-empty (a .at) (a .negative) (drop (a .at) (now (a .line))) (omega (arith, c .before .digits-at .ensures .end-is, c .if1 .taken)))
+returns c = sym (read-empty _ _ _ (omega (arith, c .before .digits-at .ensures .end-is, c .if1 .taken)))
 
 shared-slice-read-if2 : tie.Need-shared-slice-read-if2
-shared-slice-read-if2 c =
-    let a = c .before .before .before .before .args in
-    digits-inside (now (a .line)) (a .at) (c .before .before .digits-at .result .end) (c .before .before .digits-at .ensures .end-is) (c .before .if1 .left)
+shared-slice-read-if2 c = digits-inside _ _ _ (c .before .before .digits-at .ensures .end-is) (c .before .if1 .left)
 
 sub-if2 : tie.Need-sub-if2
 sub-if2 c = search needs
 
 returns-2 : tie.Need-returns-2
 returns-2 c =
-    let a = c .before .before .before .before .before .args in
-    let d = c .before .before .before .digits-at in
-    sym (read-unformed (a .at) (a .negative) (drop (a .at) (now (a .line))) (numeral-at (now (a .line)) (a .at) (d .result .end) (a .negative) (d .ensures .end-is) (c .before .before .if1 .left) ∙ ap not (c .if2 .taken)))
+    sym (read-unformed _ _ _ (numeral-at _ _ _ _ (c .before .before .before .digits-at .ensures .end-is) (c .before .before .if1 .left) ∙ ap not (c .if2 .taken)))
 
 signed-value-requires : tie.Need-signed-value-requires
-signed-value-requires c κs = omega (arith, c .before .before .before .digits-at .ensures .value-is, capped-bound (decimal 0 (digits (drop (c .before .before .before .before .before .args .at) (now (c .before .before .before .before .before .args .line))))))
+signed-value-requires c κs = rw (c .before .before .before .digits-at .ensures .value-is) (capped-bound _)
 
 returns-3 : tie.Need-returns-3
 returns-3 c =
-    let a = c .before .before .before .before .before .before .args in
-    let d = c .before .before .before .before .digits-at in
-    ap₂ Number (toZ-ofZ {w = w64} (record { sfits = c .signed-value .ok }) ∙ c .signed-value .ensures ∙ ap (signedValue (a .negative)) (d .ensures .value-is)) (d .ensures .end-is)
-    ∙ sym (read-formed (a .at) (a .negative) (drop (a .at) (now (a .line))) (numeral-at (now (a .line)) (a .at) (d .result .end) (a .negative) (d .ensures .end-is) (c .before .before .before .if1 .left) ∙ ap not (c .before .if2 .left)))
+    let d = c .before .before .before .before .digits-at .ensures in
+    let value = toZ-ofZ {w = w64} (record { sfits = c .signed-value .ok }) ∙ c .signed-value .ensures ∙ ap (signedValue _) (d .value-is) in
+    ap₂ Number value (d .end-is)
+    ∙ sym (read-formed _ _ _ (numeral-at _ _ _ _ (d .end-is) (c .before .before .before .if1 .left) ∙ ap not (c .before .if2 .left)))
 
 pub signed-digits-spec : {M : Type 1} → statement M
 signed-digits-spec =

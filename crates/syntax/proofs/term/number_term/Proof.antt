@@ -29,7 +29,8 @@ returns-2 : tie.Need-returns-2
 unfolding numberTerm
 returns-2 c =
     let v = c .before .before .read .given in
-    ap (λ (p : TermParts). Parts p (v .0 .1 .0)) (c .number-parts .ensures ∙ ap (λ (z : ℤ). numberParts (sumOf z)) (toZ-ofZ {w = w64} (record { sfits = c .before .known-told .given .0 .1 })))
+    let value = toZ-ofZ {w = w64} (record { sfits = c .before .known-told .given .0 .1 }) in
+    ap (λ (p : TermParts). Parts p (v .0 .1 .0)) (c .number-parts .ensures ∙ ap (λ (z : ℤ). numberParts (sumOf z)) value)
     ∙ sym (ap numberTerm (v .1))
 
 pub number-term-spec : {M : Type 1} → statement M

@@ -31,16 +31,16 @@ number-term-requires c κs = search needs
 
 returns : tie.Need-returns
 returns c =
-    let a = c .before .before .before .before .before .before .args in
     c .number-term .ensures
     ∙ ap numberTerm (c .before .read-number .ensures)
-    ∙ number-term (a .sizes) (a .at) (numberForm (drop (a .at) (now (a .line))))
-    ∙ scan-none (a .sizes) (a .at) (drop (a .at) (now (a .line))) (sym (c .before .before .before .before .scan .ensures) ∙ c .before .before .enum-told .given .1)
+    ∙ number-term _ _ _
+    ∙ scan-none _ _ _ (sym (c .before .before .before .before .scan .ensures) ∙ c .before .before .enum-told .given .1)
 
 shared-slice-read-chain-parts : tie.Need-shared-slice-read-chain-parts
 shared-slice-read-chain-parts c =
     let a = c .before .before .before .before .before .before .args in
-    omega (arith, length-drop (a .at) (now (a .line)), scan-text (a .sizes) (a .at) (drop (a .at) (now (a .line))) (sym (c .before .before .before .before .scan .ensures) ∙ c .before .before .letters .given .1))
+    let text = scan-text _ _ _ (sym (c .before .before .before .before .scan .ensures) ∙ c .before .before .letters .given .1) in
+    omega (arith, length-drop (a .at) (now (a .line)), text)
 
 chain-parts-requires : tie.Need-chain-parts-requires
 chain-parts-requires c κs = search needs
@@ -50,7 +50,7 @@ returns-2 c =
     let a = c .before .before .before .before .before .before .before .args in
     let l = c .before .before .before .letters .given in
     ap (λ (p : TermParts). Parts p (l .0 .1 .0)) (c .chain-parts .ensures ∙ ap (chainParts (l .0 .0)) (sym (first-at (now (a .line)) (a .at))))
-    ∙ scan-chain (a .sizes) (a .at) (drop (a .at) (now (a .line))) (sym (c .before .before .before .before .before .scan .ensures) ∙ l .1)
+    ∙ scan-chain _ _ _ (sym (c .before .before .before .before .before .scan .ensures) ∙ l .1)
 
 pub read-term-spec : {M : Type 1} → statement M
 read-term-spec =

@@ -21,7 +21,7 @@ abbrev μ-loop : tie.MeasureT-loop
 μ-loop text at word i₀ i = length word - i
 
 loop-holds : tie.Need-loop-holds Inv-loop μ-loop
-loop-holds c = left-all (now (c .before .before .args .word)) (now (c .before .before .args .line)) (c .before .before .args .at) (c .before .before .pre)
+loop-holds c = left-all _ _ _ (c .before .before .pre)
 
 add-starts-with : tie.Need-add-starts-with Inv-loop μ-loop
 add-starts-with c = record { fits = omega (arith, c .before .loop .inv .inside) }
@@ -34,9 +34,7 @@ starts-with-requires c κs = tt
 
 returns : tie.Need-returns Inv-loop μ-loop
 returns c =
-    let a = c .before .before .before .before .before .before .before .args in
-    let l = c .before .before .before .before .loop in
-    sym (literal-nothing (a .at) (now (a .word)) (drop (a .at) (now (a .line))) (left-fails (now (a .word)) (now (a .line)) (a .at) (l .i) (l .inv) (omega arith) (sym (c .before .starts-with .ensures) ∙ not-true _ (c .if1 .taken))))
+    sym (literal-nothing _ _ _ (left-fails _ _ _ _ (c .before .before .before .before .loop .inv) (omega arith) (sym (c .before .starts-with .ensures) ∙ not-true _ (c .if1 .taken))))
 
 add-i : tie.Need-add-i Inv-loop μ-loop
 add-i c = omega arith
@@ -49,17 +47,16 @@ loop-again c =
     let a = c .before .before .before .before .before .before .before .args in
     let l = c .before .before .before .before .loop in
     let here : startsWith (getD (now (a .word)) (l .i) 0) (drop (a .at + l .i) (now (a .line))) ≡ true = sym (c .before .starts-with .ensures) ∙ not-false _ (c .if1 .left) in
-    left-more (now (a .word)) (now (a .line)) (a .at) (l .i) (l .inv) (omega arith) (starts-inside (now (a .line)) (a .at + l .i) _ here) here
+    left-more _ _ _ _ (l .inv) (omega arith) (starts-inside _ _ _ here) here
 
 add-t10 : tie.Need-add-t10 Inv-loop μ-loop
 add-t10 c = record { fits = omega (arith, c .before .loop .inv .inside) }
 
 returns-2 : tie.Need-returns-2 Inv-loop μ-loop
 returns-2 c =
-    let a = c .before .before .before .before .args in
     let l = c .before .loop in
-    let whole : l .i ≡ length (now (a .word)) = omega (arith, l .inv .within) in
-    ap (λ (n : ℕ). At (a .at + n)) whole ∙ sym (literal-at (a .at) (now (a .word)) (drop (a .at) (now (a .line))) (left-none (now (a .word)) (now (a .line)) (a .at) (l .i) (l .inv) (omega arith)))
+    let whole : l .i ≡ length (now (c .before .before .before .before .args .word)) = omega (arith, l .inv .within) in
+    rw whole (sym (literal-at _ _ _ (left-none _ _ _ _ (l .inv) (omega arith))))
 
 pub literal-spec : {M : Type 1} → statement M
 literal-spec =
