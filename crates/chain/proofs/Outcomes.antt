@@ -8,10 +8,10 @@ use Rattle.register.specs.Outcome.{Outcome, done, refused, unless, after}
 use Rattle.register.specs.File.{cellsOfFile}
 use Rattle.register.specs.Load.{load}
 use Rattle.register.specs.declared.Sizes.{Sizes}
-use Rattle.chain.specs.Word.{valueAtRecord}
+use Rattle.chain.specs.Word.{Passes, valueAtRecord}
 use Rattle.chain.specs.Text.{Form, formed, unformed, form, lettersRefusal, wordOf}
 use Rattle.chain.specs.Reading.{wordOfForm, atRecord, readingLoaded, reading}
-use Rattle.chain.proofs.Passing.{Passes, letters-pass}
+use Rattle.chain.proofs.Passing.{letters-pass}
 
 not-done : {A B : Type 0} {o : Outcome A} {a : A} {k l : ℕ} → o ≡ refused k l → o ≡ done a → B
 not-done p q = absurd (let z : _≡_ {A = ℕ} 0 1 = cc in omega arith)

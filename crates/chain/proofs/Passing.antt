@@ -12,18 +12,18 @@ use lib.Seq.{take-all}
 use Rattle.register.specs.Shape.{Limits}
 use Rattle.register.specs.declared.Sizes.{Sizes}
 use Rattle.integers.proofs.Bools.{and-both, and-true}
-use Rattle.chain.specs.Word.{hasField, readable, pack, unpack}
+use Rattle.chain.specs.Word.{hasField, readable, Passes, pack, unpack}
 use Rattle.chain.specs.Text.{fieldOf, names, every, isReferenceLetter, innerReferences, lettersRefusal, wordOf}
 use Rattle.chain.proofs.Packing.{Kinded, none, last, more, unpack-pack}
 
 -- the field of a letter that names one
-reference-field : (s : Sizes) (l : ℕ) → names s l ≡ true → isReferenceLetter l ≡ true → fieldOf l < s .references
+pub reference-field : (s : Sizes) (l : ℕ) → names s l ≡ true → isReferenceLetter l ≡ true → fieldOf l < s .references
 unfolding names isReferenceLetter fieldOf
 reference-field s l n r =
     let both = and-both (leb 65 l) (ltb l (65 + s .references)) (sym (ap (λ (t : Bool). cond t (leb 65 l && ltb l (65 + s .references)) (ltb l (77 + s .measures))) r) ∙ n) in
     rw r (omega (arith, leb-true 65 l (both .0), ltb-true l (65 + s .references) (both .1)))
 
-measure-field : (s : Sizes) (l : ℕ) → names s l ≡ true → isReferenceLetter l ≡ false → (8 ≤ fieldOf l) × (fieldOf l < 8 + s .measures)
+pub measure-field : (s : Sizes) (l : ℕ) → names s l ≡ true → isReferenceLetter l ≡ false → (8 ≤ fieldOf l) × (fieldOf l < 8 + s .measures)
 unfolding names isReferenceLetter fieldOf
 measure-field s l n r =
     let low : 77 ≤ l = ltb-false l 77 r in
@@ -37,7 +37,7 @@ or-right : (a : Bool) {b : Bool} → b ≡ true → a || b ≡ true
 or-right true h = refl
 or-right false h = h
 
-named-field : (s : Sizes) (l : ℕ) → names s l ≡ true → hasField s (fieldOf l) ≡ true
+pub named-field : (s : Sizes) (l : ℕ) → names s l ≡ true → hasField s (fieldOf l) ≡ true
 unfolding hasField
 named-field s l n = go (isReferenceLetter l) refl
   where
@@ -135,10 +135,6 @@ module _ (s : Sizes) (ls : List ℕ) where
           ∙ unpack-pack (readable-kinded s l (wordOf ls) letters-readable)
 
 -- a chain that passes
-pub record Passes (s : Sizes) (w : List ℕ) : Type 0 where
-  pub follows : readable s w ≡ true
-  pub short : length w ≤ 16
-
 pub letters-pass : (s : Sizes) (ls : List ℕ) → lettersRefusal s ls ≡ 0 → Passes s (wordOf ls)
 letters-pass s ls e = go (every (names s) ls) refl (innerReferences ls) refl (ltb 16 (length ls)) refl
   where

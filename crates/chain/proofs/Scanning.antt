@@ -176,7 +176,8 @@ module _ (s : Sizes) (k : ℕ) (x : Letters) (at : ℕ) (t : List ℕ) where
       go false u false ho d = answers-differ (first-none s k x at t u ho) e
 
 -- the packed number stays small
-pub step-small : (s : Sizes) (k : ℕ) (x : Letters) (l : ℕ) → isCapital l ≡ true → k ≢ 0 → k ≤ 16 → x .packed + 5 ≤ 5 * 8 ^ (16 - k) → step s k x l .packed + 5 ≤ 5 * 8 ^ (16 - (k - 1))
+pub step-small : (s : Sizes) (k : ℕ) (x : Letters) (l : ℕ) → isCapital l ≡ true → k ≢ 0 → k ≤ 16
+    → x .packed + 5 ≤ 5 * 8 ^ (16 - k) → step s k x l .packed + 5 ≤ 5 * 8 ^ (16 - (k - 1))
 unfolding step
 step-small s k x l cap h hk small =
     let e : suc (16 - k) ≡ 16 - (k - 1) = omega arith in

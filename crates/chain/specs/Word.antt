@@ -1,16 +1,18 @@
 -- A chain as its hop word: the fields from the inside out. Fields 0 to 7 are the references A to H, 8 to 15 the measures
 -- M to T. A word packed into one number is how programs and plans hold a chain.
-use Prim.Native.Nat.{ℕ, zero, suc, _+_, _-_, _*_, _/_, _%_}
+use Prim.Native.Nat.{ℕ, zero, suc, _+_, _-_, _*_, _/_, _%_, _≤_}
+use mathlib.Core.Path.{_≡_}
 use mathlib.Core.Bool.{Bool, true, cond, _&&_, _||_}
 use mathlib.Core.List.{List, [], _∷_}
 use lib.Dec.{leb, ltb, eqb}
 use lib.IntN.{pos, natAbs}
-use lib.ListN.{getD}
+use lib.ListN.{length, getD}
 use Rattle.register.specs.File.{cellIndex}
 use Rattle.register.specs.declared.Sizes.{Sizes}
 use Rattle.register.specs.declared.cells.Cell.{Cell}
 use Rattle.register.specs.declared.cells.Cell.the-variants.{Missing, Value}
 
+-- whether a field is one of the references A to H
 unfoldable pub isReference : ℕ → Bool
 isReference f = ltb f 8
 
@@ -23,6 +25,11 @@ unfoldable pub readable : Sizes → List ℕ → Bool
 readable s [] = true
 readable s (f ∷ []) = hasField s f
 readable s (f ∷ g ∷ w) = ltb f (s .references) && readable s (g ∷ w)
+
+-- a word that can be followed, of at most 16 hops
+pub record Passes (s : Sizes) (w : List ℕ) : Type 0 where
+  pub follows : readable s w ≡ true
+  pub short : length w ≤ 16
 
 -- the column of a field: "reference fields first"
 unfoldable pub column : Sizes → ℕ → ℕ
@@ -50,6 +57,7 @@ valueAtRecord s cells w u = follow s cells (Value (pos u)) w
 unfoldable pub push : ℕ → ℕ → ℕ
 push n f = cond (eqb n 0) (f + 1) (f + 8 * n + 9)
 
+-- a word packed into one number
 unfoldable pub pack : List ℕ → ℕ
 pack [] = 0
 pack (f ∷ w) = push (pack w) f
@@ -62,5 +70,6 @@ unpackWithin (suc k) n =
     (cond (leb n 16) ((n - 1) ∷ [])
     (((n - 9) % 8) ∷ unpackWithin k ((n - 9) / 8)))
 
+-- the word of a packed number
 unfoldable pub unpack : ℕ → List ℕ
 unpack n = unpackWithin n n

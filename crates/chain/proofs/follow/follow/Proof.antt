@@ -41,13 +41,14 @@ enum-told c = search needs
 returns : tie.Need-returns Inv-loop μ-loop
 returns c =
     let l = c .before .before .before .before in
-    hop-missing (c .before .before .before .before .before .before .before .pre .1) (l .loop .inv) (c .before .before .before .loop-test .taken) (sym (c .before .before .cell-of .ensures) ∙ c .enum-told .given .1)
+    hop-missing (l .before .before .before .pre .1) (l .loop .inv) (c .before .before .before .loop-test .taken) (sym (c .before .before .cell-of .ensures) ∙ c .enum-told .given .1)
 
 index-requires : tie.Need-index-requires Inv-loop μ-loop
 index-requires c κs =
     let l = c .before .before .before .before .before in
-    rw (kept (c .before .value .given .0 .0) (c .known-told .given .0 .1))
-    (hop-index (c .before .before .before .before .before .before .before .before .pre .1) (l .loop .inv) (c .before .before .before .before .loop-test .taken) (c .before .value .given .0 .0) (sym (c .before .before .before .cell-of .ensures) ∙ c .before .value .given .1))
+    let v = c .before .value .given in
+    rw (kept (v .0 .0) (c .known-told .given .0 .1))
+    (hop-index (l .before .before .before .pre .1) (l .loop .inv) (c .before .before .before .before .loop-test .taken) (v .0 .0) (sym (c .before .before .before .cell-of .ensures) ∙ v .1))
 
 sub-rest : tie.Need-sub-rest Inv-loop μ-loop
 sub-rest c = omega arith
@@ -58,9 +59,9 @@ loop-less c = omega arith
 loop-again : tie.Need-loop-again Inv-loop μ-loop
 loop-again c =
     let l = c .before .before .before .before .before .before in
-    let z = c .before .before .value .given .0 .0 in
-    hop-on (c .before .before .before .before .before .before .before .before .before .pre .1) (l .loop .inv) (c .before .before .before .before .before .loop-test .taken) z (c .index .result) (sym (c .before .before .before .before .cell-of .ensures) ∙ c .before .before .value .given .1)
-    (c .index .ensures ∙ ap natAbs (kept z (c .before .known-told .given .0 .1)))
+    let v = c .before .before .value .given in
+    hop-on (l .before .before .before .pre .1) (l .loop .inv) (c .before .before .before .before .before .loop-test .taken) (v .0 .0) (c .index .result) (sym (c .before .before .before .before .cell-of .ensures) ∙ v .1)
+    (c .index .ensures ∙ ap natAbs (kept (v .0 .0) (c .before .known-told .given .0 .1)))
 
 of-index-requires : tie.Need-of-index-requires Inv-loop μ-loop
 of-index-requires c κs = omega (arith, c .before .before .loop .inv .inside, c .before .before .before .before .before .pre .0 .limits .records≤)
@@ -75,7 +76,8 @@ cell-of-requires-2 c κs =
 
 returns-2 : tie.Need-returns-2 Inv-loop μ-loop
 returns-2 c =
-    ap Value (kept (c .of-index .result) (c .of-index .ok) ∙ c .of-index .ensures) ∙ end-own (c .before .before .before .before .before .before .pre .1) (c .before .before .before .loop .inv) (c .before .if1 .taken)
+    let l = c .before .before .before in
+    ap Value (kept (c .of-index .result) (c .of-index .ok) ∙ c .of-index .ensures) ∙ end-own (l .before .before .before .pre .1) (l .loop .inv) (c .before .if1 .taken)
 
 returns-3 : tie.Need-returns-3 Inv-loop μ-loop
 returns-3 c =

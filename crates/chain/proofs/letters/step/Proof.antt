@@ -23,8 +23,8 @@ returns c = step-full _ _ _ _ _ (c .before .before .names-field .ensures) (c .if
 
 returns-2 : tie.Need-returns-2
 returns-2 c =
-    let s = c .before .before .before .before .before .before .before in
-    step-room _ _ _ _ _ (c .before .before .before .before .names-field .ensures) _ (c .push .ensures ∙ ap (push (s .args .letters .packed)) (c .before .field-of .ensures)) (c .before .before .if1 .left)
+    let packed = c .push .ensures ∙ ap (push (c .before .before .before .before .before .before .before .args .letters .packed)) (c .before .field-of .ensures) in
+    step-room _ _ _ _ _ (c .before .before .before .before .names-field .ensures) _ packed (c .before .before .if1 .left)
 
 pub step-spec : {M : Type 1} → statement M
 step-spec =

@@ -2,7 +2,6 @@
 -- Assumes nothing.
 use mathlib.Core.Path.{sym, ap, _∙_}
 use borrow.Author.Needs.{needs}
-use denote.Ref.{now}
 use Rattle.chain.specs.Reading.{chainOutcome, refusalNumber}
 use Rattle.chain.proofs.Judging.{chain-none, chain-rest, chain-whole}
 use Rattle.chain.proofs.reading.chain_of.Statement.{statement}
@@ -19,24 +18,19 @@ enum-told c = search needs
 
 returns : tie.Need-returns
 unfolding chainOutcome refusalNumber
-returns c =
-    let a = c .before .before .before .before .args in
-    chain-none (a .sizes) (now (a .text)) (sym (c .before .before .scan .ensures) ∙ c .enum-told .given .1)
+returns c = chain-none _ _ (sym (c .before .before .scan .ensures) ∙ c .enum-told .given .1)
 
 judged-requires : tie.Need-judged-requires
 judged-requires c κs = search needs
 
 returns-2 : tie.Need-returns-2
 returns-2 c =
-    let a = c .before .before .before .before .before .before .before .args in
-    ap chainOutcome (c .judged .ensures)
-    ∙ chain-whole (a .sizes) (now (a .text)) (sym (c .before .before .before .before .before .scan .ensures) ∙ c .before .before .before .letters .given .1) (c .before .before .before .before .before .before .before .pre) (c .before .if1 .taken)
+    let scanned = sym (c .before .before .before .before .before .scan .ensures) ∙ c .before .before .before .letters .given .1 in
+    ap chainOutcome (c .judged .ensures) ∙ chain-whole _ _ scanned (c .before .before .before .before .before .before .before .pre) (c .before .if1 .taken)
 
 returns-3 : tie.Need-returns-3
 unfolding chainOutcome refusalNumber
-returns-3 c =
-    let a = c .before .before .before .before .before .before .args in
-    chain-rest (a .sizes) (now (a .text)) (sym (c .before .before .before .before .scan .ensures) ∙ c .before .before .letters .given .1) (c .if1 .left)
+returns-3 c = chain-rest _ _ (sym (c .before .before .before .before .scan .ensures) ∙ c .before .before .letters .given .1) (c .if1 .left)
 
 pub chain-of-spec : {M : Type 1} → statement M
 chain-of-spec =

@@ -15,6 +15,7 @@ use Rattle.chain.specs.Text.{form}
 use Rattle.chain.specs.Word.{unpack, valueAtRecord}
 use Rattle.chain.specs.Reading.{wordOfForm, chainOutcome, readingOutcome}
 use Rattle.chain.proofs.Outcomes.{word-passes, loaded-refused, loaded-record, loaded-read}
+use Rattle.register.specs.declared.cells.Cell.{Cell}
 use Rattle.chain.proofs.reading.read_loaded.Statement.{statement}
 use Rattle.chain.proofs.reading.read_loaded.Tie as tie
 
@@ -24,12 +25,13 @@ loaded c = loads (c .args .sizes) (now (c .args .file)) (c .pre)
 bytes : (c : tie.After-shared-slice-known) → Bytes (now (c .before .args .file))
 bytes c i = let f = c .shared-slice-known .given i in f .fits
 
-valid : (c : tie.After-shared-slice-known) → Valid (c .before .args .sizes) (cellsOf (valuesPart (c .before .args .sizes) (now (c .before .args .file))) (marksPart (c .before .args .sizes) (now (c .before .args .file))))
+valid : (c : tie.After-shared-slice-known) → let a = c .before .args in
+    Valid (a .sizes) (cellsOf (valuesPart (a .sizes) (now (a .file))) (marksPart (a .sizes) (now (a .file))))
 unfolding cellsOfFile
-valid c = cells-valid (c .before .args .sizes) (now (c .before .args .file)) (bytes c) (loaded (c .before))
+valid c = cells-valid _ _ (bytes c) (loaded (c .before))
 
 -- the word of a chain that passes
-word : (c : tie.After-chain) → wordOfForm (c .before .before .before .before .before .args .sizes) (form (now (c .before .before .before .before .before .args .text))) ≡ done (unpack (c .chain .given .0 .0))
+word : (c : tie.After-chain) → let a = c .before .before .before .before .before .args in wordOfForm (a .sizes) (form (now (a .text))) ≡ done (unpack (c .chain .given .0 .0))
 unfolding chainOutcome
 word c = sym (c .before .before .chain-of .ensures) ∙ ap chainOutcome (c .chain .given .1)
 
@@ -44,9 +46,7 @@ enum-known-chain c = search needs
 
 returns : tie.Need-returns
 unfolding readingOutcome
-returns c =
-    let a = c .before .before .before .before .before .before .before .args in
-    sym (loaded-record (a .sizes) (now (a .file)) (now (a .text)) (a .u) (word (c .before .before)) (c .if1 .taken))
+returns c = sym (loaded-record _ _ _ _ (word (c .before .before)) (c .if1 .taken))
 
 values-part-requires : tie.Need-values-part-requires
 values-part-requires c κs = let l = loaded (c .before .before .before .before .before .before .before) in (limits _ (l .within), l .whole)
@@ -56,29 +56,30 @@ marks-part-requires c κs = let l = loaded (c .before .before .before .before .b
 
 follow-requires : tie.Need-follow-requires
 follow-requires c κs =
-    let s = c .before .before .before .before .before .before .before .before .before in
+    let k = c .before .before .before .before .before .before .before .before in
+    let s = k .before in
     let v = sym (c .before .values-part .ensures) in
     let m = sym (c .marks-part .ensures) in (
-      subst₂ (Parts (s .args .sizes)) v m (file-is (s .args .sizes) (now (s .args .file)) (bytes (c .before .before .before .before .before .before .before .before)) (loaded s)),
-      subst₂ (λ (x y : List ℕ). Valid (s .args .sizes) (cellsOf x y)) v m (valid (c .before .before .before .before .before .before .before .before)),
+      subst₂ (Parts (s .args .sizes)) v m (file-is _ _ (bytes k) (loaded s)),
+      subst₂ (λ (x y : List ℕ). Valid (s .args .sizes) (cellsOf x y)) v m (valid k),
       c .before .before .if1 .left,
-      word-passes (s .args .sizes) (form (now (s .args .text))) (word (c .before .before .before .before)) .follows,
+      word-passes _ _ (word (c .before .before .before .before)) .follows,
     )
 
 returns-2 : tie.Need-returns-2
 unfolding readingOutcome chainOutcome
 returns-2 c =
-    let a = c .before .before .before .before .before .before .args in
-    sym (loaded-refused (a .sizes) (now (a .file)) (now (a .text)) (a .u) (sym (c .before .before .before .chain-of .ensures) ∙ ap chainOutcome (c .before .refusal .given .1)))
+    let refused = sym (c .before .before .before .chain-of .ensures) ∙ ap chainOutcome (c .before .refusal .given .1) in
+    sym (loaded-refused _ _ _ _ refused)
 
 returns-3 : tie.Need-returns-3
 unfolding readingOutcome cellsOfFile
 returns-3 c =
     let a = c .before .before .before .before .before .before .before .before .before .before .args in
-    ap done
-    (c .follow .ensures
-    ∙ ap₂ (λ (x y : List ℕ). valueAtRecord (a .sizes) (cellsOf x y) (unpack (c .before .before .before .before .before .chain .given .0 .0)) (a .u)) (c .before .before .values-part .ensures) (c .before .marks-part .ensures))
-    ∙ sym (loaded-read (a .sizes) (now (a .file)) (now (a .text)) (a .u) (word (c .before .before .before .before .before)) (c .before .before .before .if1 .left))
+    let w = unpack (c .before .before .before .before .before .chain .given .0 .0) in
+    let cells = ap₂ cellsOf (c .before .before .values-part .ensures) (c .before .marks-part .ensures) in
+    ap done (c .follow .ensures ∙ ap (λ (l : List Cell). valueAtRecord (a .sizes) l w (a .u)) cells)
+    ∙ sym (loaded-read _ (now (a .file)) _ _ (word (c .before .before .before .before .before)) (c .before .before .before .if1 .left))
 
 pub read-loaded-spec : {M : Type 1} → statement M
 read-loaded-spec =

@@ -30,135 +30,9 @@ read-at t = and 1 read-kinds.ps (is 1 read-kinds.ps μ-read t) read.Pre
 abbrev read-below : ℕ → In 1 read-kinds.ps
 read-below t = and 1 read-kinds.ps (falls 1 read-kinds.ps _<_ μ-read t) read.Pre
 
--- what is known where the recursive call stands: a letter opens, and the call looks inside the text
-module _ (t : ℕ) (c : read-lts.After-known-told2 (
-  first-reads.Asked,
-  first-reads.Learnt,
-  read-below t,
-  read.Post,
-  closed-reads.Asked,
-  closed-reads.Learnt,
-) (read-at t) read.Post) where
-  opened : Opening′ (c .before .before .before .before .before .args .sizes) (c .before .before .before .before .before .args .room) (c .before .before .before .before .before .args .letters) (drop (c .before .before .before .before .before .args .at) (now (c .before .before .before .before .before .args .text))) (c .before .next .given .0 .0)
-  opened = first-opening _ _ _ (c .before .before .before .before .before .args .at) _ (sym (c .before .before .before .first .ensures) ∙ c .before .next .given .1)
-
-  inside : c .before .before .before .before .before .args .at + 1 < length (now (c .before .before .before .before .before .args .text))
-  inside = opens-inside (now (c .before .before .before .before .before .args .text)) (c .before .before .before .before .before .args .at) (opened .opening)
-
-  letter : isCapital (getD (drop (c .before .before .before .before .before .args .at) (now (c .before .before .before .before .before .args .text))) 0 0) ≡ true
-  letter = ap isCapital (first-at (now (c .before .before .before .before .before .args .text)) (c .before .before .before .before .before .args .at)) ∙ opens-capital (now (c .before .before .before .before .before .args .text)) (c .before .before .before .before .before .args .at) (opened .opening)
-
-read-first-requires : (t : ℕ) → read-lts.Need-first-requires (
-  first-reads.Asked,
-  first-reads.Learnt,
-  read-below t,
-  read.Post,
-  closed-reads.Asked,
-  closed-reads.Learnt,
-) (read-at t) read.Post
-read-first-requires t c κs = c .before .pre .1
-
-read-enum-known-scanned : (t : ℕ) → read-lts.Need-enum-known-scanned (
-  first-reads.Asked,
-  first-reads.Learnt,
-  read-below t,
-  read.Post,
-  closed-reads.Asked,
-  closed-reads.Learnt,
-) (read-at t) read.Post
-read-enum-known-scanned t c = search needs
-
-read-enum-known-next : (t : ℕ) → read-lts.Need-enum-known-next (
-  first-reads.Asked,
-  first-reads.Learnt,
-  read-below t,
-  read.Post,
-  closed-reads.Asked,
-  closed-reads.Learnt,
-) (read-at t) read.Post
-read-enum-known-next t c = search needs
-
-read-add-read : (t : ℕ) → read-lts.Need-add-read (
-  first-reads.Asked,
-  first-reads.Learnt,
-  read-below t,
-  read.Post,
-  closed-reads.Asked,
-  closed-reads.Learnt,
-) (read-at t) read.Post
-read-add-read t c = record { fits = omega (arith, inside t c) }
-
-read-sub-read : (t : ℕ) → read-lts.Need-sub-read (
-  first-reads.Asked,
-  first-reads.Learnt,
-  read-below t,
-  read.Post,
-  closed-reads.Asked,
-  closed-reads.Learnt,
-) (read-at t) read.Post
-read-sub-read t c = omega (arith, opened t c .room)
-
-read-read-requires : (t : ℕ) → read-lts.Need-read-requires (
-  first-reads.Asked,
-  first-reads.Learnt,
-  read-below t,
-  read.Post,
-  closed-reads.Asked,
-  closed-reads.Learnt,
-) (read-at t) read.Post
-read-read-requires t c κs =
-    let s = c .before .before .before .before .before in
-    let o = opened t c in (
-      omega (arith, o .room, s .pre .0),
-      (
-        s .pre .1 .0,
-        omega (arith, s .pre .1 .1),
-        rw (o .next) (step-small (s .args .sizes) (s .args .room) (s .args .letters) _ (letter t c) (o .room) (s .pre .1 .1) (s .pre .1 .2)),
-        omega (arith, inside t c),
-      ),
-    )
-
-read-closed-requires : (t : ℕ) → read-lts.Need-closed-requires (
-  first-reads.Asked,
-  first-reads.Learnt,
-  read-below t,
-  read.Post,
-  closed-reads.Asked,
-  closed-reads.Learnt,
-) (read-at t) read.Post
-read-closed-requires t c κs = tt
-
-read-returns : (t : ℕ) → read-lts.Need-returns (
-  first-reads.Asked,
-  first-reads.Learnt,
-  read-below t,
-  read.Post,
-  closed-reads.Asked,
-  closed-reads.Learnt,
-) (read-at t) read.Post
-read-returns t c =
-    let s = c .before .before .before .before .before in
-    first-answer (s .args .sizes) (s .args .room) (s .args .letters) (s .args .at) (drop (s .args .at) (now (s .args .text)))
-    (sym (c .before .before .before .first .ensures) ∙ c .before .scanned .given .1)
-
-read-returns-2 : (t : ℕ) → read-lts.Need-returns-2 (
-  first-reads.Asked,
-  first-reads.Learnt,
-  read-below t,
-  read.Post,
-  closed-reads.Asked,
-  closed-reads.Learnt,
-) (read-at t) read.Post
-read-returns-2 t c =
-    let s = c .before .before .before .before .before .before .before in
-    let a = s .args in
-    let o = opened t (c .before .before) in
-    c .closed .ensures
-    ∙ ap (closedBy (now (a .text))) (c .before .read .ensures ∙ ap (λ (y : Letters). scannedFrom (a .sizes) (a .room - 1) y (a .at + 2) (form (drop (a .at + 2) (now (a .text))))) (o .next))
-    ∙ sym (scan-inner (a .sizes) (a .room) (a .letters) (now (a .text)) (a .at) (o .opening))
-
-pub +read-spec : {M : Type 1} → statement M
-+read-spec = close μ-read λ t. read-lts.spec (
+-- what the functions that it calls ask and ensure
+abbrev called : ℕ → read-lts.Claims
+called t = (
   first-reads.Asked,
   first-reads.Learnt,
   read-below t,
@@ -166,14 +40,71 @@ pub +read-spec : {M : Type 1} → statement M
   closed-reads.Asked,
   closed-reads.Learnt,
 )
-    (read-at t)
-    read.Post
-    (read-first-requires t)
-    (read-enum-known-scanned t)
-    (read-enum-known-next t)
-    (read-add-read t)
-    (read-sub-read t)
-    (read-read-requires t)
-    (read-closed-requires t)
-    (read-returns t)
-    (read-returns-2 t)
+
+-- what is known where the recursive call stands: a letter opens, and the call looks inside the text
+module _ (t : ℕ) (c : read-lts.After-known-told2 (called t) (read-at t) read.Post) where
+  opened : let a = c .before .before .before .before .before .args in Opening′ (a .sizes) (a .room) (a .letters) (drop (a .at) (now (a .text))) (c .before .next .given .0 .0)
+  opened = first-opening _ _ _ (c .before .before .before .before .before .args .at) _ (sym (c .before .before .before .first .ensures) ∙ c .before .next .given .1)
+
+  inside : let a = c .before .before .before .before .before .args in a .at + 1 < length (now (a .text))
+  inside = let a = c .before .before .before .before .before .args in opens-inside (now (a .text)) (a .at) (opened .opening)
+
+  letter : let a = c .before .before .before .before .before .args in isCapital (getD (drop (a .at) (now (a .text))) 0 0) ≡ true
+  letter =
+      let a = c .before .before .before .before .before .args in
+      ap isCapital (first-at (now (a .text)) (a .at)) ∙ opens-capital (now (a .text)) (a .at) (opened .opening)
+
+module _ (t : ℕ) where
+  first-requires : read-lts.Need-first-requires (called t) (read-at t) read.Post
+  first-requires c κs = c .before .pre .1
+
+  enum-known-scanned : read-lts.Need-enum-known-scanned (called t) (read-at t) read.Post
+  enum-known-scanned c = search needs
+
+  enum-known-next : read-lts.Need-enum-known-next (called t) (read-at t) read.Post
+  enum-known-next c = search needs
+
+  add-read : read-lts.Need-add-read (called t) (read-at t) read.Post
+  add-read c = record { fits = omega (arith, inside t c) }
+
+  sub-read : read-lts.Need-sub-read (called t) (read-at t) read.Post
+  sub-read c = omega (arith, opened t c .room)
+
+  read-requires : read-lts.Need-read-requires (called t) (read-at t) read.Post
+  read-requires c κs =
+      let s = c .before .before .before .before .before in
+      let o = opened t c in (
+        omega (arith, o .room, s .pre .0),
+        (
+          s .pre .1 .0,
+          omega (arith, s .pre .1 .1),
+          rw (o .next) (step-small (s .args .sizes) (s .args .room) (s .args .letters) _ (letter t c) (o .room) (s .pre .1 .1) (s .pre .1 .2)),
+          omega (arith, inside t c),
+        ),
+      )
+
+  closed-requires : read-lts.Need-closed-requires (called t) (read-at t) read.Post
+  closed-requires c κs = tt
+
+  returns : read-lts.Need-returns (called t) (read-at t) read.Post
+  returns c =
+      let s = c .before .before .before .before .before in
+      first-answer (s .args .sizes) (s .args .room) (s .args .letters) (s .args .at) (drop (s .args .at) (now (s .args .text)))
+      (sym (c .before .before .before .first .ensures) ∙ c .before .scanned .given .1)
+
+  returns-2 : read-lts.Need-returns-2 (called t) (read-at t) read.Post
+  returns-2 c =
+      let s = c .before .before .before .before .before .before .before in
+      let a = s .args in
+      let o = opened t (c .before .before) in
+      c .closed .ensures
+      ∙ ap (closedBy (now (a .text)))
+      (c .before .read .ensures ∙ ap (λ (y : Letters). scannedFrom (a .sizes) (a .room - 1) y (a .at + 2) (form (drop (a .at + 2) (now (a .text))))) (o .next))
+      ∙ sym (scan-inner (a .sizes) (a .room) (a .letters) (now (a .text)) (a .at) (o .opening))
+
+pub +read-spec : {M : Type 1} → statement M
++read-spec =
+    close μ-read
+    (λ t.
+    read-lts.spec (called t) (read-at t) read.Post (first-requires t) (enum-known-scanned t) (enum-known-next t) (add-read t) (sub-read t)
+    (read-requires t) (closed-requires t) (returns t) (returns-2 t))

@@ -14,13 +14,13 @@ use Rattle.chain.proofs.text.first.Statement.{statement}
 use Rattle.chain.proofs.text.first.Tie as tie
 
 -- the two tests
-u-test : (c : tie.After-starts-with) {t : Bool} → c .starts-with .result ≡ t → startsWith 117 (drop (c .before .before .args .at) (now (c .before .before .args .text))) ≡ t
+u-test : (c : tie.After-starts-with) {t : Bool} → c .starts-with .result ≡ t → let a = c .before .before .args in startsWith 117 (drop (a .at) (now (a .text))) ≡ t
 u-test c h = sym (c .starts-with .ensures) ∙ h
 
-open-test : (c : tie.After-opens-at) {t : Bool} → c .opens-at .result ≡ t → opens (drop (c .before .before .before .before .args .at) (now (c .before .before .before .before .args .text))) ≡ t
+open-test : (c : tie.After-opens-at) {t : Bool} → c .opens-at .result ≡ t → let a = c .before .before .before .before .args in opens (drop (a .at) (now (a .text))) ≡ t
 open-test c h = sym (c .opens-at .ensures) ∙ h
 
-opening : (c : tie.Else2) → opens (drop (c .before .before .before .before .before .args .at) (now (c .before .before .before .before .before .args .text))) ≡ true
+opening : (c : tie.Else2) → let a = c .before .before .before .before .before .args in opens (drop (a .at) (now (a .text))) ≡ true
 opening c = open-test (c .before) (not-false _ (c .if2 .left))
 
 starts-with-requires : tie.Need-starts-with-requires
@@ -47,9 +47,9 @@ overlong-requires c κs =
 
 returns-3 : tie.Need-returns-3
 returns-3 c =
-    let e = c .before .before .before in
+    let e = c .before .before in
     ap Answer (c .overlong .ensures)
-    ∙ sym (first-full _ _ _ _ _ (u-test (e .before .before) (e .before .if1 .left)) (open-test e (not-false _ (c .before .before .if2 .left))) (c .before .if3 .taken))
+    ∙ sym (first-full _ _ _ _ _ (u-test (e .before .before .before) (e .before .before .if1 .left)) (opening e) (c .before .if3 .taken))
 
 shared-slice-read-step : tie.Need-shared-slice-read-step
 shared-slice-read-step c =
@@ -63,9 +63,10 @@ step-requires c κs =
 
 returns-4 : tie.Need-returns-4
 returns-4 c =
-    let s = c .before .before .before .before .before .before .before .before in
-    ap Opening (c .step .ensures ∙ ap (step (s .args .sizes) (s .args .room) (s .args .letters)) (sym (first-at (now (s .args .text)) (s .args .at))))
-    ∙ sym (first-letter _ _ _ _ _ (u-test (c .before .before .before .before .before .before) (c .before .before .before .before .before .if1 .left)) (opening (c .before .before .before)) (c .before .before .if3 .left))
+    let a = c .before .before .before .before .before .before .before .before .args in
+    let e = c .before .before .before in
+    ap Opening (c .step .ensures ∙ ap (step (a .sizes) (a .room) (a .letters)) (sym (first-at (now (a .text)) (a .at))))
+    ∙ sym (first-letter _ _ _ _ _ (u-test (e .before .before .before) (e .before .before .if1 .left)) (opening e) (c .before .before .if3 .left))
 
 pub first-spec : {M : Type 1} → statement M
 first-spec =

@@ -20,7 +20,7 @@ module _ (c : tie.After-starts-with) where
   hops : ℕ
   hops = (c .before .before .open-letters .result .at - c .before .before .before .before .args .at) / 2
 
-  hops-are : hops ≡ length (openLetters (drop (c .before .before .before .before .args .at) (now (c .before .before .before .before .args .text))))
+  hops-are : let a = c .before .before .before .before .args in hops ≡ length (openLetters (drop (a .at) (now (a .text))))
   unfolding hops
   hops-are = omega (arith, c .before .before .open-letters .ensures .at-is)
 
@@ -28,16 +28,21 @@ module _ (c : tie.After-starts-with) where
   unfolding hops
   end-is = omega (arith, c .before .before .open-letters .ensures .at-is)
 
-  u-test : {t : Bool} → c .starts-with .result ≡ t → startsWith 117 (drop (c .before .before .before .before .args .at + 2 * hops) (now (c .before .before .before .before .args .text))) ≡ t
+  u-test : {t : Bool} → c .starts-with .result ≡ t → let a = c .before .before .before .before .args in startsWith 117 (drop (a .at + 2 * hops) (now (a .text))) ≡ t
   u-test h = ap (λ (n : ℕ). startsWith 117 (drop n (now (c .before .before .before .before .args .text)))) (sym end-is) ∙ sym (c .starts-with .ensures) ∙ h
 
 end-inside : (c : tie.Else1) → c .before .before .before .open-letters .result .at < length (now (c .before .before .before .before .before .args .text))
-end-inside c = starts-inside (now (c .before .before .before .before .before .args .text)) (c .before .before .before .open-letters .result .at) 117 (sym (c .before .starts-with .ensures) ∙ not-false _ (c .if1 .left))
+end-inside c =
+    let t = now (c .before .before .before .before .before .args .text) in
+    starts-inside t (c .before .before .before .open-letters .result .at) 117 (sym (c .before .starts-with .ensures) ∙ not-false _ (c .if1 .left))
 
-close-test : (c : tie.After-closes-at) {t : Bool} → c .closes-at .result ≡ t
-    → closes (hops (c .before .before)) (drop (c .before .before .before .before .before .before .args .at + 2 * hops (c .before .before) + 1) (now (c .before .before .before .before .before .before .args .text))) ≡ t
+close-test : (c : tie.After-closes-at) {t : Bool} → c .closes-at .result ≡ t → let a = c .before .before .before .before .before .before .args in let n = hops (c .before .before) in
+    closes n (drop (a .at + 2 * n + 1) (now (a .text))) ≡ t
 unfolding hops
-close-test c h = ap (λ (n : ℕ). closes (hops (c .before .before)) (drop (n + 1) (now (c .before .before .before .before .before .before .args .text)))) (sym (end-is (c .before .before))) ∙ sym (c .closes-at .ensures) ∙ h
+close-test c h =
+    ap (λ (n : ℕ). closes (hops (c .before .before)) (drop (n + 1) (now (c .before .before .before .before .before .before .args .text)))) (sym (end-is (c .before .before)))
+    ∙ sym (c .closes-at .ensures)
+    ∙ h
 
 open-letters-requires : tie.Need-open-letters-requires
 open-letters-requires c κs = search needs
@@ -50,8 +55,8 @@ starts-with-requires c κs = search needs
 
 returns : tie.Need-returns
 returns c =
-    let a = c .before .before .before .before .before .args in
-    sym (long-no-u (a .sizes) (a .letters) (now (a .text)) (a .at) (hops (c .before)) (hops-are (c .before)) (u-test (c .before) (not-true _ (c .if1 .taken))))
+    let t = now (c .before .before .before .before .before .args .text) in
+    sym (long-no-u _ _ t _ _ (hops-are (c .before)) (u-test (c .before) (not-true _ (c .if1 .taken))))
 
 add-closes-at : tie.Need-add-closes-at
 add-closes-at c = record { fits = omega (arith, end-inside c) }
@@ -62,8 +67,8 @@ closes-at-requires c κs = omega (arith, end-inside c)
 returns-2 : tie.Need-returns-2
 unfolding hops
 returns-2 c =
-    let a = c .before .before .before .before .before .before .before .args in
-    sym (long-no-close (a .sizes) (a .letters) (now (a .text)) (a .at) (hops (c .before .before .before)) (hops-are (c .before .before .before)) (close-test (c .before) (not-true _ (c .if2 .taken))))
+    let t = now (c .before .before .before .before .before .before .before .args .text) in
+    sym (long-no-close _ _ t _ _ (hops-are (c .before .before .before)) (close-test (c .before) (not-true _ (c .if2 .taken))))
 
 add-t9 : tie.Need-add-t9
 add-t9 c = record { fits = omega (arith, end-inside (c .before .before)) }
@@ -74,10 +79,10 @@ add-t12 c = record { fits = omega (arith, end-inside (c .before .before), c .bef
 returns-3 : tie.Need-returns-3
 unfolding hops
 returns-3 c =
-    let a = c .before .before .before .before .before .before .before .args in
-    let o = c .before .before .before .before .before .open-letters in
-    ap₂ (λ (x : Letters) (n : ℕ). Chain x (n + 1 + hops (c .before .before .before))) (o .ensures .letters-are) (end-is (c .before .before .before))
-    ∙ sym (long-chain (a .sizes) (a .letters) (now (a .text)) (a .at) (hops (c .before .before .before)) (hops-are (c .before .before .before)) (u-test (c .before .before .before) (not-false _ (c .before .before .if1 .left))) (close-test (c .before) (not-false _ (c .if2 .left))))
+    let s = c .before .before .before in
+    let t = now (s .before .before .before .before .args .text) in
+    ap₂ (λ (x : Letters) (n : ℕ). Chain x (n + 1 + hops s)) (s .before .before .open-letters .ensures .letters-are) (end-is s)
+    ∙ sym (long-chain _ _ t _ _ (hops-are s) (u-test s (not-false _ (c .before .before .if1 .left))) (close-test (c .before) (not-false _ (c .if2 .left))))
 
 pub overlong-spec : {M : Type 1} → statement M
 overlong-spec =
