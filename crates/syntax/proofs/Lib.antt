@@ -1,6 +1,7 @@
 -- Laws of the definitions of `specs/`, for the proofs here and in the crates above.
 pub mod Tokens
 pub mod Words
+pub mod Spans
 pub mod Digits
 pub mod Numbers
 pub mod Terms

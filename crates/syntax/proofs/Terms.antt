@@ -14,11 +14,13 @@ use Rattle.chain.specs.Scan.{startsWith, opens}
 use Rattle.chain.proofs.Forms.{spelled, printed-form, form-none}
 use Rattle.integers.proofs.Bools.{and-both, true-false}
 use Rattle.syntax.specs.Numeral as N
+use Rattle.syntax.specs.Span.{span}
 use Rattle.syntax.specs.Numeral.{isDigit, digits, isNumeral, signedForm, numberForm, printedNumber}
 use Rattle.syntax.specs.Token.{token, other}
 use Rattle.syntax.specs.Written.{Term, chain, number}
 use Rattle.syntax.specs.Term.{printedTerm, ProperTerm, ofNumber, ofChain, termForm}
-use Rattle.syntax.proofs.Digits.{digit-low, digits-every, digits-text, digits-append}
+use Rattle.syntax.proofs.Spans.{span-every, span-text, span-append}
+use Rattle.syntax.proofs.Digits.{digit-low}
 
 -- a text that begins with a number, behind a minus or not
 pub record Spelled (t : List ℕ) (x : Term) (r : List ℕ) : Type 0 where
@@ -36,16 +38,16 @@ unfolding signedForm ofNumber printedTerm printedNumber
 signed-spelled negative t x r e = go (isNumeral negative (digits t)) refl e
   where
     text : (negative : Bool) → printedNumber negative t ≡ printedNumber negative (digits t) ++ drop (length (digits t)) t
-    text true = ap (λ (l : List ℕ). 45 ∷ l) (digits-text t)
-    text false = digits-text t
+    text true = ap (λ (l : List ℕ). 45 ∷ l) (span-text isDigit t)
+    text false = span-text isDigit t
 
     go : (y : Bool) → isNumeral negative (digits t) ≡ y → ofNumber (cond y (N.number negative (digits t) (drop (length (digits t)) t)) N.unformed) ≡ token x r
         → Spelled (printedNumber negative t) x r
-    go true h e = moved (record { text = text negative; proper = (h, digits-every t) }) e
+    go true h e = moved (record { text = text negative; proper = (h, span-every isDigit t) }) e
     go false h e = not-token e
 
 number-spelled : (t : List ℕ) (x : Term) (r : List ℕ) → ofNumber (numberForm t) ≡ token x r → Spelled t x r
-unfolding numberForm startsWith printedNumber signedForm isNumeral digits ofNumber
+unfolding numberForm startsWith printedNumber signedForm isNumeral span ofNumber
 number-spelled [] x r e = not-token e
 number-spelled (b ∷ t) x r e = go (eqb b 45) refl e
   where
@@ -64,7 +66,7 @@ term-spelled t x r e = go (C.form t) refl e
 
 signed-read : (negative : Bool) (ds r : List ℕ) → isNumeral negative ds ≡ true → every isDigit ds ≡ true → digits r ≡ [] → signedForm negative (ds ++ r) ≡ N.number negative ds r
 unfolding signedForm
-signed-read negative ds r n d e = rw (digits-append ds r d e, n, drop-append-seam)
+signed-read negative ds r n d e = rw (span-append isDigit ds r d e, n, drop-append-seam)
 
 -- a byte below the capitals begins no chain
 chain-none : (b : ℕ) (t : List ℕ) → b ≤ 57 → C.form (b ∷ t) ≡ C.unformed

@@ -1,6 +1,7 @@
 -- The lines of a rules text.
 pub mod Bytes
 pub mod Written
+pub mod Span
 pub mod Numeral
 pub mod Token
 pub mod Term

@@ -6,18 +6,19 @@ use lib.Dec.{leb, eqb}
 use lib.IntN.{ℤ, pos, negℤ}
 use lib.ListN.{length, drop}
 use Rattle.chain.specs.Scan.{startsWith}
+use Rattle.syntax.specs.Span.{starts, span}
 
+-- whether a byte is one of `0` to `9`
 unfoldable pub isDigit : ℕ → Bool
 isDigit b = leb 48 b && leb b 57
 
--- whether a text begins with a digit, and the digits that it begins with
-unfoldable pub startsDigit : List ℕ → Bool
-startsDigit [] = false
-startsDigit (b ∷ t) = isDigit b
+-- whether a text begins with a digit
+abbrev pub startsDigit : List ℕ → Bool
+startsDigit t = starts isDigit t
 
-unfoldable pub digits : List ℕ → List ℕ
-digits [] = []
-digits (b ∷ t) = cond (isDigit b) (b ∷ digits t) []
+-- the digits that a text begins with
+abbrev pub digits : List ℕ → List ℕ
+digits t = span isDigit t
 
 -- the number that is written by n and then the digits
 unfoldable pub decimal : ℕ → List ℕ → ℕ

@@ -6,8 +6,9 @@ use mathlib.Core.Bool.{true}
 use native.Mathlib.Omega.{arith}
 use lib.ListN.{length, drop}
 use denote.Ref.{now}
-use Rattle.syntax.specs.Numeral.{startsDigit}
-use Rattle.syntax.proofs.Digits.{Counted, counted-more, counted-end, digit-inside, digit-here}
+use Rattle.syntax.specs.Numeral.{isDigit, startsDigit}
+use Rattle.syntax.proofs.Spans.{starts-inside, starts-here}
+use Rattle.syntax.proofs.Digits.{Counted, counted-more, counted-end}
 use Rattle.syntax.proofs.numeral.digits_at.Statement.{statement}
 use Rattle.syntax.proofs.numeral.digits_at.Tie as tie
 
@@ -22,10 +23,10 @@ a-digit : (c : tie.Then1 Inv-loop μ-loop) → startsDigit (drop (c .before .bef
 a-digit c = sym (c .before .digit-at .ensures) ∙ c .if1 .taken
 
 inside : (c : tie.Then1 Inv-loop μ-loop) → c .before .before .loop .i < length (now (c .before .before .before .before .args .line))
-inside c = digit-inside _ _ (a-digit c)
+inside c = starts-inside isDigit _ _ (a-digit c)
 
 loop-holds : tie.Need-loop-holds Inv-loop μ-loop
-loop-holds c = record { inside = c .before .pre; small = omega arith; same = refl; place = refl }
+loop-holds c = record { onward = record { inside = c .before .pre; place = refl }; small = omega arith; same = refl }
 
 digit-at-requires : tie.Need-digit-at-requires Inv-loop μ-loop
 digit-at-requires c κs = tt
@@ -36,7 +37,7 @@ shared-slice-read-with-digit c = inside (c .before)
 with-digit-requires : tie.Need-with-digit-requires Inv-loop μ-loop
 with-digit-requires c κs =
     let l = c .before .before .before .loop in
-    (l .inv .small, digit-here (now (c .before .before .before .before .before .args .line)) (l .i) (a-digit (c .before)))
+    (l .inv .small, starts-here isDigit (now (c .before .before .before .before .before .args .line)) (l .i) (a-digit (c .before)))
 
 add-i : tie.Need-add-i Inv-loop μ-loop
 add-i c = record { fits = omega (arith, inside (c .before .before)) }
