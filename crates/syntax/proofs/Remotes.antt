@@ -21,7 +21,7 @@ use Rattle.syntax.specs.Token.{capital, then, word, or}
 use Rattle.syntax.specs.Line.{sent, remoteForm, localForm, actionForm}
 use Rattle.syntax.specs.Parts.{same, target, actionKinds, areMeasures, actionTerms}
 use Rattle.syntax.specs.Read.{begins, partsOf, chainParts}
-use Rattle.syntax.specs.ActionRead.{lastTerm, lastRead, totalForm, bothChecks, ruleChecks, actionChecks, measured, ruleOfAction, actionRead, targetOf, targetFrom, targetRead}
+use Rattle.syntax.specs.ActionRead.{lastTerm, lastRead, totalForm, actionChecks, measured, ruleOfAction, actionRead, targetOf, targetFrom, targetRead, remoteChecks}
 use Rattle.syntax.specs.declared.action.LastRead.the-variants.{Term, NoForm as NoTerm}
 use Rattle.syntax.specs.declared.action.ActionRead.the-variants.{Action, NoForm}
 use Rattle.syntax.specs.declared.remote.Target.{Target}
@@ -34,14 +34,12 @@ use Rattle.syntax.proofs.Actions.{Last, made-none, made-some, checks-tw
 
 -- the answers for remote rules, by the parts of their target and term
 module _ (s : Sizes) (g : Target) (f : ℕ) (c : List ℕ) (e : g ≡ targetOf s f c) (p : TermParts) (x : W.Term) (h : p ≡ partsOf s x) where
-  pub least-read : Action (Least (fieldOf (g .letter)) (g .chain) (p .term)) (ruleChecks (names s (g .letter)) (g .reference && same (isReferenceLetter (g .letter)) (p .reference)) (bothChecks (g .checks) (p .checks)))
-      ≡ actionRead s (some (W.least f c x))
-  unfolding actionRead ruleOfAction actionChecks target actionKinds actionTerms partsOf targetOf
+  pub least-read : Action (Least (fieldOf (g .letter)) (g .chain) (p .term)) (remoteChecks s g p (same (isReferenceLetter (g .letter)) (p .reference))) ≡ actionRead s (some (W.least f c x))
+  unfolding actionRead ruleOfAction actionChecks remoteChecks target actionKinds actionTerms partsOf targetOf
   least-read = rw (e, h, checks-two s (W.chain c) x)
 
-  pub total-read : Action (Total (fieldOf (g .letter)) (g .chain) (p .term)) (ruleChecks (names s (g .letter)) (g .reference && measured (g .letter) (p .reference)) (bothChecks (g .checks) (p .checks)))
-      ≡ actionRead s (some (W.total f c x))
-  unfolding actionRead ruleOfAction actionChecks target actionKinds areMeasures measured actionTerms partsOf targetOf
+  pub total-read : Action (Total (fieldOf (g .letter)) (g .chain) (p .term)) (remoteChecks s g p (measured (g .letter) (p .reference))) ≡ actionRead s (some (W.total f c x))
+  unfolding actionRead ruleOfAction actionChecks remoteChecks target actionKinds areMeasures measured actionTerms partsOf targetOf
   total-read = rw (e, h, checks-two s (W.chain c) x)
 
 -- the answers behind `remote F[C]`, by what the reader of the last term finds

@@ -118,6 +118,10 @@ targetOf s f c = record { letter = f; chain = packed c; reference = isReferenceT
 unfoldable pub targetFrom : ℕ → Letters → ℕ → Target
 targetFrom f x b = record { letter = f; chain = x .packed; reference = chainParts x b .reference; checks = chainParts x b .checks }
 
+-- what 9 to 12 ask of a remote rule, by its target, its term, and whether F and the term are of the right kinds
+unfoldable pub remoteChecks : Sizes → Target → TermParts → Bool → Checks
+remoteChecks s g x kinds = ruleChecks (names s (g .letter)) (g .reference && kinds) (bothChecks (g .checks) (x .checks))
+
 -- `at` is where C begins
 unfoldable pub targetRead : Sizes → ℕ → Form → TargetRead
 targetRead s at unformed = NoTarget

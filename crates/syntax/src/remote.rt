@@ -6,13 +6,15 @@ ghost use lib.ListN.{length, drop};
 ghost use Rattle.register.specs.Shape.{Limits};
 ghost use Rattle.chain.specs.Text.{isCapital, form, closed};
 ghost use Rattle.syntax.specs.Line.{sent, actionForm};
-ghost use Rattle.syntax.specs.ActionRead.{actionRead, targetFrom, targetRead, ForTarget, totalForm};
+ghost use Rattle.syntax.specs.declared.action.ActionRead.the-variants.{Action};
+ghost use Rattle.syntax.specs.ActionRead.{actionRead, targetFrom, targetRead, remoteChecks, ForTarget, totalForm};
 use crate::action;
 use crate::action::ActionRead;
 use crate::action::LastRead;
 use crate::rule::Rule;
 use crate::term;
 use crate::term::Checks;
+use crate::term::TermParts;
 use crate::token;
 use crate::token::Place;
 use chain::letters;
@@ -74,6 +76,15 @@ fn read_target(line: &[u8], at: usize, sizes: Sizes) -> TargetRead
     read_closed(line, at + 2, line[at], sizes)
 }
 
+// A remote rule, with whether its field and its term are of the right kinds.
+fn remote_rule(rule: Rule, kinds: bool, target: Target, x: TermParts, sizes: Sizes) -> ActionRead
+    requires { ⌜ Limits sizes ⌝ }
+    ensures { λ r. ⌜ r ≡ Action rule (remoteChecks sizes target x kinds) ⌝ }
+{
+    let checks = action::both(target.checks, x.checks);
+    action::action(rule, target.letter, target.reference & kinds, checks, sizes)
+}
+
 // ` += X` behind `remote F[C]`.
 fn read_total(line: &[u8], at: usize, target: Target, sizes: Sizes) -> ActionRead
     requires { ⌜ Limits sizes × (at ≤ length (now line)) × (isCapital (target .letter) ≡ true) ⌝ }
@@ -83,16 +94,10 @@ fn read_total(line: &[u8], at: usize, target: Target, sizes: Sizes) -> ActionRea
         return ActionRead::NoForm;
     };
     let letter = target.letter;
-    let kinds = target.reference & action::measures(letter, x.reference);
     let term = x.term;
     let rule = Rule::Total(letters::field_of(letter), target.chain, term);
-    action::action(
-        rule,
-        letter,
-        kinds,
-        action::both(target.checks, x.checks),
-        sizes,
-    )
+    let kinds = action::measures(letter, x.reference);
+    remote_rule(rule, kinds, target, x, sizes)
 }
 
 // ` <?= X` or ` += X` behind `remote F[C]`.
@@ -104,16 +109,10 @@ fn read_sent(line: &[u8], at: usize, target: Target, sizes: Sizes) -> ActionRead
         return read_total(line, at, target, sizes);
     };
     let letter = target.letter;
-    let kinds = target.reference & action::same(letter < 77, x.reference);
     let term = x.term;
     let rule = Rule::Least(letters::field_of(letter), target.chain, term);
-    action::action(
-        rule,
-        letter,
-        kinds,
-        action::both(target.checks, x.checks),
-        sizes,
-    )
+    let kinds = action::same(letter < 77, x.reference);
+    remote_rule(rule, kinds, target, x, sizes)
 }
 
 // The rule at `at`, without a test.

@@ -16,7 +16,8 @@ use Rattle.syntax.proofs.action.read_local.Tie as tie
 letter-read : (c : tie.After-letter) → let a = c .before .before .before .before .args in Lettered (now (a .line)) (a .at) (c .letter .given .0 .0)
 letter-read c = letter-taken _ _ (sym (c .before .before .letter-at .ensures) ∙ c .letter .given .1)
 
-word-read : (c : tie.After-start) → let a = c .before .before .before .before .before .before .before .before .before .args in Taken (now (a .line)) (bytes "[u] := ") (a .at + 1) (c .start .given .0 .0)
+word-read : (c : tie.After-start) → let a = c .before .before .before .before .before .before .before .before .before .args in
+    Taken (now (a .line)) (bytes "[u] := ") (a .at + 1) (c .start .given .0 .0)
 word-read c = literal-taken _ _ _ (letter-read (c .before .before .before .before .before) .inside) (sym (c .before .before .literal .ensures) ∙ c .start .given .1)
 
 term-read : (c : tie.After-x) → let a = c .before .before .before .before .before .before .before .before .before .before .before .before .before .args in
@@ -72,18 +73,21 @@ enum-told-3 c = search needs
 returns-3 : tie.Need-returns-3
 unfolding actionRead
 returns-3 c =
+    let start = c .before .before .before .before in
     let refused = term-refused _ _ _ (sym (c .before .before .read-term .ensures) ∙ c .enum-told3 .given .1) in
-    sym (ap (actionRead _) (local-no-term _ _ _ (letter-read (c .before .before .before .before .before .before .before .before .before)) _ (word-read (c .before .before .before .before)) refused))
+    sym (ap (actionRead _) (local-no-term _ _ _ (letter-read (start .before .before .before .before .before)) _ (word-read start) refused))
 
 read-assigned-requires : tie.Need-read-assigned-requires
 read-assigned-requires c κs =
-    (c .before .before .before .before .before .before .before .before .before .before .before .before .before .before .pre .0, term-read (c .before) .inside, letter-read (c .before .before .before .before .before .before .before .before .before .before) .is-capital)
+    let letter = c .before .before .before .before .before .before .before .before .before .before in
+    (letter .before .before .before .before .pre .0, term-read (c .before) .inside, letter-read letter .is-capital)
 
 returns-4 : tie.Need-returns-4
 returns-4 c =
+    let start = c .before .before .before .before .before .before in
     let q = term-read (c .before .before) in
     c .read-assigned .ensures (q .written) (q .parts)
-    ∙ sym (ap (actionRead _) (local-term _ _ _ (letter-read (c .before .before .before .before .before .before .before .before .before .before .before)) _ (word-read (c .before .before .before .before .before .before)) _ _ _ q))
+    ∙ sym (ap (actionRead _) (local-term _ _ _ (letter-read (start .before .before .before .before .before)) _ (word-read start) _ _ _ q))
 
 pub read-local-spec : {M : Type 1} → statement M
 read-local-spec =

@@ -17,7 +17,8 @@ term-read : (c : tie.After-y) → let a = c .before .before .before .before .arg
     TermTaken (a .sizes) (now (a .line)) (a .at) (c .y .given .0 .0) (c .y .given .0 .1 .0)
 term-read c = term-taken _ _ _ (c .before .before .before .before .pre .1) (sym (c .before .before .read-term .ensures) ∙ c .y .given .1)
 
-colon-read : (c : tie.After-start) → Taken (now (c .before .before .before .before .before .before .before .before .before .args .line)) (bytes ": ") (c .before .before .before .before .before .y .given .0 .1 .0) (c .start .given .0 .0)
+colon-read : (c : tie.After-start) → let y = c .before .before .before .before .before in
+    Taken (now (y .before .before .before .before .args .line)) (bytes ": ") (y .y .given .0 .1 .0) (c .start .given .0 .0)
 colon-read c = literal-taken _ _ _ (term-read (c .before .before .before .before .before) .inside) (sym (c .before .before .literal .ensures) ∙ c .start .given .1)
 
 read-term-requires : tie.Need-read-term-requires

@@ -45,15 +45,18 @@ is-word-requires-3 : tie.Need-is-word-requires-3
 is-word-requires-3 c κs = search needs
 
 returns-3 : tie.Need-returns-3
-returns-3 c = sym (line-done _ _ (not-step (c .before .before .before .before .before .before)) (not-end (c .before .before .before)) (sym (c .before .is-word3 .ensures) ∙ c .if3 .taken))
+returns-3 c =
+    let e = c .before .before .before in
+    sym (line-done _ _ (not-step (e .before .before .before)) (not-end e) (sym (c .before .is-word3 .ensures) ∙ c .if3 .taken))
 
 read-open-requires : tie.Need-read-open-requires
 read-open-requires c κs = search needs
 
 returns-4 : tie.Need-returns-4
 returns-4 c =
-    let s = c .before .before .before .before .before .before .before .before .before .before .before .args .sizes in
-    c .read-open .ensures ∙ sym (ap (lineRead s) (line-open s _ (not-step (c .before .before .before .before .before .before .before)) (not-end (c .before .before .before .before)) (not-done (c .before))))
+    let e = c .before .before .before .before in
+    let s = e .before .before .before .before .before .before .before .args .sizes in
+    c .read-open .ensures ∙ sym (ap (lineRead s) (line-open s _ (not-step (e .before .before .before)) (not-end e) (not-done (c .before))))
 
 pub read-line-spec : {M : Type 1} → statement M
 read-line-spec =

@@ -25,7 +25,8 @@ chain-read : (c : tie.After-inner) → let a = c .before .before .before .before
     scanned (a .sizes) (a .at) (form (drop (a .at) (now (a .line)))) ≡ Chain (c .inner .given .0 .0) (c .inner .given .0 .1 .0)
 chain-read c = sym (c .before .before .scan .ensures) ∙ c .inner .given .1
 
-bracket-read : (c : tie.Else1) → startsWith 93 (drop (c .before .before .before .inner .given .0 .1 .0) (now (c .before .before .before .before .before .before .before .args .line))) ≡ true
+bracket-read : (c : tie.Else1) → let i = c .before .before .before in
+    startsWith 93 (drop (i .inner .given .0 .1 .0) (now (i .before .before .before .before .args .line))) ≡ true
 bracket-read c = sym (c .before .starts-with .ensures) ∙ not-false _ (c .if1 .left)
 
 scan-requires : tie.Need-scan-requires

@@ -31,32 +31,27 @@ read-total-requires c κs = search needs
 returns : tie.Need-returns
 returns c =
     let a = c .before .before .before .before .before .before .args in
-    λ f w e.
-    c .read-total .ensures f w e
-    ∙ sym (ap (actionRead (a .sizes)) (sent-none (a .sizes) f w (drop (a .at) (now (a .line))) (sym (c .before .before .before .read-last .ensures) ∙ c .before .enum-told .given .1)))
+    let none-read = sym (c .before .before .before .read-last .ensures) ∙ c .before .enum-told .given .1 in
+    λ f w e. c .read-total .ensures f w e ∙ sym (ap (actionRead (a .sizes)) (sent-none (a .sizes) f w _ none-read))
+
+field-of-requires : tie.Need-field-of-requires
+field-of-requires c κs = capital-low _ (c .before .before .before .before .before .before .pre .2)
 
 same-requires : tie.Need-same-requires
 same-requires c κs = search needs
 
-field-of-requires : tie.Need-field-of-requires
-field-of-requires c κs = capital-low (c .before .before .before .before .before .before .before .before .args .target .letter) (c .before .before .before .before .before .before .before .before .pre .2)
-
-both-requires : tie.Need-both-requires
-both-requires c κs = search needs
-
-action-requires : tie.Need-action-requires
-action-requires c κs = search needs
+remote-rule-requires : tie.Need-remote-rule-requires
+remote-rule-requires c κs = search needs
 
 returns-2 : tie.Need-returns-2
 unfolding isReferenceLetter
 returns-2 c =
-    let a = c .before .before .before .before .before .before .before .before .before .before .before .args in
-    let t = drop (a .at) (now (a .line)) in
-    let l = last-taken (a .sizes) (bytes " <?= ") t (sym (c .before .before .before .before .before .before .before .before .read-last .ensures) ∙ c .before .before .before .before .before .before .x .given .1) in
+    let a = c .before .before .before .before .before .before .before .before .before .args in
+    let l = last-taken (a .sizes) (bytes " <?= ") (drop (a .at) (now (a .line))) (sym (c .before .before .before .before .before .before .read-last .ensures) ∙ c .before .before .before .before .x .given .1) in
     λ f w e.
-    c .action .ensures
-    ∙ rw (c .before .before .field-of .ensures, c .before .before .before .before .same .ensures, c .before .both .ensures)
-    (least-read (a .sizes) (a .target) f w e _ (l .written) (l .parts) ∙ sym (ap (actionRead (a .sizes)) (sent-some (a .sizes) f w t l)))
+    c .remote-rule .ensures
+    ∙ rw (c .before .before .field-of .ensures, c .before .same .ensures)
+    (least-read (a .sizes) (a .target) f w e _ (l .written) (l .parts) ∙ sym (ap (actionRead (a .sizes)) (sent-some (a .sizes) f w _ l)))
 
 pub read-sent-spec : {M : Type 1} → statement M
 read-sent-spec =
@@ -68,8 +63,7 @@ read-sent-spec =
     enum-told
     read-total-requires
     returns
-    same-requires
     field-of-requires
-    both-requires
-    action-requires
+    same-requires
+    remote-rule-requires
     returns-2)

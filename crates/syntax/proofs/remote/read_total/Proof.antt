@@ -25,31 +25,25 @@ enum-told : tie.Need-enum-told
 enum-told c = search needs
 
 returns : tie.Need-returns
-returns c =
-    let a = c .before .before .before .before .before .args in
-    λ f w e. sym (total-none (a .sizes) f w (drop (a .at) (now (a .line))) (sym (c .before .before .read-last .ensures) ∙ c .enum-told .given .1))
+returns c = λ f w e. sym (total-none _ f w _ (sym (c .before .before .read-last .ensures) ∙ c .enum-told .given .1))
+
+field-of-requires : tie.Need-field-of-requires
+field-of-requires c κs = capital-low _ (c .before .before .before .before .before .before .pre .2)
 
 measures-requires : tie.Need-measures-requires
 measures-requires c κs = search needs
 
-field-of-requires : tie.Need-field-of-requires
-field-of-requires c κs = capital-low (c .before .before .before .before .before .before .before .before .args .target .letter) (c .before .before .before .before .before .before .before .before .pre .2)
-
-both-requires : tie.Need-both-requires
-both-requires c κs = search needs
-
-action-requires : tie.Need-action-requires
-action-requires c κs = search needs
+remote-rule-requires : tie.Need-remote-rule-requires
+remote-rule-requires c κs = search needs
 
 returns-2 : tie.Need-returns-2
 returns-2 c =
-    let a = c .before .before .before .before .before .before .before .before .before .before .before .args in
-    let t = drop (a .at) (now (a .line)) in
-    let l = last-taken (a .sizes) (bytes " += ") t (sym (c .before .before .before .before .before .before .before .before .read-last .ensures) ∙ c .before .before .before .before .before .before .x .given .1) in
+    let a = c .before .before .before .before .before .before .before .before .before .args in
+    let l = last-taken (a .sizes) (bytes " += ") (drop (a .at) (now (a .line))) (sym (c .before .before .before .before .before .before .read-last .ensures) ∙ c .before .before .before .before .x .given .1) in
     λ f w e.
-    c .action .ensures
-    ∙ rw (c .before .before .field-of .ensures, c .before .before .before .before .measures .ensures, c .before .both .ensures)
-    (total-read (a .sizes) (a .target) f w e _ (l .written) (l .parts) ∙ sym (ap (actionRead (a .sizes)) (total-some (a .sizes) f w t l)))
+    c .remote-rule .ensures
+    ∙ rw (c .before .before .field-of .ensures, c .before .measures .ensures)
+    (total-read (a .sizes) (a .target) f w e _ (l .written) (l .parts) ∙ sym (ap (actionRead (a .sizes)) (total-some (a .sizes) f w _ l)))
 
 pub read-total-spec : {M : Type 1} → statement M
 read-total-spec =
@@ -60,8 +54,7 @@ read-total-spec =
     enum-known-x
     enum-told
     returns
-    measures-requires
     field-of-requires
-    both-requires
-    action-requires
+    measures-requires
+    remote-rule-requires
     returns-2)

@@ -34,7 +34,8 @@ starts-with-requires c κs = tt
 
 returns : tie.Need-returns Inv-loop μ-loop
 returns c =
-    sym (literal-nothing _ _ _ (left-fails _ _ _ _ (c .before .before .before .before .loop .inv) (omega arith) (sym (c .before .starts-with .ensures) ∙ not-true _ (c .if1 .taken))))
+    let fails = sym (c .before .starts-with .ensures) ∙ not-true _ (c .if1 .taken) in
+    sym (literal-nothing _ _ _ (left-fails _ _ _ _ (c .before .before .before .before .loop .inv) (omega arith) fails))
 
 add-i : tie.Need-add-i Inv-loop μ-loop
 add-i c = omega arith
