@@ -19,6 +19,7 @@ digit-low b h = let both = and-both (leb 48 b) (leb b 57) h in (leb-true 48 b (b
 
 -- digits that stand at `at` stand inside the text
 pub digits-inside : (t : List ℕ) (at end : ℕ) → end ≡ at + length (digits (drop at t)) → end ≢ at → at < length t
+unfolding digits
 digits-inside t at end e ne = go (decLt at (length t))
   where
     go : Dec (at < length t) → at < length t
@@ -59,7 +60,7 @@ pub record Counted (at : ℕ) (t : List ℕ) (value i : ℕ) : Type 0 where
   pub same : capped (decimal value (digits (drop i t))) ≡ capped (decimal 0 (digits (drop at t)))
 
 pub counted-more : {at : ℕ} {t : List ℕ} {v w i : ℕ} → Counted at t v i → startsDigit (drop i t) ≡ true → w ≡ capped (10 * v + (getD t i 0 - 48)) → Counted at t w (i + 1)
-unfolding decimal
+unfolding decimal digits
 counted-more {at} {t} {v} {w} {i} p h e = record {
   onward = onward-more isDigit (p .onward) h;
   small = omega (arith, e, capped-bound (10 * v + (getD t i 0 - 48)));
@@ -72,7 +73,7 @@ counted-more {at} {t} {v} {w} {i} p h e = record {
 
 pub counted-end : {at : ℕ} {t : List ℕ} {v i : ℕ} → Counted at t v i → startsDigit (drop i t) ≡ false
     → (v ≡ capped (decimal 0 (digits (drop at t)))) × (i ≡ at + length (digits (drop at t)))
-unfolding decimal
+unfolding decimal digits
 counted-end {t = t} {v = v} {i = i} p h = (
   sym (capped-small v (p .small)) ∙ sym (ap (λ (l : List ℕ). capped (decimal v l)) (span-none isDigit (drop i t) h)) ∙ p .same,
   onward-end isDigit (p .onward) h,

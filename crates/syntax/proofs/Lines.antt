@@ -9,7 +9,6 @@ use native.Mathlib.Omega.{arith}
 use Rattle.chain.specs.Text as C
 use Rattle.chain.specs.Text.{isCapital, every, printed}
 use Rattle.chain.proofs.Forms.{spelled, printed-form}
-use Rattle.syntax.specs.Span.{span}
 use Rattle.syntax.specs.Numeral.{digits, isDigit}
 use Rattle.syntax.specs.Bytes.{bytes}
 use Rattle.syntax.specs.Written.{Term, Comparison, less, equal, unequal, Condition, always, when, Action, set, sum, difference, least, total, Line, step, end, done, loop, rule}
@@ -119,7 +118,7 @@ line-spelled t l e = all-some (Spelled t) (line-all t) e
 -- a term at the end of a line is read
 module _ {A : Type 0} (make : Term → A) where
   last-read : (y : Term) → ProperTerm y → then (termForm (printedTerm y)) (λ y. finished (make y)) ≡ some (make y)
-  unfolding then finished span
+  unfolding then finished digits
   last-read y p =
       ap (λ (l : List ℕ). then (termForm l) (λ y. finished (make y))) (sym (append-nil (printedTerm y)))
       ∙ ap (λ (k : Token Term). then k (λ y. finished (make y))) (printed-term y [] p refl)
@@ -142,7 +141,7 @@ unfolding actionForm word remoteForm
 target-read f c r h = rw (printed-form (f ∷ c) r h)
 
 action-read : (a : Action) → ProperAction a → actionForm (printedAction a) ≡ some a
-unfolding printedAction assigned sent or finished word span isDigit
+unfolding printedAction assigned sent or finished word digits isDigit
 action-read (set f x) p = ap (λ (l : List ℕ). actionForm (f ∷ (bytes "[u] := " ++ l))) (sym (append-nil (printedTerm x))) ∙ assign-read f x [] (p .0) (p .1) refl
 action-read (sum f x y) p = assign-read f x (bytes " + " ++ printedTerm y) (p .0) (p .1) refl ∙ rw (last-read (sum f x) y (p .2))
 action-read (difference f x y) p = assign-read f x (bytes " - " ++ printedTerm y) (p .0) (p .1) refl ∙ rw (last-read (difference f x) y (p .2))
@@ -152,13 +151,13 @@ action-read (total f c x) p = target-read f c (bytes " += " ++ printedTerm x) (p
 -- a test is read
 module _ (x y : Term) (a : Action) (px : ProperTerm x) (py : ProperTerm y) (pa : ProperAction a) where
   compared-read : (c : Comparison) → compared x c (comparisonText c ++ (printedTerm y ++ (bytes ": " ++ printedAction a))) ≡ some (rule (when x c y) a)
-  unfolding compared word then span isDigit ruleOf
+  unfolding compared word then digits isDigit ruleOf
   compared-read less = rw (printed-term y (bytes ": " ++ printedAction a) py refl, action-read a pa)
   compared-read equal = rw (printed-term y (bytes ": " ++ printedAction a) py refl, action-read a pa)
   compared-read unequal = rw (printed-term y (bytes ": " ++ printedAction a) py refl, action-read a pa)
 
   tested-read : (c : Comparison) → testedForm (printedTerm x ++ (comparisonText c ++ (printedTerm y ++ (bytes ": " ++ printedAction a)))) ≡ some (rule (when x c y) a)
-  unfolding testedForm then or word span isDigit compared
+  unfolding testedForm then or word digits isDigit compared
   tested-read less = rw (printed-term x (comparisonText less ++ (printedTerm y ++ (bytes ": " ++ printedAction a))) px refl) (rw (compared-read less))
   tested-read equal = rw (printed-term x (comparisonText equal ++ (printedTerm y ++ (bytes ": " ++ printedAction a))) px refl) (rw (compared-read equal))
   tested-read unequal = rw (printed-term x (comparisonText unequal ++ (printedTerm y ++ (bytes ": " ++ printedAction a))) px refl) (rw (compared-read unequal))

@@ -17,7 +17,6 @@ use Rattle.integers.specs.Range.{inRange, sumOf}
 use Rattle.integers.specs.declared.Sum.the-variants.{OutOfRange}
 use Rattle.chain.specs.Scan.{startsWith}
 use Rattle.chain.proofs.Scanning.{first-at}
-use Rattle.syntax.specs.Span.{span}
 use Rattle.syntax.specs.Numeral.{isDigit, digits, decimal, isNumeral, number, unformed, signedForm, numberForm, printedNumber, signedValue, numberValue, capped, cappedValue}
 use Rattle.syntax.specs.Read.{digitsRead, numberRead}
 use Rattle.syntax.specs.declared.numeral.NumberRead.the-variants.{Number, NoForm}
@@ -67,7 +66,7 @@ numeral-test negative (d ∷ e ∷ ds) h =
     sym (ap (λ (x : Bool). not (eqb d 48 && (negative || x))) long ∙ ap (λ (x : Bool). not (eqb d 48 && x)) (or-true negative) ∙ ap not (and-one (eqb d 48)))
 
 first-digit : (t : List ℕ) → length (digits t) ≢ 0 → getD (digits t) 0 0 ≡ getD t 0 0
-unfolding span
+unfolding digits
 first-digit [] h = refl
 first-digit (b ∷ t) h = go (isDigit b) h
   where

@@ -14,7 +14,6 @@ use Rattle.chain.specs.Scan.{startsWith, opens}
 use Rattle.chain.proofs.Forms.{spelled, printed-form, form-none}
 use Rattle.integers.proofs.Bools.{and-both, true-false}
 use Rattle.syntax.specs.Numeral as N
-use Rattle.syntax.specs.Span.{span}
 use Rattle.syntax.specs.Numeral.{isDigit, digits, isNumeral, signedForm, numberForm, printedNumber}
 use Rattle.syntax.specs.Token.{token, other}
 use Rattle.syntax.specs.Written.{Term, chain, number}
@@ -34,7 +33,7 @@ moved : {t : List ℕ} {x y : Term} {r s : List ℕ} → Spelled t x r → token
 moved {t} {x} {y} {r} {s} w e = let same : x ≡ y = cc in let rest : r ≡ s = cc in rw (same, rest) at w
 
 signed-spelled : (negative : Bool) (t : List ℕ) (x : Term) (r : List ℕ) → ofNumber (signedForm negative t) ≡ token x r → Spelled (printedNumber negative t) x r
-unfolding signedForm ofNumber printedTerm printedNumber
+unfolding signedForm ofNumber printedTerm printedNumber digits
 signed-spelled negative t x r e = go (isNumeral negative (digits t)) refl e
   where
     text : (negative : Bool) → printedNumber negative t ≡ printedNumber negative (digits t) ++ drop (length (digits t)) t
@@ -47,7 +46,7 @@ signed-spelled negative t x r e = go (isNumeral negative (digits t)) refl e
     go false h e = not-token e
 
 number-spelled : (t : List ℕ) (x : Term) (r : List ℕ) → ofNumber (numberForm t) ≡ token x r → Spelled t x r
-unfolding numberForm startsWith printedNumber signedForm isNumeral span ofNumber
+unfolding numberForm startsWith printedNumber signedForm isNumeral digits ofNumber
 number-spelled [] x r e = not-token e
 number-spelled (b ∷ t) x r e = go (eqb b 45) refl e
   where
@@ -65,7 +64,7 @@ term-spelled t x r e = go (C.form t) refl e
     go C.unformed h e = number-spelled t x r e
 
 signed-read : (negative : Bool) (ds r : List ℕ) → isNumeral negative ds ≡ true → every isDigit ds ≡ true → digits r ≡ [] → signedForm negative (ds ++ r) ≡ N.number negative ds r
-unfolding signedForm
+unfolding signedForm digits
 signed-read negative ds r n d e = rw (span-append isDigit ds r d e, n, drop-append-seam)
 
 -- a byte below the capitals begins no chain

@@ -17,7 +17,8 @@ abbrev pub startsDigit : List ℕ → Bool
 startsDigit t = starts isDigit t
 
 -- the digits that a text begins with
-abbrev pub digits : List ℕ → List ℕ
+unfoldable abbrev pub digits : List ℕ → List ℕ
+unfolding span
 digits t = span isDigit t
 
 -- the number that is written by n and then the digits
