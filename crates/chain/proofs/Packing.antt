@@ -41,7 +41,8 @@ enough zero l n h i = let e : n ≡ 0 = omega arith in rw e (none-within 0 ∙ s
 enough (suc k) zero n h i = let e : n ≡ 0 = omega arith in rw e (none-within (suc k) ∙ sym (none-within 0))
 enough (suc k) (suc l) n h i = go (enough k l ((n - 9) / 8)) (ℕ-discrete n 0) (decLt 16 n)
   where
-    go : ((n - 9) / 8 ≤ k → (n - 9) / 8 ≤ l → unpackWithin k ((n - 9) / 8) ≡ unpackWithin l ((n - 9) / 8)) → Dec (n ≡ 0) → Dec (16 < n) → unpackWithin (suc k) n ≡ unpackWithin (suc l) n
+    go : ((n - 9) / 8 ≤ k → (n - 9) / 8 ≤ l → unpackWithin k ((n - 9) / 8) ≡ unpackWithin l ((n - 9) / 8)) → Dec (n ≡ 0) → Dec (16 < n)
+        → unpackWithin (suc k) n ≡ unpackWithin (suc l) n
     go r (yes e) d = rw e (none-within (suc k) ∙ sym (none-within (suc l)))
     go r (no e) (yes m) = more-within k n m ∙ ap (λ (w : List ℕ). (n - 9) % 8 ∷ w) (r (omega arith) (omega arith)) ∙ sym (more-within l n m)
     go r (no e) (no m) = last-within k n (omega arith) (omega arith) ∙ sym (last-within l n (omega arith) (omega arith))

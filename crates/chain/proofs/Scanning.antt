@@ -71,8 +71,8 @@ pub passed-more : {s : Sizes} {x₀ : Letters} {at : ℕ} {t : List ℕ} {x y : 
     → y ≡ step s 0 x (getD t i 0) → Passed s x₀ at t y (i + 2)
 unfolding steps step
 passed-more {s} {x₀} {at} {t} {x} {y} {i} p h e =
-    let first : getD (drop i t) 0 0 ≡ getD t i 0 = first-at t i in
-    let more : openLetters (drop i t) ≡ getD t i 0 ∷ openLetters (drop (i + 2) t) = open-more (drop i t) h ∙ ap₂ (λ (l : ℕ) (r : List ℕ). l ∷ openLetters r) first (drop-drop 2 i t) in
+    let more : openLetters (drop i t) ≡ getD t i 0 ∷ openLetters (drop (i + 2) t) =
+    open-more (drop i t) h ∙ ap₂ (λ (l : ℕ) (r : List ℕ). l ∷ openLetters r) (first-at t i) (drop-drop 2 i t) in
     record {
       inside = omega (arith, opens-inside t i h);
       letters = ap (λ (z : Letters). steps s 0 z (openLetters (drop (i + 2) t))) e ∙ sym (ap (steps s 0 x) more) ∙ p .letters;

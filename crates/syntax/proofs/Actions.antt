@@ -77,6 +77,11 @@ module _ (t : List ℕ) (at : ℕ) where
       go other h e = h
       go (token m r) h e = not-letter (sym e)
 
+pub or-none : {A : Type 0} (x : Option A) → or x none ≡ x
+unfolding or
+or-none none = refl
+or-none (some a) = refl
+
 -- a word and what f reads behind it
 module _ {A : Type 0} (f : List ℕ → Option A) where
   pub word-refused : (w t : List ℕ) → begins w t ≡ false → word w t f ≡ none
@@ -84,6 +89,10 @@ module _ {A : Type 0} (f : List ℕ → Option A) where
 
   pub word-taken : (t w : List ℕ) (at end : ℕ) → Taken t w at end → word w (drop at t) f ≡ f (drop end t)
   word-taken t w at end p = word-begins w (drop at t) f ∙ rw (p .stands, p .rest)
+
+  -- a word that stands, beside a reading that is none
+  pub or-word : {t w : List ℕ} {at end : ℕ} {y : Option A} → Taken t w at end → y ≡ none → or (word w (drop at t) f) y ≡ f (drop end t)
+  or-word {t} {w} {at} {end} p e = rw (e, word-taken t w at end p) (or-none (f (drop end t)))
 
 -- a line that ends at a place, or goes on
 pub finished-end : {A : Type 0} (a : A) (t : List ℕ) (end : ℕ) → length t ≤ end → finished a (drop end t) ≡ some a
@@ -127,7 +136,8 @@ unfoldable mapped : {A B : Type 0} → (A → B) → Option A → Option B
 mapped make none = none
 mapped make (some a) = some (make a)
 
-word-mapped : {A B : Type 0} (make : A → B) (f : List ℕ → Option A) (g : List ℕ → Option B) → ((r : List ℕ) → g r ≡ mapped make (f r)) → (w t : List ℕ) → word w t g ≡ mapped make (word w t f)
+word-mapped : {A B : Type 0} (make : A → B) (f : List ℕ → Option A) (g : List ℕ → Option B) → ((r : List ℕ) → g r ≡ mapped make (f r))
+    → (w t : List ℕ) → word w t g ≡ mapped make (word w t f)
 unfolding word mapped
 word-mapped make f g h [] t = h t
 word-mapped make f g h (b ∷ w) [] = refl
@@ -196,8 +206,8 @@ module _ (s : Sizes) (f : ℕ) (p : TermParts) (x : W.Term) (e : p ≡ partsOf s
   set-read = rw (e, checks-one s x)
 
   module _ (q : TermParts) (y : W.Term) (h : q ≡ partsOf s y) where
-    pub combined-read : (minus : Bool) {r : Rule} → r ≡ ruleOfAction (combined minus f x y)
-        → Action r (ruleChecks (names s f) (measured f (p .reference) && measured f (q .reference)) (bothChecks (p .checks) (q .checks))) ≡ actionRead s (some (combined minus f x y))
+    pub combined-read : (minus : Bool) {r : Rule} → let a = combined minus f x y in r ≡ ruleOfAction a
+        → Action r (ruleChecks (names s f) (measured f (p .reference) && measured f (q .reference)) (bothChecks (p .checks) (q .checks))) ≡ actionRead s (some a)
     unfolding actionRead actionChecks target actionKinds areMeasures measured actionTerms partsOf
     combined-read true k = rw (k, e, h, checks-two s x y)
     combined-read false k = rw (k, e, h, checks-two s x y)

@@ -152,7 +152,8 @@ module _ (s : Sizes) (t : List ℕ) (at : ℕ) where
       go (token x r) q h =
           let w = term-spelled (drop at t) x r q in
           let e : end ≡ at + length (printedTerm x) = same-place h refl in
-          let rest : r ≡ drop end t = sym (drop-at (printedTerm x) r (length (printedTerm x)) refl) ∙ sym (ap (drop (length (printedTerm x))) (w .text)) ∙ drop-drop (length (printedTerm x)) at t ∙ ap (λ (n : ℕ). drop n t) (sym e) in
+          let n = length (printedTerm x) in
+          let rest : r ≡ drop end t = sym (drop-at (printedTerm x) r n refl) ∙ sym (ap (drop n) (w .text)) ∙ drop-drop n at t ∙ ap (λ (k : ℕ). drop k t) (sym e) in
           let size : length t - at ≡ length (printedTerm x) + length r = sym (length-drop at t) ∙ ap length (w .text) ∙ length-append (printedTerm x) r in
           record { written = x; stands = q ∙ ap (token x) rest; parts = same-parts h refl; place = e; inside = omega arith }
 

@@ -58,9 +58,10 @@ remote-spelled r (C.formed [] s) e = tt
 remote-spelled r (C.formed (f ∷ c) s) e =
     let P : Action → Type 0 = SpelledAction (bytes "remote " ++ r) in
     let w = spelled r (f ∷ c) s e in
+    let front : bytes "remote " ++ r ≡ bytes "remote " ++ (printed (f ∷ c) ++ s) = ap (λ (l : List ℕ). bytes "remote " ++ l) (w .text) in
     or-all P _ _
-    (word-all P (bytes " <?= ") s _ (λ s₁ e₁. last-all P (least f c) s₁ (λ x e₂ p. record { text = ap (λ (l : List ℕ). bytes "remote " ++ l) (w .text ∙ rw (e₁, e₂)); proper = (w .capitals, p) })))
-    (word-all P (bytes " += ") s _ (λ s₁ e₁. last-all P (total f c) s₁ (λ x e₂ p. record { text = ap (λ (l : List ℕ). bytes "remote " ++ l) (w .text ∙ rw (e₁, e₂)); proper = (w .capitals, p) })))
+    (word-all P (bytes " <?= ") s _ (λ s₁ e₁. last-all P (least f c) s₁ (λ x e₂ p. record { text = front ∙ rw (e₁, e₂); proper = (w .capitals, p) })))
+    (word-all P (bytes " += ") s _ (λ s₁ e₁. last-all P (total f c) s₁ (λ x e₂ p. record { text = front ∙ rw (e₁, e₂); proper = (w .capitals, p) })))
 
 action-spelled : (t : List ℕ) → All (SpelledAction t) (actionForm t)
 unfolding actionForm
@@ -136,7 +137,8 @@ assign-read f x r h p e =
     ∙ rw (capital-read f (bytes "[u] := " ++ (printedTerm x ++ r)) h, printed-term x r p e)
 
 -- `remote F[C]` is read
-target-read : (f : ℕ) (c r : List ℕ) → every isCapital (f ∷ c) ≡ true → actionForm (bytes "remote " ++ (printed (f ∷ c) ++ r)) ≡ or (sent f c r) (localForm (bytes "remote " ++ (printed (f ∷ c) ++ r)))
+target-read : (f : ℕ) (c r : List ℕ) → every isCapital (f ∷ c) ≡ true
+    → actionForm (bytes "remote " ++ (printed (f ∷ c) ++ r)) ≡ or (sent f c r) (localForm (bytes "remote " ++ (printed (f ∷ c) ++ r)))
 unfolding actionForm word remoteForm
 target-read f c r h = rw (printed-form (f ∷ c) r h)
 

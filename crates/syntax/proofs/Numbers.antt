@@ -97,7 +97,8 @@ module _ (at : ℕ) (negative : Bool) (t : List ℕ) where
       go [] h = refl
       go (d ∷ ds) h = absurd (omega arith)
 
-  pub read-formed : isNumeral negative (digits t) ≡ true → digitsRead at (signedForm negative t) ≡ Number (signedValue negative (capped (decimal 0 (digits t)))) (at + length (digits t))
+  pub read-formed : isNumeral negative (digits t) ≡ true
+      → digitsRead at (signedForm negative t) ≡ Number (signedValue negative (capped (decimal 0 (digits t)))) (at + length (digits t))
   unfolding digitsRead cappedValue
   read-formed h = ap (digitsRead at) (signed-formed negative t h)
 
@@ -114,7 +115,8 @@ pub read-plain : (at : ℕ) (t : List ℕ) → startsWith 45 t ≡ false → dig
 unfolding signedForm digitsRead numberRead printedNumber
 read-plain at t h = go (isNumeral false (digits t)) ∙ sym (ap (numberRead at) (form-plain t h))
   where
-    go : (x : Bool) → digitsRead at (cond x (number false (digits t) (drop (length (digits t)) t)) unformed) ≡ numberRead at (cond x (number false (digits t) (drop (length (digits t)) t)) unformed)
+    go : (x : Bool) → digitsRead at (cond x (number false (digits t) (drop (length (digits t)) t)) unformed)
+        ≡ numberRead at (cond x (number false (digits t) (drop (length (digits t)) t)) unformed)
     go true = refl
     go false = refl
 

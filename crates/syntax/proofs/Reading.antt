@@ -32,14 +32,13 @@ use Rattle.syntax.specs.declared.line.LineRead.the-variants.{Step, End, 
 use Rattle.syntax.proofs.Tokens.{word-begins}
 use Rattle.syntax.proofs.Words.{Taken, begins-text}
 use Rattle.syntax.proofs.Answers.{TermTaken}
-use Rattle.syntax.proofs.Actions.{Lettered, word-refused, word-taken, finished-end, finished-more, checks-two}
-use Rattle.syntax.proofs.Remotes.{or-none}
+use Rattle.syntax.proofs.Actions.{Lettered, or-none, word-refused, word-taken, or-word, finished-end, finished-more, checks-two}
 
 -- what is asked of a rule's line is what is asked of its test and of what it does
-every-append : (p : W.Term → Bool) (xs ys : List W.Term) → everyTerm p (xs ++ ys) ≡ everyTerm p xs && everyTerm p ys
+every-both : (p : W.Term → Bool) (xs ys : List W.Term) → everyTerm p xs && everyTerm p ys ≡ everyTerm p (xs ++ ys)
 unfolding everyTerm
-every-append p [] ys = refl
-every-append p (x ∷ xs) ys = ap (λ (b : Bool). p x && b) (every-append p xs ys) ∙ sym (assoc (p x) (everyTerm p xs) (everyTerm p ys))
+every-both p [] ys = refl
+every-both p (x ∷ xs) ys = assoc (p x) (everyTerm p xs) (everyTerm p ys) ∙ ap (λ (b : Bool). p x && b) (every-both p xs ys)
   where
     assoc : (a b c : Bool) → (a && b) && c ≡ a && (b && c)
     assoc true b c = refl
@@ -66,12 +65,14 @@ checks-same {n} {n′} {k} {k′} {h} {h′} {r} {r′} a b c d =
 rule-checks : (s : Sizes) (c : W.Condition) (a : W.Action) → bothChecks (conditionParts s c .checks) (actionChecks s a) ≡ lineChecks s (W.rule c a)
 unfolding bothChecks conditionParts ruleChecks termsChecks actionChecks lineChecks named kinded short numbersInRange fieldNamed kindsAgree terms
 rule-checks s c a =
-    let e : (p : W.Term → Bool) → everyTerm p (conditionTerms c) && everyTerm p (actionTerms a) ≡ everyTerm p (conditionTerms c ++ actionTerms a) = λ p. sym (every-append p (conditionTerms c) (actionTerms a)) in
+    let xs = conditionTerms c in
+    let ys = actionTerms a in
     checks-same
-    (and-front (names s (target a)) (everyTerm (termNamed s) (conditionTerms c)) (everyTerm (termNamed s) (actionTerms a)) ∙ ap (λ (b : Bool). names s (target a) && b) (e (termNamed s)))
-    (and-pairs (everyTerm termKinded (conditionTerms c)) (conditionKinds c) (everyTerm termKinded (actionTerms a)) (actionKinds a) ∙ ap (λ (b : Bool). b && (conditionKinds c && actionKinds a)) (e termKinded))
-    (e termShort)
-    (e termInRange)
+    (and-front (names s (target a)) (everyTerm (termNamed s) xs) (everyTerm (termNamed s) ys) ∙ ap (λ (b : Bool). names s (target a) && b) (every-both (termNamed s) xs ys))
+    (and-pairs (everyTerm termKinded xs) (conditionKinds c) (everyTerm termKinded ys) (actionKinds a)
+    ∙ ap (λ (b : Bool). b && (conditionKinds c && actionKinds a)) (every-both termKinded xs ys))
+    (every-both termShort xs ys)
+    (every-both termInRange xs ys)
 
 pub rule-read : (s : Sizes) {p : TestParts} (c : W.Condition) (o : Option W.Action) → p ≡ conditionParts s c → ruleRead p (actionRead s o) ≡ lineRead s (ruleOf c o)
 unfolding ruleRead actionRead lineRead ruleOf conditionParts
@@ -85,7 +86,8 @@ comparison-same Less = refl
 comparison-same Equal = refl
 comparison-same Unequal = refl
 
-pub when-parts : (s : Sizes) (p : TermParts) (c : Comparison) (q : TermParts) (x y : W.Term) → p ≡ partsOf s x → q ≡ partsOf s y → whenParts p c q ≡ conditionParts s (W.when x (written c) y)
+pub when-parts : (s : Sizes) (p : TermParts) (c : Comparison) (q : TermParts) (x y : W.Term) → p ≡ partsOf s x → q ≡ partsOf s y
+    → whenParts p c q ≡ conditionParts s (W.when x (written c) y)
 unfolding whenParts conditionParts testOf conditionKinds conditionTerms partsOf
 when-parts s p c q x y e h = rw (e, h, comparison-same c, checks-two s x y)
 
@@ -163,16 +165,20 @@ module _ (t : List ℕ) (at : ℕ) (x : W.Term) where
   sides-some {c} {end} e = go (begins (bytes " < ") (drop at t)) refl (begins (bytes " == ") (drop at t)) refl (begins (bytes " != ") (drop at t)) refl e
     where
       -- the place behind a word of this size, and what stands there
-      behind : (w : List ℕ) → begins w (drop at t) ≡ true → (d : Comparison) (n : ℕ) → length w ≡ n → 0 < n → At d (at + n) ≡ At c end → ((r : List ℕ) → sides x (w ++ r) ≡ comparedForm x d r)
+      behind : (w : List ℕ) → begins w (drop at t) ≡ true → (d : Comparison) (n : ℕ) → length w ≡ n → 0 < n → At d (at + n) ≡ At c end
+          → ((r : List ℕ) → sides x (w ++ r) ≡ comparedForm x d r)
           → (sides x (drop at t) ≡ comparedForm x c (drop end t)) × (end ≤ length t)
       behind w h d n k l e f =
+          let r = drop (length w) (drop at t) in
           let place : at + length w ≡ end = ap (λ (m : ℕ). at + m) k ∙ same-end e in
-          let rest : drop (length w) (drop at t) ≡ drop end t = drop-drop (length w) at t ∙ ap (λ (m : ℕ). drop m t) place in
-          let size : length (drop at t) ≡ length w + length (drop (length w) (drop at t)) = ap length (begins-text w (drop at t) h) ∙ length-append w (drop (length w) (drop at t)) in
-          (ap (sides x) (begins-text w (drop at t) h) ∙ f (drop (length w) (drop at t)) ∙ ap₂ (comparedForm x) (same-comparison e) rest, omega (arith, place, size, length-drop at t))
+          let rest : r ≡ drop end t = drop-drop (length w) at t ∙ ap (λ (m : ℕ). drop m t) place in
+          let text = begins-text w (drop at t) h in
+          let size : length (drop at t) ≡ length w + length r = ap length text ∙ length-append w r in
+          (ap (sides x) text ∙ f r ∙ ap₂ (comparedForm x) (same-comparison e) rest, omega (arith, place, size, length-drop at t))
 
       go : (a : Bool) → begins (bytes " < ") (drop at t) ≡ a → (b : Bool) → begins (bytes " == ") (drop at t) ≡ b → (d : Bool) → begins (bytes " != ") (drop at t) ≡ d
-          → cond a (At Less (at + 3)) (cond b (At Equal (at + 4)) (cond d (At Unequal (at + 4)) NoComparison)) ≡ At c end → (sides x (drop at t) ≡ comparedForm x c (drop end t)) × (end ≤ length t)
+          → cond a (At Less (at + 3)) (cond b (At Equal (at + 4)) (cond d (At Unequal (at + 4)) NoComparison)) ≡ At c end
+          → (sides x (drop at t) ≡ comparedForm x c (drop end t)) × (end ≤ length t)
       go true a b hb d hd e = behind (bytes " < ") a Less 3 refl (omega arith) e (less-sides x)
       go false a true hb d hd e = behind (bytes " == ") hb Equal 4 refl (omega arith) e (equal-sides x)
       go false a false hb true hd e = behind (bytes " != ") hd Unequal 4 refl (omega arith) e (unequal-sides x)
@@ -228,10 +234,7 @@ module _ (t : List ℕ) where
   ruled-plain e = rw (word-refused testedForm (bytes "if ") t e)
 
   pub ruled-tested : (at : ℕ) → Taken t (bytes "if ") 0 at → ruledForm t ≡ testedForm (drop at t)
-  ruled-tested at p =
-      ap (or (word (bytes "if ") t testedForm)) (ap (λ (l : List ℕ). ruleOf W.always (actionForm l)) (begins-text (bytes "if ") t (p .stands)) ∙ action-if (drop (length (bytes "if ")) t))
-      ∙ or-none (word (bytes "if ") t testedForm)
-      ∙ word-taken testedForm t (bytes "if ") 0 at p
+  ruled-tested at p = or-word testedForm p (ap (λ (l : List ℕ). ruleOf W.always (actionForm l)) (begins-text (bytes "if ") t (p .stands)) ∙ action-if _)
 
 -- a loop's first line; no rule begins with `loop `
 ruled-loop : (r : List ℕ) → ruledForm (bytes "loop " ++ r) ≡ none
@@ -244,10 +247,7 @@ module _ (t : List ℕ) where
   open-ruled e = rw (word-refused loopForm (bytes "loop ") t e)
 
   pub open-loop : (at : ℕ) → Taken t (bytes "loop ") 0 at → openForm t ≡ loopForm (drop at t)
-  open-loop at p =
-      ap (or (word (bytes "loop ") t loopForm)) (ap ruledForm (begins-text (bytes "loop ") t (p .stands)) ∙ ruled-loop (drop (length (bytes "loop ")) t))
-      ∙ or-none (word (bytes "loop ") t loopForm)
-      ∙ word-taken loopForm t (bytes "loop ") 0 at p
+  open-loop at p = or-word loopForm p (ap ruledForm (begins-text (bytes "loop ") t (p .stands)) ∙ ruled-loop _)
 
 module _ (s : Sizes) (t : List ℕ) (at : ℕ) where
   pub loop-no-letter : capital (drop at t) ≡ other → lineRead s (loopForm (drop at t)) ≡ NoLine

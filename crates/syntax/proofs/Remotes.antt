@@ -30,15 +30,17 @@ use Rattle.syntax.specs.declared.rule.Rule.the-variants.{Least, Total}
 use Rattle.syntax.specs.declared.term.TermParts.{TermParts}
 use Rattle.syntax.proofs.Words.{Taken, begins-text}
 use Rattle.syntax.proofs.Answers.{chain-parts, reference-first}
-use Rattle.syntax.proofs.Actions.{Last, made-none, made-some, checks-two, word-refused, word-taken}
+use Rattle.syntax.proofs.Actions.{Last, made-none, made-some, checks-two, word-refused, or-word}
 
 -- the answers for remote rules, by the parts of their target and term
 module _ (s : Sizes) (g : Target) (f : ℕ) (c : List ℕ) (e : g ≡ targetOf s f c) (p : TermParts) (x : W.Term) (h : p ≡ partsOf s x) where
-  pub least-read : Action (Least (fieldOf (g .letter)) (g .chain) (p .term)) (remoteChecks s g p (same (isReferenceLetter (g .letter)) (p .reference))) ≡ actionRead s (some (W.least f c x))
+  pub least-read : Action (Least (fieldOf (g .letter)) (g .chain) (p .term)) (remoteChecks s g p (same (isReferenceLetter (g .letter)) (p .reference)))
+      ≡ actionRead s (some (W.least f c x))
   unfolding actionRead ruleOfAction actionChecks remoteChecks target actionKinds actionTerms partsOf targetOf
   least-read = rw (e, h, checks-two s (W.chain c) x)
 
-  pub total-read : Action (Total (fieldOf (g .letter)) (g .chain) (p .term)) (remoteChecks s g p (measured (g .letter) (p .reference))) ≡ actionRead s (some (W.total f c x))
+  pub total-read : Action (Total (fieldOf (g .letter)) (g .chain) (p .term)) (remoteChecks s g p (measured (g .letter) (p .reference)))
+      ≡ actionRead s (some (W.total f c x))
   unfolding actionRead ruleOfAction actionChecks remoteChecks target actionKinds areMeasures measured actionTerms partsOf targetOf
   total-read = rw (e, h, checks-two s (W.chain c) x)
 
@@ -58,6 +60,11 @@ module _ (s : Sizes) (f : ℕ) (c t : List ℕ) where
   pub sent-some : {p : TermParts} (l : Last s (bytes " <?= ") t p) → sent f c t ≡ some (W.least f c (l .written))
   unfolding sent or
   sent-some l = rw (made-some s (bytes " <?= ") t (W.least f c) l)
+
+-- a chain's text goes up to the place behind it
+form-stands : (t : List ℕ) (at end : ℕ) (ls r : List ℕ) → form (drop at t) ≡ formed ls r → end ≡ at + (3 * length ls + 1) → form (drop at t) ≡ formed ls (drop end t)
+form-stands t at end ls r h k =
+    h ∙ ap (formed ls) (form-rest (drop at t) ls r h ∙ drop-drop (3 * length ls + 1) at t ∙ ap (λ (n : ℕ). drop n t) (sym k))
 
 -- a chain and its closing bracket
 no-chain : {A : Type 0} {x : Letters} {e : ℕ} → NoChain ≡ Chain x e → A
@@ -100,7 +107,7 @@ module _ (s : Sizes) (t : List ℕ) (at l : ℕ) where
         go unformed h e = no-chain e
         go (formed ls r) h e =
             let k : end ≡ at + (3 * length ls + 1) = sym (same-end e) in
-            record { ls = ls; stands = h ∙ ap (formed ls) (form-rest (drop at t) ls r h ∙ drop-drop (3 * length ls + 1) at t ∙ ap (λ (n : ℕ). drop n t) (sym k)); letters-are = sym (same-letters e); end-is = k }
+            record { ls = ls; stands = form-stands t at end ls r h k; letters-are = sym (same-letters e); end-is = k }
 
     pub closed-open : startsWith 93 (drop end t) ≡ false → targetRead s at (closed l (form (drop at t))) ≡ NoTarget
     unfolding targetRead
@@ -157,7 +164,7 @@ module _ (s : Sizes) (t : List ℕ) (at : ℕ) where
           record {
             field = f;
             hops = c;
-            stands = h ∙ ap (formed (f ∷ c)) (form-rest (drop at t) (f ∷ c) r h ∙ drop-drop (3 * length (f ∷ c) + 1) at t ∙ ap (λ (n : ℕ). drop n t) (sym k));
+            stands = form-stands t at end (f ∷ c) r h k;
             parts = same;
             is-capital = ap (λ (y : Target). isCapital (y .letter)) same ∙ and-both (isCapital f) (every isCapital c) (spelled (drop at t) (f ∷ c) r h .capitals) .0;
             inside = omega (arith, k, form-length (drop at t) (f ∷ c) r h, length-drop at t);
@@ -173,11 +180,6 @@ module _ (s : Sizes) (t : List ℕ) (at : ℕ) where
       go (formed (f ∷ c) r) e = no-target (sym e)
 
 -- a rule: a local one, or behind `remote ` a remote one, for no local rule begins with a small letter
-pub or-none : {A : Type 0} (x : Option A) → or x none ≡ x
-unfolding or
-or-none none = refl
-or-none (some a) = refl
-
 local-remote : (r : List ℕ) → localForm (bytes "remote " ++ r) ≡ none
 unfolding localForm capital then isCapital
 local-remote r = refl
@@ -190,11 +192,7 @@ module _ (t : List ℕ) (at : ℕ) where
   module _ (start : ℕ) (p : Taken t (bytes "remote ") at start) where
     pub action-remote : actionForm (drop at t) ≡ remoteForm (form (drop start t))
     unfolding actionForm
-    action-remote =
-        let none-local : localForm (drop at t) ≡ none = ap localForm (begins-text (bytes "remote ") (drop at t) (p .stands)) ∙ local-remote (drop (length (bytes "remote ")) (drop at t)) in
-        ap (λ (o : Option W.Action). or (word (bytes "remote ") (drop at t) (λ r. remoteForm (form r))) o) none-local
-        ∙ or-none (word (bytes "remote ") (drop at t) (λ r. remoteForm (form r)))
-        ∙ word-taken (λ r. remoteForm (form r)) t (bytes "remote ") at start p
+    action-remote = or-word (λ r. remoteForm (form r)) p (ap localForm (begins-text (bytes "remote ") (drop at t) (p .stands)) ∙ local-remote _)
 
     pub action-no-target : remoteForm (form (drop start t)) ≡ none → (s : Sizes) → actionRead s (actionForm (drop at t)) ≡ NoForm
     unfolding actionRead

@@ -53,13 +53,15 @@ module _ (t : ℕ) where
   returns c = rw (settled-adds _ _ (sym (c .before .is-settled .ensures) ∙ c .if1 .taken)) (extended-same (c .before .before .before .before .pre .1 .0))
 
   -- a fact that is not settled: its line needs nothing, ..
-  new-one : (c : add-fact-lts.Then2 (called t) (add-fact-at t) add-fact.Post) → let s = c .before .before .before .before .before .args in NewOne (facts (s .t1)) (fact-of (s .key))
+  new-one : (c : add-fact-lts.Then2 (called t) (add-fact-at t) add-fact.Post) → let s = c .before .before .before .before .before .args in
+      NewOne (facts (s .t1)) (fact-of (s .key))
   new-one c =
       let unsettled = sym (c .before .before .is-settled .ensures) ∙ c .before .if1 .left in
       record { has-line = unsettled-line _ _ unsettled; one = hops-short _ (c .if2 .taken); new = unsettled-new _ _ unsettled }
 
   -- .. or it has two needs
-  new-both : (c : add-fact-lts.Else2 (called t) (add-fact-at t) add-fact.Post) → let s = c .before .before .before .before .before .args in NewBoth (facts (s .t1)) (fact-of (s .key))
+  new-both : (c : add-fact-lts.Else2 (called t) (add-fact-at t) add-fact.Post) → let s = c .before .before .before .before .before .args in
+      NewBoth (facts (s .t1)) (fact-of (s .key))
   new-both c = record { two = hops-long _ (c .if2 .left); new = unsettled-new _ _ (sym (c .before .before .is-settled .ensures) ∙ c .before .if1 .left) }
 
   append-requires : add-fact-lts.Need-append-requires (called t) (add-fact-at t) add-fact.Post

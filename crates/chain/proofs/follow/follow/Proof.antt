@@ -41,14 +41,16 @@ enum-told c = search needs
 returns : tie.Need-returns Inv-loop μ-loop
 returns c =
     let l = c .before .before .before .before in
-    hop-missing (l .before .before .before .pre .1) (l .loop .inv) (c .before .before .before .loop-test .taken) (sym (c .before .before .cell-of .ensures) ∙ c .enum-told .given .1)
+    let cell = sym (c .before .before .cell-of .ensures) ∙ c .enum-told .given .1 in
+    hop-missing (l .before .before .before .pre .1) (l .loop .inv) (c .before .before .before .loop-test .taken) cell
 
 index-requires : tie.Need-index-requires Inv-loop μ-loop
 index-requires c κs =
     let l = c .before .before .before .before .before in
     let v = c .before .value .given in
+    let cell = sym (c .before .before .before .cell-of .ensures) ∙ v .1 in
     rw (kept (v .0 .0) (c .known-told .given .0 .1))
-    (hop-index (l .before .before .before .pre .1) (l .loop .inv) (c .before .before .before .before .loop-test .taken) (v .0 .0) (sym (c .before .before .before .cell-of .ensures) ∙ v .1))
+    (hop-index (l .before .before .before .pre .1) (l .loop .inv) (c .before .before .before .before .loop-test .taken) (v .0 .0) cell)
 
 sub-rest : tie.Need-sub-rest Inv-loop μ-loop
 sub-rest c = omega arith
@@ -60,7 +62,8 @@ loop-again : tie.Need-loop-again Inv-loop μ-loop
 loop-again c =
     let l = c .before .before .before .before .before .before in
     let v = c .before .before .value .given in
-    hop-on (l .before .before .before .pre .1) (l .loop .inv) (c .before .before .before .before .before .loop-test .taken) (v .0 .0) (c .index .result) (sym (c .before .before .before .before .cell-of .ensures) ∙ v .1)
+    let cell = sym (c .before .before .before .before .cell-of .ensures) ∙ v .1 in
+    hop-on (l .before .before .before .pre .1) (l .loop .inv) (c .before .before .before .before .before .loop-test .taken) (v .0 .0) (c .index .result) cell
     (c .index .ensures ∙ ap natAbs (kept (v .0 .0) (c .before .known-told .given .0 .1)))
 
 of-index-requires : tie.Need-of-index-requires Inv-loop μ-loop

@@ -36,8 +36,8 @@ end-inside c =
     let t = now (c .before .before .before .before .before .args .text) in
     starts-inside t (c .before .before .before .open-letters .result .at) 117 (sym (c .before .starts-with .ensures) ∙ not-false _ (c .if1 .left))
 
-close-test : (c : tie.After-closes-at) {t : Bool} → c .closes-at .result ≡ t → let a = c .before .before .before .before .before .before .args in let n = hops (c .before .before) in
-    closes n (drop (a .at + 2 * n + 1) (now (a .text))) ≡ t
+close-test : (c : tie.After-closes-at) {t : Bool} → c .closes-at .result ≡ t
+    → let a = c .before .before .before .before .before .before .args in let n = hops (c .before .before) in closes n (drop (a .at + 2 * n + 1) (now (a .text))) ≡ t
 unfolding hops
 close-test c h =
     ap (λ (n : ℕ). closes (hops (c .before .before)) (drop (n + 1) (now (c .before .before .before .before .before .before .args .text)))) (sym (end-is (c .before .before)))

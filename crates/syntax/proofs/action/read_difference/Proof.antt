@@ -2,9 +2,6 @@
 -- Assumes nothing.
 use mathlib.Core.Path.{sym, ap, _∙_}
 use borrow.Author.Needs.{needs}
-use lib.ListN.{drop}
-use denote.Ref.{now}
-use Rattle.syntax.specs.Bytes.{bytes}
 use Rattle.syntax.specs.ActionRead.{actionRead}
 use Rattle.syntax.proofs.Actions.{last-taken, minus-none, minus-some}
 use Rattle.syntax.proofs.action.read_difference.Statement.{statement}
@@ -33,7 +30,7 @@ combined-requires c κs = search needs
 returns-2 : tie.Need-returns-2
 returns-2 c =
     let a = c .before .before .before .before .before .before .before .args in
-    let l = last-taken (a .sizes) (bytes " - ") (drop (a .at) (now (a .line))) (sym (c .before .before .before .before .read-last .ensures) ∙ c .before .before .y .given .1) in
+    let l = last-taken _ _ _ (sym (c .before .before .before .before .read-last .ensures) ∙ c .before .before .y .given .1) in
     λ w e. c .combined .ensures w (l .written) e (l .parts) ∙ sym (ap (actionRead (a .sizes)) (minus-some (a .sizes) (a .letter) w _ l))
 
 pub read-difference-spec : {M : Type 1} → statement M

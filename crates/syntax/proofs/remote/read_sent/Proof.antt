@@ -2,11 +2,8 @@
 -- Assumes nothing.
 use mathlib.Core.Path.{sym, ap, _∙_}
 use borrow.Author.Needs.{needs}
-use lib.ListN.{drop}
-use denote.Ref.{now}
 use Rattle.chain.specs.Text.{isReferenceLetter}
 use Rattle.chain.proofs.Steps.{capital-low}
-use Rattle.syntax.specs.Bytes.{bytes}
 use Rattle.syntax.specs.ActionRead.{actionRead}
 use Rattle.syntax.proofs.Actions.{last-taken}
 use Rattle.syntax.proofs.Remotes.{sent-none, sent-some, least-read}
@@ -47,7 +44,7 @@ returns-2 : tie.Need-returns-2
 unfolding isReferenceLetter
 returns-2 c =
     let a = c .before .before .before .before .before .before .before .before .before .args in
-    let l = last-taken (a .sizes) (bytes " <?= ") (drop (a .at) (now (a .line))) (sym (c .before .before .before .before .before .before .read-last .ensures) ∙ c .before .before .before .before .x .given .1) in
+    let l = last-taken _ _ _ (sym (c .before .before .before .before .before .before .read-last .ensures) ∙ c .before .before .before .before .x .given .1) in
     λ f w e.
     c .remote-rule .ensures
     ∙ rw (c .before .before .field-of .ensures, c .before .same .ensures)

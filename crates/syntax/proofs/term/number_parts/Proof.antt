@@ -29,16 +29,18 @@ plain-parts-requires-2 c κs = search needs
 returns : tie.Need-returns
 unfolding numberParts
 returns c =
+    let s = c .before .before .before .before in
     let v = c .before .before .number .given in
     c .plain-parts .ensures
     ∙ ap (λ (z : ℤ). plainParts z true) (kept (v .0 .0) (c .before .known-told .given .0 .1))
-    ∙ sym (ap numberParts (sym (c .before .before .before .before .in-range .ensures ∙ ap sumOf (toZ-ofZ (c .before .before .before .before .before .fits .value))) ∙ v .1))
+    ∙ sym (ap numberParts (sym (s .in-range .ensures ∙ ap sumOf (toZ-ofZ (s .before .fits .value))) ∙ v .1))
 
 returns-2 : tie.Need-returns-2
 unfolding numberParts
 returns-2 c =
+    let s = c .before .before .before in
     c .plain-parts2 .ensures
-    ∙ sym (ap numberParts (sym (c .before .before .before .in-range .ensures ∙ ap sumOf (toZ-ofZ (c .before .before .before .before .fits .value))) ∙ c .before .enum-told .given .1))
+    ∙ sym (ap numberParts (sym (s .in-range .ensures ∙ ap sumOf (toZ-ofZ (s .before .fits .value))) ∙ c .before .enum-told .given .1))
 
 pub number-parts-spec : {M : Type 1} → statement M
 number-parts-spec =
