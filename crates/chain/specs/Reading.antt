@@ -36,17 +36,19 @@ readingLoaded s file text u = after (wordOfForm s (form text)) (atRecord s (cell
 unfoldable pub reading : List ℕ → List ℕ → ℕ → Outcome Cell
 reading file text u = after (load file) (λ s. readingLoaded s file text u)
 
--- document 01's number for each refusal of a chain, and the outcome of each answer
+-- document 01's number for each refusal of a chain
 unfoldable pub refusalNumber : Refusal → ℕ
 refusalNumber BadForm = 7
 refusalNumber Field = 9
 refusalNumber Kind = 10
 refusalNumber Hops = 11
 
+-- the outcome of each answer for a chain
 unfoldable pub chainOutcome : ChainAnswer → Outcome (List ℕ)
 chainOutcome (Chain n) = done (unpack n)
 chainOutcome (Refused r) = refused (refusalNumber r) 1
 
+-- the outcome of each answer for a reading
 unfoldable pub readingOutcome : ReadingAnswer → Outcome Cell
 readingOutcome (Read c) = done c
 readingOutcome (Register r) = refused (register-number r) 0

@@ -15,11 +15,12 @@ use Rattle.chain.specs.declared.text.Head.the-variants.{Answer, Opening}
 use Rattle.chain.specs.declared.text.Scanned.{Scanned}
 use Rattle.chain.specs.declared.text.Scanned.the-variants.{Chain, NoForm}
 
--- whether a text begins with byte b, and whether it begins with a field letter and `[`
+-- whether a text begins with byte b
 unfoldable pub startsWith : ℕ → List ℕ → Bool
 startsWith b [] = false
 startsWith b (a ∷ t) = eqb a b
 
+-- whether a text begins with a field letter and `[`
 unfoldable pub opens : List ℕ → Bool
 opens [] = false
 opens (l ∷ []) = false
@@ -43,6 +44,7 @@ step s k x l = record {
   long = x .long || eqb k 0;
 }
 
+-- more letters, from the outside in
 unfoldable pub steps : Sizes → ℕ → Letters → List ℕ → Letters
 steps s k x [] = x
 steps s k x (l ∷ ls) = steps s (k - 1) (step s k x l) ls
@@ -51,11 +53,12 @@ steps s k x (l ∷ ls) = steps s (k - 1) (step s k x l) ls
 unfoldable pub chainEnd : ℕ → List ℕ → ℕ
 chainEnd at ls = at + (3 * length ls + 1)
 
--- the reader's answer for the form of the text from `at` on
+-- the reader's answer for the form of the text from `at` on, behind the letters x
 unfoldable pub scannedFrom : Sizes → ℕ → Letters → ℕ → Form → Scanned
 scannedFrom s k x at unformed = NoForm
 scannedFrom s k x at (formed ls rest) = Chain (steps s k x ls) (chainEnd at ls)
 
+-- the same where nothing was read before
 unfoldable pub scanned : Sizes → ℕ → Form → Scanned
 scanned s at unformed = NoForm
 scanned s at (formed ls rest) = Chain (summary s ls) (chainEnd at ls)

@@ -26,6 +26,7 @@ closed l unformed = unformed
 closed l (formed ls []) = unformed
 closed l (formed ls (b ∷ rest)) = cond (eqb b 93) (formed (l ∷ ls) rest) unformed
 
+-- the chain that a text begins with
 unfoldable pub form : List ℕ → Form
 form [] = unformed
 form (b ∷ []) = cond (eqb b 117) (formed [] []) unformed
@@ -45,6 +46,7 @@ isReferenceLetter l = ltb l 77
 unfoldable pub names : Sizes → ℕ → Bool
 names s l = cond (isReferenceLetter l) (leb 65 l && ltb l (65 + s .references)) (ltb l (77 + s .measures))
 
+-- whether every element of a list passes
 unfoldable pub every : (ℕ → Bool) → List ℕ → Bool
 every p [] = true
 every p (a ∷ l) = p a && every p l

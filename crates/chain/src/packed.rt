@@ -1,6 +1,6 @@
 // A hop word packed into one number.
 ghost use mathlib.Core.Path.{_≡_};
-ghost use Prim.Native.Nat.{_+_, _*_, _≤_, _<_};
+ghost use Prim.Native.Nat.{_+_, _*_, _<_};
 ghost use Rattle.chain.specs.Word.{push as pushOf};
 
 // One more hop in front.

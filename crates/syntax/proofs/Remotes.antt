@@ -1,15 +1,15 @@
 -- What the readers of remote rules answer.
 use Prim.Native.Nat.{ℕ, _+_, _*_, _≤_}
 use mathlib.Core.Path.{_≡_, refl, sym, ap, ap₂, _∙_}
-use mathlib.Core.Bool.{Bool, true, false, _&&_}
+use mathlib.Core.Bool.{Bool, true, false}
 use mathlib.Core.List.{List, [], _∷_, _++_}
-use mathlib.Core.Option.{Option, none, some}
+use mathlib.Core.Option.{none, some}
 use native.Mathlib.Omega.{arith}
 use lib.ListN.{length, getD, drop, length-drop}
 use lib.Seq.{drop-drop}
 use Rattle.integers.proofs.Bools.{and-both}
 use Rattle.register.specs.declared.Sizes.{Sizes}
-use Rattle.chain.specs.Text.{isCapital, fieldOf, names, isReferenceLetter, Form, formed, unformed, form, closed, every}
+use Rattle.chain.specs.Text.{isCapital, fieldOf, isReferenceLetter, Form, formed, unformed, form, closed, every}
 use Rattle.chain.specs.Scan.{startsWith, opens, summary, chainEnd, scanned}
 use Rattle.chain.specs.declared.letters.Letters.{Letters}
 use Rattle.chain.specs.declared.text.Scanned.the-variants.{Chain, NoForm as NoChain}
@@ -17,7 +17,7 @@ use Rattle.chain.proofs.Forms.{spelled, form-u, form-opens, form-none, form-res
 use Rattle.chain.proofs.Scanning.{first-at}
 use Rattle.syntax.specs.Bytes.{bytes}
 use Rattle.syntax.specs.Written as W
-use Rattle.syntax.specs.Token.{capital, then, word, or}
+use Rattle.syntax.specs.Token.{capital, then, or}
 use Rattle.syntax.specs.Line.{sent, remoteForm, localForm, actionForm}
 use Rattle.syntax.specs.Parts.{same, target, actionKinds, areMeasures, actionTerms}
 use Rattle.syntax.specs.Read.{begins, partsOf, chainParts}

@@ -30,7 +30,7 @@ use Rattle.syntax.specs.declared.remote.Target.{Target}
 use Rattle.syntax.specs.declared.remote.TargetRead.{TargetRead}
 use Rattle.syntax.specs.declared.remote.TargetRead.the-variants.{At, NoForm as NoTarget}
 
--- what 9 to 12 ask of two parts, and of some terms
+-- what 9 to 12 ask of two parts
 unfoldable pub bothChecks : Checks → Checks → Checks
 bothChecks a b = record {
   named = a .named && b .named;
@@ -39,6 +39,7 @@ bothChecks a b = record {
   ranged = a .ranged && b .ranged;
 }
 
+-- what 9 to 12 ask of some terms
 unfoldable pub termsChecks : Sizes → List W.Term → Checks
 termsChecks s xs = record {
   named = everyTerm (termNamed s) xs;
@@ -51,6 +52,7 @@ termsChecks s xs = record {
 unfoldable pub ruleChecks : Bool → Bool → Checks → Checks
 ruleChecks field kinds c = record { named = field && c .named; kinded = c .kinded && kinds; short = c .short; ranged = c .ranged }
 
+-- what 9 to 12 ask of a rule without its test
 unfoldable pub actionChecks : Sizes → W.Action → Checks
 actionChecks s a = ruleChecks (names s (target a)) (actionKinds a) (termsChecks s (actionTerms a))
 
@@ -58,10 +60,11 @@ actionChecks s a = ruleChecks (names s (target a)) (actionKinds a) (termsChecks 
 unfoldable pub measured : ℕ → Bool → Bool
 measured f reference = not (isReferenceLetter f) && not reference
 
--- a rule as a program holds it
+-- a chain of at most 16 hops as a program holds it; of a longer one the first 16
 abbrev packed : List ℕ → ℕ
 packed ls = pack (wordOf (take 16 ls))
 
+-- a rule as a program holds it
 unfoldable pub ruleOfAction : W.Action → Rule
 ruleOfAction (W.set f x) = Set (fieldOf f) (termOf x)
 ruleOfAction (W.sum f x y) = Sum (fieldOf f) (termOf x) (termOf y)
@@ -69,10 +72,12 @@ ruleOfAction (W.difference f x y) = Difference (fieldOf f) (termOf x) (termOf y)
 ruleOfAction (W.least f c x) = Least (fieldOf f) (packed c) (termOf x)
 ruleOfAction (W.total f c x) = Total (fieldOf f) (packed c) (termOf x)
 
+-- the answer for a rule's form
 unfoldable pub actionRead : Sizes → Option W.Action → ActionRead
 actionRead s none = NoForm
 actionRead s (some a) = Action (ruleOfAction a) (actionChecks s a)
 
+-- the answer for a field letter
 unfoldable pub letterRead : Token ℕ → Letter
 letterRead other = NoLetter
 letterRead (token l r) = Capital l
@@ -81,10 +86,12 @@ letterRead (token l r) = Capital l
 unfoldable pub lastTerm : List ℕ → List ℕ → Option W.Term
 lastTerm w t = word w t (λ r. then (termForm r) finished)
 
+-- the answer for a term that ends the line
 unfoldable pub lastRead : Sizes → Option W.Term → LastRead
 lastRead s none = NoTerm
 lastRead s (some x) = Term (partsOf s x)
 
+-- what make does with that term
 abbrev pub made : {A : Type 0} → (W.Term → A) → List ℕ → List ℕ → Option A
 made make w t = word w t (λ r. then (termForm r) (λ y. finished (make y)))
 
@@ -93,17 +100,19 @@ abbrev pub combined : Bool → ℕ → W.Term → W.Term → W.Action
 combined true f x y = W.difference f x y
 combined false f x y = W.sum f x y
 
--- ` - Y`, and ` + Y` or ` - Y`, behind `F[u] := X`
+-- ` - Y` behind `F[u] := X`
 abbrev pub minusForm : ℕ → W.Term → List ℕ → Option W.Action
 minusForm f x t = made (combined true f x) (bytes " - ") t
 
+-- ` + Y` or ` - Y` behind `F[u] := X`
 abbrev pub sumForm : ℕ → W.Term → List ℕ → Option W.Action
 sumForm f x t = or (made (combined false f x) (bytes " + ") t) (minusForm f x t)
 
--- an answer that is right for every term, or for every two terms, with these parts
+-- an answer that is right for every term with these parts
 abbrev pub ForTerm : Sizes → TermParts → (W.Term → ActionRead) → ActionRead → Type 0
 ForTerm s p answer r = (w : W.Term) → p ≡ partsOf s w → r ≡ answer w
 
+-- an answer that is right for every two terms with these parts
 abbrev pub ForTerms : Sizes → TermParts → TermParts → (W.Term → W.Term → ActionRead) → ActionRead → Type 0
 ForTerms s p q answer r = (v w : W.Term) → p ≡ partsOf s v → q ≡ partsOf s w → r ≡ answer v w
 
@@ -111,10 +120,11 @@ ForTerms s p q answer r = (v w : W.Term) → p ≡ partsOf s v → q ≡ partsOf
 abbrev pub totalForm : ℕ → List ℕ → List ℕ → Option W.Action
 totalForm f c t = made (W.total f c) (bytes " += ") t
 
--- a target by its letter and the letters of C, and by what is known of those and the first byte of their text
+-- a target by its letter and the letters of C
 unfoldable pub targetOf : Sizes → ℕ → List ℕ → Target
 targetOf s f c = record { letter = f; chain = packed c; reference = isReferenceTerm (W.chain c); checks = termChecks s (W.chain c) }
 
+-- a target by its letter, what is known of the letters of C, and the first byte of their text
 unfoldable pub targetFrom : ℕ → Letters → ℕ → Target
 targetFrom f x b = record { letter = f; chain = x .packed; reference = chainParts x b .reference; checks = chainParts x b .checks }
 
@@ -122,7 +132,7 @@ targetFrom f x b = record { letter = f; chain = x .packed; reference = chainPart
 unfoldable pub remoteChecks : Sizes → Target → TermParts → Bool → Checks
 remoteChecks s g x kinds = ruleChecks (names s (g .letter)) (g .reference && kinds) (bothChecks (g .checks) (x .checks))
 
--- `at` is where C begins
+-- the answer for a target whose C begins at `at`
 unfoldable pub targetRead : Sizes → ℕ → Form → TargetRead
 targetRead s at unformed = NoTarget
 targetRead s at (formed [] r) = NoTarget

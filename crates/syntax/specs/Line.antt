@@ -34,7 +34,7 @@ printedLine (loop f) = bytes "loop " ++ (f ∷ [])
 printedLine (rule always a) = printedAction a
 printedLine (rule (when x c y) a) = bytes "if " ++ (printedTerm x ++ (comparisonText c ++ (printedTerm y ++ (bytes ": " ++ printedAction a))))
 
--- what 7 asks of the parts: letters are capitals, numbers are written as they may be
+-- what 7 asks of a rule without its test: letters are capitals, numbers are written as they may be
 abbrev pub ProperAction : Action → Type 0
 ProperAction (set f x) = (isCapital f ≡ true) × ProperTerm x
 ProperAction (sum f x y) = (isCapital f ≡ true) × ProperTerm x × ProperTerm y
@@ -42,10 +42,12 @@ ProperAction (difference f x y) = (isCapital f ≡ true) × ProperTerm x × Prop
 ProperAction (least f c x) = (every isCapital (f ∷ c) ≡ true) × ProperTerm x
 ProperAction (total f c x) = (every isCapital (f ∷ c) ≡ true) × ProperTerm x
 
+-- what 7 asks of a test
 abbrev pub ProperCondition : Condition → Type 0
 ProperCondition always = Unit {0}
 ProperCondition (when x c y) = ProperTerm x × ProperTerm y
 
+-- what 7 asks of a line
 abbrev pub Proper : Line → Type 0
 Proper step = Unit {0}
 Proper end = Unit {0}

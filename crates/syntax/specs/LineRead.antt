@@ -36,11 +36,13 @@ written Less = W.less
 written Equal = W.equal
 written Unequal = W.unequal
 
+-- a written comparison as the code has it
 unfoldable pub comparisonOf : W.Comparison → Comparison
 comparisonOf W.less = Less
 comparisonOf W.equal = Equal
 comparisonOf W.unequal = Unequal
 
+-- a test as a program holds it
 unfoldable pub testOf : W.Condition → Test
 testOf W.always = Always
 testOf (W.when x c y) = When (termOf x) (comparisonOf c) (termOf y)
@@ -58,27 +60,32 @@ lineRead s (some W.done) = Done
 lineRead s (some (W.loop f)) = Loop (fieldOf f) (names s f)
 lineRead s (some (W.rule c a)) = Rule (record { test = testOf c; rule = ruleOfAction a }) (lineChecks s (W.rule c a))
 
--- the same by steps: a test, and a rule behind it
+-- a test and what 9 to 12 ask of it
 unfoldable pub conditionParts : Sizes → W.Condition → TestParts
 conditionParts s c = record { test = testOf c; checks = ruleChecks true (conditionKinds c) (termsChecks s (conditionTerms c)) }
 
+-- no test, of which nothing is asked
 unfoldable pub alwaysParts : TestParts
 alwaysParts = record { test = Always; checks = record { named = true; kinded = true; short = true; ranged = true } }
 
+-- a comparison of two terms by their parts
 unfoldable pub whenParts : TermParts → Comparison → TermParts → TestParts
 whenParts x c y = record { test = When (x .term) c (y .term); checks = ruleChecks true (same (x .reference) (y .reference)) (bothChecks (x .checks) (y .checks)) }
 
+-- a rule behind a test, by the parts of both
 unfoldable pub ruleRead : TestParts → ActionRead → LineRead
 ruleRead p NoForm = NoLine
 ruleRead p (Action r checks) = Rule (record { test = p .test; rule = r }) (bothChecks (p .checks) checks)
 
--- a comparison that a text begins with
+-- ` != ` at the front of a text
 unfoldable pub unequalRead : ℕ → List ℕ → ComparisonRead
 unequalRead at t = cond (begins (bytes " != ") t) (At Unequal (at + 4)) NoComparison
 
+-- ` == ` or ` != ` at the front of a text
 unfoldable pub equalRead : ℕ → List ℕ → ComparisonRead
 equalRead at t = cond (begins (bytes " == ") t) (At Equal (at + 4)) (unequalRead at t)
 
+-- the comparison that a text begins with
 unfoldable pub comparisonRead : ℕ → List ℕ → ComparisonRead
 comparisonRead at t = cond (begins (bytes " < ") t) (At Less (at + 3)) (equalRead at t)
 
@@ -90,13 +97,15 @@ comparedForm x c t = then (termForm t) (λ y r. word (bytes ": ") r (λ r. ruleO
 abbrev pub ForSide : Sizes → TermParts → (W.Term → LineRead) → LineRead → Type 0
 ForSide s p answer r = (w : W.Term) → p ≡ partsOf s w → r ≡ answer w
 
--- a rule with a test or without; a loop's first line or a rule
+-- a rule with a test or without
 abbrev pub ruledForm : List ℕ → Option W.Line
 ruledForm t = or (word (bytes "if ") t testedForm) (ruleOf W.always (actionForm t))
 
+-- the field of a loop, behind `loop `
 abbrev pub loopForm : List ℕ → Option W.Line
 loopForm t = then (capital t) (λ f. finished (W.loop f))
 
+-- a loop's first line, or a rule
 abbrev pub openForm : List ℕ → Option W.Line
 openForm t = or (word (bytes "loop ") t loopForm) (ruledForm t)
 

@@ -37,22 +37,25 @@ pub data NumberForm : Type 0 where
   number : Bool → List ℕ → List ℕ → NumberForm
   unformed : NumberForm
 
+-- the number whose digits a text begins with, behind a minus or not
 unfoldable pub signedForm : Bool → List ℕ → NumberForm
 signedForm negative t = cond (isNumeral negative (digits t)) (number negative (digits t) (drop (length (digits t)) t)) unformed
 
--- 45 is the minus
+-- the number that a text begins with: 45 is the minus
 unfoldable pub numberForm : List ℕ → NumberForm
 numberForm t = cond (startsWith 45 t) (signedForm true (drop 1 t)) (signedForm false t)
 
--- the text of a number, and its value
+-- the text of a number
 unfoldable pub printedNumber : Bool → List ℕ → List ℕ
 printedNumber true ds = 45 ∷ ds
 printedNumber false ds = ds
 
+-- a number behind a minus or not
 unfoldable pub signedValue : Bool → ℕ → ℤ
 signedValue true n = negℤ (pos n)
 signedValue false n = pos n
 
+-- the value of a number
 unfoldable pub numberValue : Bool → List ℕ → ℤ
 numberValue negative ds = signedValue negative (decimal 0 ds)
 
@@ -60,5 +63,6 @@ numberValue negative ds = signedValue negative (decimal 0 ds)
 unfoldable pub capped : ℕ → ℕ
 capped n = min 2147483649 n
 
+-- the value of a number, capped
 unfoldable pub cappedValue : Bool → List ℕ → ℤ
 cappedValue negative ds = signedValue negative (capped (decimal 0 ds))

@@ -10,11 +10,12 @@ use Rattle.chain.specs.Text.{every, names, isReferenceLetter, innerReferences}
 use Rattle.syntax.specs.Numeral.{numberValue}
 use Rattle.syntax.specs.Written.{Term, chain, number, Condition, always, when, Action, set, sum, difference, least, total, Line, step, end, done, loop, rule}
 
--- the terms of a line from left to right, C standing for the remote target
+-- the terms of a test from left to right
 unfoldable pub conditionTerms : Condition → List Term
 conditionTerms always = []
 conditionTerms (when x c y) = x ∷ y ∷ []
 
+-- the terms of a rule without its test, C standing for the remote target
 unfoldable pub actionTerms : Action → List Term
 actionTerms (set f x) = x ∷ []
 actionTerms (sum f x y) = x ∷ y ∷ []
@@ -22,6 +23,7 @@ actionTerms (difference f x y) = x ∷ y ∷ []
 actionTerms (least f c x) = chain c ∷ x ∷ []
 actionTerms (total f c x) = chain c ∷ x ∷ []
 
+-- the terms of a line from left to right
 unfoldable pub terms : Line → List Term
 terms step = []
 terms end = []
@@ -42,11 +44,12 @@ target (difference f x y) = f
 target (least f c x) = f
 target (total f c x) = f
 
--- 9: every capital of the line names a field of the register
+-- whether every capital of a term names a field of the register
 unfoldable pub termNamed : Sizes → Term → Bool
 termNamed s (chain ls) = every (names s) ls
 termNamed s (number negative ds) = true
 
+-- whether the register has the field that a line names by itself
 unfoldable pub fieldNamed : Sizes → Line → Bool
 fieldNamed s step = true
 fieldNamed s end = true
@@ -54,10 +57,11 @@ fieldNamed s done = true
 fieldNamed s (loop f) = names s f
 fieldNamed s (rule c a) = names s (target a)
 
+-- 9: every capital of the line names a field of the register
 unfoldable pub named : Sizes → Line → Bool
 named s l = fieldNamed s l && everyTerm (termNamed s) (terms l)
 
--- 10: "Every field but the outermost is a reference field."
+-- "Every field but the outermost is a reference field."
 unfoldable pub termKinded : Term → Bool
 termKinded (chain ls) = innerReferences ls
 termKinded (number negative ds) = true
@@ -73,14 +77,16 @@ unfoldable pub same : Bool → Bool → Bool
 same true b = b
 same false b = not b
 
--- "Both sides of a rule or test have the same kind"; "`+`, `-` and `+=` take measures only"; "C a chain of reference kind"
+-- "Both sides of a rule or test have the same kind"
 unfoldable pub conditionKinds : Condition → Bool
 conditionKinds always = true
 conditionKinds (when x c y) = same (isReferenceTerm x) (isReferenceTerm y)
 
+-- whether a field and a term are measures
 unfoldable pub areMeasures : ℕ → Term → Bool
 areMeasures f x = not (isReferenceLetter f) && not (isReferenceTerm x)
 
+-- "`+`, `-` and `+=` take measures only"; "C a chain of reference kind"
 unfoldable pub actionKinds : Action → Bool
 actionKinds (set f x) = same (isReferenceLetter f) (isReferenceTerm x)
 actionKinds (sum f x y) = areMeasures f x && areMeasures f y
@@ -88,6 +94,7 @@ actionKinds (difference f x y) = areMeasures f x && areMeasures f y
 actionKinds (least f c x) = isReferenceTerm (chain c) && same (isReferenceLetter f) (isReferenceTerm x)
 actionKinds (total f c x) = isReferenceTerm (chain c) && areMeasures f x
 
+-- whether the kinds of a line's sides agree
 unfoldable pub kindsAgree : Line → Bool
 kindsAgree step = true
 kindsAgree end = true
@@ -95,21 +102,24 @@ kindsAgree done = true
 kindsAgree (loop f) = true
 kindsAgree (rule c a) = conditionKinds c && actionKinds a
 
+-- 10: chains go over references, and the kinds of a line's sides agree
 unfoldable pub kinded : Line → Bool
 kinded l = everyTerm termKinded (terms l) && kindsAgree l
 
--- 11: "a chain has at most 16" hops
+-- "a chain has at most 16" hops
 unfoldable pub termShort : Term → Bool
 termShort (chain ls) = leb (length ls) 16
 termShort (number negative ds) = true
 
+-- 11: every chain of the line has at most 16 hops
 unfoldable pub short : Line → Bool
 short l = everyTerm termShort (terms l)
 
--- 12: no "number outside the range of sums"
+-- whether a number is in the range of sums
 unfoldable pub termInRange : Term → Bool
 termInRange (chain ls) = true
 termInRange (number negative ds) = inRange (numberValue negative ds)
 
+-- 12: no "number outside the range of sums"
 unfoldable pub numbersInRange : Line → Bool
 numbersInRange l = everyTerm termInRange (terms l)

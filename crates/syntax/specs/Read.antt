@@ -30,12 +30,13 @@ use Rattle.syntax.specs.declared.term.TermParts.{TermParts}
 use Rattle.syntax.specs.declared.term.TermRead.{TermRead}
 use Rattle.syntax.specs.declared.term.TermRead.the-variants.{Parts, NoForm as NoTerm}
 
--- whether a text begins with a word, and the place behind it
+-- whether a text begins with a word
 unfoldable pub begins : List ℕ → List ℕ → Bool
 begins [] t = true
 begins (b ∷ w) [] = false
 begins (b ∷ w) (d ∷ t) = eqb d b && begins w t
 
+-- the place behind a word that stands at `at`
 unfoldable pub literalRead : ℕ → List ℕ → List ℕ → Place
 literalRead at w t = cond (begins w t) (At (at + length w)) Nothing
 
@@ -44,11 +45,12 @@ pub record ReadsDigits (at : ℕ) (t : List ℕ) (d : Digits) : Type 0 where
   pub value-is : d .value ≡ capped (decimal 0 (digits t))
   pub end-is : d .end ≡ at + length (digits t)
 
--- a number whose digits stand from `at` on, and one whose text stands there
+-- the answer for a number whose digits stand from `at` on
 unfoldable pub digitsRead : ℕ → NumberForm → NumberRead
 digitsRead at unformed = NoForm
 digitsRead at (number negative ds rest) = Number (cappedValue negative ds) (at + length ds)
 
+-- the answer for a number whose text stands from `at` on
 unfoldable pub numberRead : ℕ → NumberForm → NumberRead
 numberRead at unformed = NoForm
 numberRead at (number negative ds rest) = Number (cappedValue negative ds) (at + length (printedNumber negative ds))
@@ -71,11 +73,12 @@ termOf (W.number negative ds) = plainNumber (sumOf (numberValue negative ds))
 unfoldable pub partsOf : Sizes → W.Term → TermParts
 partsOf s x = record { term = termOf x; reference = isReferenceTerm x; checks = termChecks s x }
 
+-- the answer for a term whose text stands from `at` on
 unfoldable pub termRead : Sizes → ℕ → Token W.Term → TermRead
 termRead s at other = NoTerm
 termRead s at (token x rest) = Parts (partsOf s x) (at + length (printedTerm x))
 
--- the same by steps: a chain's parts by what is known of its letters and the first byte of its text, a number's by its value
+-- a chain's parts by what is known of its letters and the first byte of its text
 unfoldable pub chainParts : Letters → ℕ → TermParts
 chainParts x b = record {
   term = PackedChain (x .packed);
@@ -83,6 +86,7 @@ chainParts x b = record {
   checks = record { named = x .named; kinded = x .kinded; short = not (x .long); ranged = true };
 }
 
+-- a number's parts, in range or not
 unfoldable pub plainParts : ℤ → Bool → TermParts
 plainParts z ranged = record {
   term = PlainNumber z;
@@ -90,10 +94,12 @@ plainParts z ranged = record {
   checks = record { named = true; kinded = true; short = true; ranged = ranged };
 }
 
+-- a number's parts by its value
 unfoldable pub numberParts : Sum → TermParts
 numberParts (InRange z) = plainParts z true
 numberParts OutOfRange = plainParts (pos 0) false
 
+-- a number's answer as a term's
 unfoldable pub numberTerm : NumberRead → TermRead
 numberTerm NoForm = NoTerm
 numberTerm (Number z end) = Parts (numberParts (sumOf z)) end

@@ -4,11 +4,9 @@ use mathlib.Core.Path.{sym, ap, ap₂, _∙_}
 use mathlib.Core.Bool.{not}
 use native.Mathlib.Omega.{arith}
 use borrow.Author.Needs.{needs}
-use lib.ListN.{drop}
 use mir.Syntax.{w64}
 use mir.Facts.{toZ-ofZ}
-use denote.Ref.{now}
-use Rattle.syntax.specs.Numeral.{signedValue, decimal, digits}
+use Rattle.syntax.specs.Numeral.{signedValue}
 use Rattle.syntax.specs.declared.numeral.NumberRead.the-variants.{Number}
 use Rattle.syntax.proofs.Digits.{digits-inside, capped-bound}
 use Rattle.syntax.proofs.Numbers.{numeral-at, read-empty, read-unformed, read-formed}

@@ -3,10 +3,9 @@
 use mathlib.Core.Path.{sym, ap, _∙_}
 use native.Mathlib.Omega.{arith}
 use borrow.Author.Needs.{needs}
-use lib.ListN.{drop, length-drop}
+use lib.ListN.{length-drop}
 use denote.Ref.{now}
 use Rattle.chain.proofs.Scanning.{first-at}
-use Rattle.syntax.specs.Numeral.{numberForm}
 use Rattle.syntax.specs.Read.{chainParts, numberTerm}
 use Rattle.syntax.specs.declared.term.TermParts.{TermParts}
 use Rattle.syntax.specs.declared.term.TermRead.the-variants.{Parts}

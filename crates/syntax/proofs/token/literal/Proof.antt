@@ -1,7 +1,7 @@
 -- `syntax::token::literal` meets its contract. The loop's invariant: what is left of the word decides the whole.
 -- Assumes nothing.
-use Prim.Native.Nat.{ℕ, _-_, _+_}
-use mathlib.Core.Path.{_≡_, sym, ap, _∙_}
+use Prim.Native.Nat.{_-_, _+_}
+use mathlib.Core.Path.{_≡_, sym, _∙_}
 use mathlib.Core.Bool.{true}
 use native.Mathlib.Omega.{arith}
 use borrow.Author.Tests.{not-true, not-false}
@@ -9,7 +9,6 @@ use lib.ListN.{length, drop, getD}
 use denote.Ref.{now}
 use Rattle.chain.specs.Scan.{startsWith}
 use Rattle.chain.proofs.Scanning.{starts-inside}
-use Rattle.syntax.specs.declared.token.Place.the-variants.{At}
 use Rattle.syntax.proofs.Words.{Left, left-all, left-none, left-more, left-fails, literal-at, literal-nothing}
 use Rattle.syntax.proofs.token.literal.Statement.{statement}
 use Rattle.syntax.proofs.token.literal.Tie as tie
