@@ -14,10 +14,10 @@ use Rattle.syntax.specs.Written as W
 use Rattle.syntax.specs.Token.{Token, token, other, capital, then, word, or, finished}
 use Rattle.syntax.specs.Bytes.{bytes}
 use Rattle.syntax.specs.Term.{termForm}
-use Rattle.syntax.specs.Line.{assigned, localForm}
+use Rattle.syntax.specs.Line.{made, assigned, localForm}
 use Rattle.syntax.specs.Parts.{same, target, actionKinds, areMeasures, actionTerms, everyTerm, termNamed, termKinded, termShort, termInRange}
 use Rattle.syntax.specs.Read.{begins, partsOf, termChecks}
-use Rattle.syntax.specs.ActionRead.{letterRead, lastTerm, lastRead, made, combined, minusForm, sumForm, bothChecks, termsChecks, ruleChecks, actionChecks, measured, ruleOfAction, actionRead}
+use Rattle.syntax.specs.ActionRead.{letterRead, lastTerm, lastRead, combined, minusForm, sumForm, bothChecks, termsChecks, ruleChecks, actionChecks, measured, ruleOfAction, actionRead}
 use Rattle.syntax.specs.declared.action.Letter.the-variants.{Capital, NoForm as NoLetter}
 use Rattle.syntax.specs.declared.action.LastRead.{LastRead}
 use Rattle.syntax.specs.declared.action.LastRead.the-variants.{Term, NoForm as NoTerm}

@@ -13,6 +13,7 @@ use Rattle.chain.specs.declared.letters.Letters.{Letters}
 use Rattle.syntax.specs.Written as W
 use Rattle.syntax.specs.Token.{Token, token, other, then, word, or, finished}
 use Rattle.syntax.specs.Term.{termForm}
+use Rattle.syntax.specs.Line.{made}
 use Rattle.syntax.specs.Bytes.{bytes}
 use Rattle.syntax.specs.Parts.{everyTerm, termNamed, termKinded, termShort, termInRange, actionTerms, target, actionKinds, isReferenceTerm}
 use Rattle.syntax.specs.Read.{termOf, partsOf, termChecks, chainParts}
@@ -90,10 +91,6 @@ lastTerm w t = word w t (λ r. then (termForm r) finished)
 unfoldable pub lastRead : Sizes → Option W.Term → LastRead
 lastRead s none = NoTerm
 lastRead s (some x) = Term (partsOf s x)
-
--- what make does with that term
-abbrev pub made : {A : Type 0} → (W.Term → A) → List ℕ → List ℕ → Option A
-made make w t = word w t (λ r. then (termForm r) (λ y. finished (make y)))
 
 -- `F[u] := X + Y`, or with a minus `F[u] := X - Y`
 abbrev pub combined : Bool → ℕ → W.Term → W.Term → W.Action

@@ -55,12 +55,13 @@ Proper done = Unit {0}
 Proper (loop f) = isCapital f ≡ true
 Proper (rule c a) = ProperCondition c × ProperAction a
 
+-- a word, and what make does with the term behind it that ends the line
+abbrev pub made : {A : Type 0} → (Term → A) → List ℕ → List ℕ → Option A
+made make w t = word w t (λ r. then (termForm r) (λ y. finished (make y)))
+
 -- behind `F[u] := X`
 unfoldable pub assigned : ℕ → Term → List ℕ → Option Action
-assigned f x t =
-    or (finished (set f x) t)
-    (or (word (bytes " + ") t (λ r. then (termForm r) (λ y. finished (sum f x y))))
-    (word (bytes " - ") t (λ r. then (termForm r) (λ y. finished (difference f x y)))))
+assigned f x t = or (finished (set f x) t) (or (made (sum f x) (bytes " + ") t) (made (difference f x) (bytes " - ") t))
 
 -- `F[u] := ..`: F is any capital, and `[u]` stands as it is
 unfoldable pub localForm : List ℕ → Option Action
@@ -68,9 +69,7 @@ localForm t = then (capital t) (λ f r. word (bytes "[u] := ") r (λ r. then (te
 
 -- behind `remote F[C]`
 unfoldable pub sent : ℕ → List ℕ → List ℕ → Option Action
-sent f c t =
-    or (word (bytes " <?= ") t (λ r. then (termForm r) (λ x. finished (least f c x))))
-    (word (bytes " += ") t (λ r. then (termForm r) (λ x. finished (total f c x))))
+sent f c t = or (made (least f c) (bytes " <?= ") t) (made (total f c) (bytes " += ") t)
 
 -- behind `remote `: `F[C]` is the text of a chain whose outermost letter is F
 unfoldable pub remoteForm : C.Form → Option Action
