@@ -14,7 +14,7 @@ use Rattle.syntax.specs.Bytes.{bytes}
 use Rattle.syntax.specs.Written.{Term, Comparison, less, equal, unequal, Condition, always, when, Action, set, sum, difference, least, total, Line, step, end, done, loop, rule}
 use Rattle.syntax.specs.Token.{Token, capital, then, word, or, finished}
 use Rattle.syntax.specs.Term.{printedTerm, ProperTerm, termForm}
-use Rattle.syntax.specs.Line.{comparisonText, printedAction, printedLine, ProperAction, Proper, assigned, localForm, sent, remoteForm, actionForm, ruleOf, compared, testedForm, lineForm}
+use Rattle.syntax.specs.Line.{made, comparisonText, printedAction, printedLine, ProperAction, Proper, assigned, localForm, sent, remoteForm, actionForm, ruleOf, compared, testedForm, lineForm}
 use Rattle.syntax.proofs.Tokens.{All, all-some, then-all, or-all, finished-all, word-all, capital-is, capital-read, capital-word}
 use Rattle.syntax.proofs.Terms.{term-spelled, printed-term}
 
@@ -27,12 +27,12 @@ pub record Spelled (t : List ℕ) (l : Line) : Type 0 where
   pub text : t ≡ printedLine l
   pub proper : Proper l
 
--- a term that ends the line, behind what is known of the line
+-- a word and a term that ends the line, behind what is known of the line
 module _ {A : Type 0} (P : A → Type 0) (make : Term → A) where
-  pub last-all : (t : List ℕ) → ((y : Term) → t ≡ printedTerm y → ProperTerm y → P (make y)) → All P (then (termForm t) (λ y. finished (make y)))
-  last-all t k = then-all P (termForm t) (λ y. finished (make y)) (λ y r e.
-      let w = term-spelled t y r e in
-      finished-all P (make y) r (λ n. k y (w .text ∙ ap (λ (l : List ℕ). printedTerm y ++ l) n ∙ append-nil (printedTerm y)) (w .proper)))
+  made-all : (w t : List ℕ) → ((y : Term) → t ≡ w ++ printedTerm y → ProperTerm y → P (make y)) → All P (made make w t)
+  made-all w t k = word-all P w t _ (λ s e. then-all P (termForm s) (λ y. finished (make y)) (λ y r h.
+      let p = term-spelled s y r h in
+      finished-all P (make y) r (λ n. k y (e ∙ ap (λ (l : List ℕ). w ++ l) (p .text ∙ rw (n, append-nil))) (p .proper))))
 
 local-spelled : (t : List ℕ) → All (SpelledAction t) (localForm t)
 unfolding localForm assigned printedAction
@@ -47,8 +47,8 @@ local-spelled t =
     or-all P _ _
     (finished-all P (set f x) r₂ (λ n. record { text = front ∙ rw (n, append-nil); proper = (c .1, w .proper) }))
     (or-all P _ _
-    (word-all P (bytes " + ") r₂ _ (λ r₃ e₃. last-all P (sum f x) r₃ (λ y e₄ p. record { text = front ∙ rw (e₃, e₄); proper = (c .1, w .proper, p) })))
-    (word-all P (bytes " - ") r₂ _ (λ r₃ e₃. last-all P (difference f x) r₃ (λ y e₄ p. record { text = front ∙ rw (e₃, e₄); proper = (c .1, w .proper, p) })))))))
+    (made-all P (sum f x) (bytes " + ") r₂ (λ y e₃ p. record { text = front ∙ rw e₃; proper = (c .1, w .proper, p) }))
+    (made-all P (difference f x) (bytes " - ") r₂ (λ y e₃ p. record { text = front ∙ rw e₃; proper = (c .1, w .proper, p) }))))))
 
 -- a remote rule behind `remote `
 remote-spelled : (r : List ℕ) (f : C.Form) → C.form r ≡ f → All (SpelledAction (bytes "remote " ++ r)) (remoteForm f)
@@ -60,8 +60,8 @@ remote-spelled r (C.formed (f ∷ c) s) e =
     let w = spelled r (f ∷ c) s e in
     let front : bytes "remote " ++ r ≡ bytes "remote " ++ (printed (f ∷ c) ++ s) = ap (λ (l : List ℕ). bytes "remote " ++ l) (w .text) in
     or-all P _ _
-    (word-all P (bytes " <?= ") s _ (λ s₁ e₁. last-all P (least f c) s₁ (λ x e₂ p. record { text = front ∙ rw (e₁, e₂); proper = (w .capitals, p) })))
-    (word-all P (bytes " += ") s _ (λ s₁ e₁. last-all P (total f c) s₁ (λ x e₂ p. record { text = front ∙ rw (e₁, e₂); proper = (w .capitals, p) })))
+    (made-all P (least f c) (bytes " <?= ") s (λ x e₁ p. record { text = front ∙ rw e₁; proper = (w .capitals, p) }))
+    (made-all P (total f c) (bytes " += ") s (λ x e₁ p. record { text = front ∙ rw e₁; proper = (w .capitals, p) }))
 
 action-spelled : (t : List ℕ) → All (SpelledAction t) (actionForm t)
 unfolding actionForm
