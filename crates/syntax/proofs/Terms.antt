@@ -91,7 +91,3 @@ pub printed-term : (x : Term) (r : List ℕ) → ProperTerm x → digits r ≡ [
 unfolding printedTerm termForm ofChain
 printed-term (chain ls) r p e = rw (printed-form ls r p)
 printed-term (number negative ds) r p e = number-read negative ds r p e
-
--- what stands behind a term
-pub term-rest : (t : List ℕ) (x : Term) (r : List ℕ) → termForm t ≡ token x r → r ≡ drop (length (printedTerm x)) t
-term-rest t x r e = rw (term-spelled t x r e .text, drop-append-seam)

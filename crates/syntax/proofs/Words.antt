@@ -5,7 +5,7 @@ use mathlib.Core.Bool.{Bool, true, false, _&&_}
 use mathlib.Core.List.{List, [], _∷_, _++_}
 use native.Mathlib.Omega.{arith}
 use native.Mathlib.Numerals.{add-one}
-use borrow.Author.Tests.{eqb-true, eq-eqb}
+use borrow.Author.Tests.{eqb-true}
 use lib.Dec.{eqb}
 use lib.ListN.{length, getD, drop, length-append, length-drop}
 use lib.Seq.{drop-cons, drop-drop, drop-length}
@@ -15,7 +15,7 @@ use Rattle.syntax.specs.Read.{begins, literalRead}
 use Rattle.syntax.specs.declared.token.Place.{Place}
 use Rattle.syntax.specs.declared.token.Place.the-variants.{At, Nothing}
 
--- a text begins with a word exactly when it is the word and something behind it
+-- a text that begins with a word is the word and something behind it
 pub begins-text : (w t : List ℕ) → begins w t ≡ true → t ≡ w ++ drop (length w) t
 unfolding begins
 begins-text [] t h = refl
@@ -23,11 +23,6 @@ begins-text (a ∷ w) [] h = true-false h refl
 begins-text (a ∷ w) (b ∷ t) h =
     let both = and-both (eqb b a) (begins w t) h in
     ap₂ (λ (x : ℕ) (l : List ℕ). x ∷ l) (eqb-true b a (both .0)) (begins-text w t (both .1))
-
-pub begins-append : (w r : List ℕ) → begins w (w ++ r) ≡ true
-unfolding begins
-begins-append [] r = refl
-begins-append (a ∷ w) r = sym (and-true (begins w (w ++ r)) (eq-eqb a a refl)) ∙ begins-append w r
 
 begins-cons : (a : ℕ) (w t : List ℕ) → begins (a ∷ w) t ≡ startsWith a t && begins w (drop 1 t)
 unfolding begins startsWith
