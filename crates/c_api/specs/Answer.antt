@@ -2,12 +2,20 @@
 -- answer array, unused ones 0.
 use Prim.Native.Nat.{ℕ}
 use mathlib.Core.Path.{_≡_}
+use mathlib.Core.Bool.{Bool, true, false}
 use mathlib.Core.List.{List, [], _∷_}
 use lib.IntN.{ℤ, pos}
+use lib.ListN.{length}
 use Rattle.register.specs.Outcome.{Outcome, done, refused}
 use Rattle.register.specs.declared.cells.Cell.{Cell}
 use Rattle.register.specs.declared.cells.Cell.the-variants.{Missing, Value}
+use Rattle.rules.specs.Program.{Program, mostLines}
 use Rattle.c_api.specs.declared.read.ReadNumbers.{ReadNumbers}
+
+-- a flag: 1 where it is set
+unfoldable pub flagNumber : Bool → ℕ
+flagNumber true = 1
+flagNumber false = 0
 
 -- a reading: the value is 0 where it is unfilled or refused, and `filled` is 1 where it is filled
 unfoldable pub readNumbers : Outcome Cell → ReadNumbers
@@ -20,3 +28,19 @@ pub record ReadAnswer (n : ReadNumbers) (result : ℕ) (value : ℤ) (answer : L
   pub result-is : result ≡ n .number
   pub value-is : value ≡ n .value
   pub answer-is : answer ≡ n .line ∷ 0 ∷ 0 ∷ 0 ∷ 0 ∷ 0 ∷ n .filled ∷ 0 ∷ []
+
+-- a check: the number of steps and the most plan lines of any of them, 0 where it is refused
+pub record CheckNumbers : Type 0 where
+  pub number : ℕ
+  pub line : ℕ
+  pub steps : ℕ
+  pub lines : ℕ
+
+unfoldable pub checkNumbers : Outcome Program → CheckNumbers
+checkNumbers (done p) = record { number = 0; line = 0; steps = length p; lines = mostLines p }
+checkNumbers (refused k l) = record { number = k; line = l; steps = 0; lines = 0 }
+
+-- what `plot_check` answers: its result and its answer array
+pub record CheckAnswer (n : CheckNumbers) (result : ℕ) (answer : List ℕ) : Type 0 where
+  pub result-is : result ≡ n .number
+  pub answer-is : answer ≡ n .line ∷ 0 ∷ 0 ∷ 0 ∷ 0 ∷ 0 ∷ n .steps ∷ n .lines ∷ []

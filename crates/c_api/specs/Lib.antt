@@ -1,2 +1,4 @@
 -- The C interface: what the exported functions answer.
 pub mod Answer
+pub mod PlanArrays
+pub mod PlanAnswer

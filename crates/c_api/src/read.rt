@@ -1,23 +1,10 @@
 // A single reading.
 ghost use mathlib.Core.Path.{_≡_};
 ghost use Rattle.chain.specs.Reading.{reading, readingOutcome, refusalNumber as chainNumber};
-ghost use Rattle.register.specs.Load.{refusalNumber as registerNumber};
 ghost use Rattle.register.specs.Outcome.{done, refused as refusedWith};
 ghost use Rattle.c_api.specs.Answer.{readNumbers, ReadAnswer};
 use chain::reading::ReadingAnswer;
 use register::cells::Cell;
-
-fn register_number(refusal: register::Refusal) -> u32
-    ensures { λ r. ⌜ r ≡ registerNumber refusal ⌝ }
-{
-    match refusal {
-        register::Refusal::Length => 1,
-        register::Refusal::SizeLimit => 2,
-        register::Refusal::Mark => 3,
-        register::Refusal::MissingValue => 4,
-        register::Refusal::Reference => 5,
-    }
-}
 
 fn chain_number(refusal: chain::reading::Refusal) -> u32
     ensures { λ r. ⌜ r ≡ chainNumber refusal ⌝ }
@@ -73,7 +60,7 @@ fn numbers(answer: ReadingAnswer) -> ReadNumbers
 {
     match answer {
         ReadingAnswer::Read(cell) => read(cell),
-        ReadingAnswer::Register(refusal) => refused(register_number(refusal), 0),
+        ReadingAnswer::Register(refusal) => refused(register::number_of(refusal), 0),
         ReadingAnswer::Chain(refusal) => refused(chain_number(refusal), 1),
         ReadingAnswer::Record => refused(16, 0),
     }

@@ -26,7 +26,7 @@ pub fn hops(chain: u64) -> u64
 }
 
 // The chain behind its first h hops.
-fn rest(chain: u64, h: u64) -> u64
+pub fn rest(chain: u64, h: u64) -> u64
     ensures { λ r. ⌜ unpack r ≡ drop h (unpack chain) ⌝ }
 {
     let mut left = chain;

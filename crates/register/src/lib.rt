@@ -3,7 +3,7 @@ ghost use mathlib.Core.Path.{_≡_};
 ghost use Prim.Native.Nat.{_+_, _*_, _≤_, _<_};
 ghost use lib.ListN.{length};
 ghost use Rattle.register.specs.File.{sizesOf, width, cellCount, cellIndex};
-ghost use Rattle.register.specs.Load.{withinLimits, loadSized, load as loadOf, outcomeOf};
+ghost use Rattle.register.specs.Load.{withinLimits, loadSized, load as loadOf, outcomeOf, refusalNumber};
 ghost use Rattle.register.specs.Shape.{Limits};
 
 pub mod cells;
@@ -44,6 +44,19 @@ pub fn load(file: &[u8]) -> LoadAnswer
         load_sized(file, sizes)
     } else {
         LoadAnswer::Refused(Refusal::SizeLimit)
+    }
+}
+
+// Document 01's number of a refusal.
+pub fn number_of(refusal: Refusal) -> u32
+    ensures { λ r. ⌜ r ≡ refusalNumber refusal ⌝ }
+{
+    match refusal {
+        Refusal::Length => 1,
+        Refusal::SizeLimit => 2,
+        Refusal::Mark => 3,
+        Refusal::MissingValue => 4,
+        Refusal::Reference => 5,
     }
 }
 

@@ -100,6 +100,16 @@ terms-fine s (x ∷ xs) a b c d =
     let r = and-both (termInRange x) (everyTerm termInRange xs) d in
     (record { is-named = n .0; is-kinded = k .0; is-short = h .0; in-range = r .0 }, terms-fine s xs (n .1) (k .1) (h .1) (r .1))
 
+pub rule-fine : (s : Sizes) (st : State) (c : W.Condition) (a : W.Action) → Clean s st (rule c a) → Each (Fine s) (conditionTerms c ++ actionTerms a)
+unfolding named kinded kindsAgree short numbersInRange terms
+rule-fine s st c a k =
+    let xs = conditionTerms c ++ actionTerms a in
+    terms-fine s xs
+    (and-both (fieldNamed s (rule c a)) (everyTerm (termNamed s) xs) (k .is-named) .1)
+    (and-both (everyTerm termKinded xs) (conditionKinds c && actionKinds a) (k .is-kinded) .0)
+    (k .is-short)
+    (k .in-range)
+
 word-passes : (s : Sizes) (ls : List ℕ) → Fine s (chain ls) → WordPasses s (wordOf ls)
 unfolding termNamed termKinded termShort
 word-passes s ls w =
@@ -165,12 +175,12 @@ module _ (s : Sizes) (lim : Limits s) where
 
   -- a rule that passes, as the program has it
   pub rule-passes : (st : State) (c : W.Condition) (a : W.Action) → Clean s st (rule c a) → RulePasses s (record { test = testOf c; action = actionOf a })
-  unfolding named fieldNamed kinded kindsAgree short numbersInRange terms
+  unfolding named fieldNamed kinded kindsAgree terms
   rule-passes st c a k =
       let n = and-both (names s (target a)) (everyTerm (termNamed s) (conditionTerms c ++ actionTerms a)) (k .is-named) in
       let d = and-both (everyTerm termKinded (conditionTerms c ++ actionTerms a)) (conditionKinds c && actionKinds a) (k .is-kinded) in
       let both = and-both (conditionKinds c) (actionKinds a) (d .1) in
-      let w = terms-fine s (conditionTerms c ++ actionTerms a) (n .1) (d .0) (k .is-short) (k .in-range) in
+      let w = rule-fine s st c a k in
       record {
         test = test-passes c (each-front (Fine s) (conditionTerms c) (actionTerms a) w) (both .0);
         action = action-passes a (n .0) (each-back (Fine s) (conditionTerms c) (actionTerms a) w) (both .1);

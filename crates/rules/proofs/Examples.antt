@@ -20,7 +20,8 @@ use Rattle.syntax.specs.Parts.{numbersInRange, termInRange, short, termShort, k
 use Rattle.syntax.specs.Bytes.{bytes}
 use Rattle.rules.specs.Check.{lineRefusal, planFits, sortsAgree, oneSort, someAction, isTotal, isLeast, hasRoom, inPlace, openRules, isOpen, isUsed, isOutside}
 use Rattle.rules.specs.Program as P
-use Rattle.rules.specs.Program.{Rule, single, looped, Program, hasRemote, isRemote, stepPlan, readings, ruleReadings, actionReadings, testReadings, termReadings}
+use Rattle.rules.specs.declared.around.Setting.the-variants.{Single, Looped}
+use Rattle.rules.specs.Program.{Rule, Program, hasRemote, isRemote, stepPlan, readings, ruleReadings, actionReadings, testReadings, termReadings}
 use Rattle.rules.specs.Text.{planned, rulesAt, textProgram, readFrom, start, closed, lineOutcome, advance, closeLoop, lastOf, withStep, settingIn, actionOf, testOf, termOf, pieceForm, lines, onto}
 
 -- "n 3, r 1, m 1": the fields A, which is 0, and M, which is 8
@@ -51,7 +52,7 @@ abbrev pub printedRule : Rule
 printedRule = record { test = P.always; action = P.set 8 (P.reading (0 ∷ 0 ∷ 8 ∷ [])) }
 
 abbrev pub printedProgram : Program
-printedProgram = record { rules = printedRule ∷ []; setting = single } ∷ []
+printedProgram = record { rules = printedRule ∷ []; setting = Single } ∷ []
 
 pub printed-passes : answer "step\nM[u] := M[A[A[u]]]\nend\n" ≡ O.done printedProgram
 unfolding answer
@@ -129,7 +130,7 @@ step-unclosed = refl
 
 -- a loop on A of two steps: the first and the last of it
 pub loop-passes : answer "loop A\nstep\nend\nstep\nend\ndone\n"
-    ≡ O.done (record { rules = []; setting = looped 0 true false } ∷ record { rules = []; setting = looped 0 false true } ∷ [])
+    ≡ O.done (record { rules = []; setting = Looped 0 true false } ∷ record { rules = []; setting = Looped 0 false true } ∷ [])
 unfolding answer
 loop-passes = refl
 

@@ -6,6 +6,3 @@ pub mod Sorts
 pub mod Loops
 pub mod Passing
 pub mod Examples
-pub mod Plans
-pub mod Slots
-pub mod Fronts

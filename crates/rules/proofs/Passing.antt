@@ -40,20 +40,24 @@ rules-none : (s : Sizes) → RulesPass s []
 unfolding someAction
 rules-none s = record { each = tt; few = omega arith; one-sort = λ f h. refl }
 
+pub start-reached : (s : Sizes) → Reached s start
+unfolding start openRules isOpen openLoop
+start-reached s = record { each = tt; few = omega arith; room = λ o. true-false o refl; rules = rules-none s; loops = refl; field = tt }
+
 close-each : (s : Sizes) (xs : List Step) → Each (StepPasses s) xs → Each (StepPasses s) (closeLoop xs)
 unfolding closeLoop
 close-each s [] h = tt
 close-each s (x ∷ []) h = (record { rules = h .0 .rules; fits = h .0 .fits; field = last-passes s (x .setting) (h .0 .field) }, tt)
 close-each s (x ∷ y ∷ xs) h = (h .0, close-each s (y ∷ xs) (h .1))
 
-close-length : (xs : List Step) → length (closeLoop xs) ≡ length xs
+pub close-length : (xs : List Step) → length (closeLoop xs) ≡ length xs
 unfolding closeLoop
 close-length [] = refl
 close-length (x ∷ []) = refl
 close-length (x ∷ y ∷ xs) = ap suc (close-length (y ∷ xs))
 
 module _ (s : Sizes) (lim : Limits s) where
-  advance-reached : (st : State) (l : Line) → Reached s st → Clean s st l → Reached s (advance st l)
+  pub advance-reached : (st : State) (l : Line) → Reached s st → Clean s st l → Reached s (advance st l)
   unfolding advance isOpen openRules inPlace hasRoom sortsAgree planFits openLoop named fieldNamed terms everyTerm
   advance-reached st step w k = record { each = w .each; few = w .few; room = λ o. ltb-true _ 32 (k .room); rules = rules-none s; loops = w .loops; field = w .field }
   advance-reached st end w k = record {
@@ -118,12 +122,12 @@ module _ (s : Sizes) (lim : Limits s) where
 
   -- a text that passes gives a program that keeps to what was checked
   pub text-passes : (t : List ℕ) (p : Program) → textProgram s t ≡ O.done p → ProgramPasses s p
-  unfolding textProgram start openRules isOpen openLoop
+  unfolding textProgram
   text-passes t p e = go (ltb 8192 (length t)) e
     where
       go : (x : Bool) → cond x (refused 6 0) (readFrom s start 1 (lines t)) ≡ O.done p → ProgramPasses s p
       go true e = absurd (let z : _≡_ {A = ℕ} 0 1 = cc in omega arith)
-      go false e = read-passes start 1 (lines t) p (record { each = tt; few = omega arith; room = λ o. true-false o refl; rules = rules-none s; loops = refl; field = tt }) e
+      go false e = read-passes start 1 (lines t) p (start-reached s) e
 
 -- a register and a text that pass: the register has loaded
 pub check-passes : (file t : List ℕ) (p : Program) → check file t ≡ O.done p → (s : Sizes) × (load file ≡ O.done s) × ProgramPasses s p

@@ -12,11 +12,11 @@ use Rattle.rules.specs.Program.{Test, Action, Rule}
 use Rattle.rules.specs.Check.{isLeast, isTotal, someAction, oneSort}
 use Rattle.rules.specs.Text.{actionOf}
 
-or-false : (a : Bool) → a || false ≡ a
+pub or-false : (a : Bool) → a || false ≡ a
 or-false true = refl
 or-false false = refl
 
-some-append : (p : Action → Bool) (rs : List Rule) (r : Rule) → someAction p (rs ++ (r ∷ [])) ≡ someAction p rs || p (r .action)
+pub some-append : (p : Action → Bool) (rs : List Rule) (r : Rule) → someAction p (rs ++ (r ∷ [])) ≡ someAction p rs || p (r .action)
 unfolding someAction
 some-append p [] r = or-false (p (r .action))
 some-append p (q ∷ rs) r = go (some-append p rs r) (p (q .action))

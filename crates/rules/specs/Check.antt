@@ -9,13 +9,10 @@ use Rattle.register.specs.declared.Sizes.{Sizes}
 use Rattle.chain.specs.Text.{fieldOf}
 use Rattle.syntax.specs.Written.{Action, set, sum, difference, least, total, Line, step, end, done, loop, rule}
 use Rattle.syntax.specs.Parts.{named, kinded, short, numbersInRange}
+use Rattle.rules.specs.declared.around.Around.{Around}
+use Rattle.rules.specs.declared.around.Around.the-variants.{Outside, Unused, Used}
 use Rattle.rules.specs.Program as P
 use Rattle.rules.specs.Program.{Rule, Step, stepPlan}
-
--- Where the reader of a text stands: outside loops, or in a loop on a field that holds no step yet, or one that does.
-pub data Around : Type 0 where
-  outside : Around
-  unused used : ℕ → Around
 
 -- The steps closed so far, the loop around, and the rules so far of the step that is open, if one is.
 pub record State : Type 0 where
@@ -25,14 +22,14 @@ pub record State : Type 0 where
 
 -- whether no loop is open; whether one is that holds a step; whether a step is open
 unfoldable pub isOutside : Around → Bool
-isOutside outside = true
-isOutside (unused f) = false
-isOutside (used f) = false
+isOutside Outside = true
+isOutside (Unused f) = false
+isOutside (Used f) = false
 
 unfoldable pub isUsed : Around → Bool
-isUsed outside = false
-isUsed (unused f) = false
-isUsed (used f) = true
+isUsed Outside = false
+isUsed (Unused f) = false
+isUsed (Used f) = true
 
 unfoldable pub isOpen : State → Bool
 isOpen st = elim (st .open-rules) [ none ↦ false | some rs ↦ true ]

@@ -3,5 +3,3 @@ pub mod Program
 pub mod Check
 pub mod Text
 pub mod Passed
-pub mod Planned
-pub mod Front

@@ -9,7 +9,9 @@ use lib.ListN.{length}
 use Rattle.integers.specs.Range.{inRange}
 use Rattle.register.specs.declared.Sizes.{Sizes}
 use Rattle.chain.specs.Word.{isReference, hasField, readable}
-use Rattle.rules.specs.Program.{Term, reading, constant, Test, always, when, Action, set, sum, difference, least, total, Rule, Setting, single, looped, Step, Program, stepPlan}
+use Rattle.rules.specs.declared.around.Setting.{Setting}
+use Rattle.rules.specs.declared.around.Setting.the-variants.{Single, Looped}
+use Rattle.rules.specs.Program.{Term, reading, constant, Test, always, when, Action, set, sum, difference, least, total, Rule, Step, Program, stepPlan}
 use Rattle.rules.specs.Check.{someAction, isLeast, isTotal}
 
 -- P holds of each
@@ -77,8 +79,8 @@ pub record RulesPass (s : Sizes) (rs : List Rule) : Type 0 where
 
 -- "a loop on field F"
 abbrev pub SettingPasses : Sizes → Setting → Type 0
-SettingPasses s single = Unit {0}
-SettingPasses s (looped f first last) = hasField s f ≡ true
+SettingPasses s Single = Unit {0}
+SettingPasses s (Looped f first last) = hasField s f ≡ true
 
 -- a step: its plan "has at most 64 lines"
 pub record StepPasses (s : Sizes) (x : Step) : Type 0 where
@@ -88,15 +90,15 @@ pub record StepPasses (s : Sizes) (x : Step) : Type 0 where
 
 -- whether a step may stand where no loop is open, or one on g that holds a step already
 unfoldable pub settingFits : Option ℕ → Setting → Bool
-settingFits none single = true
-settingFits none (looped f first last) = first
-settingFits (some g) single = false
-settingFits (some g) (looped f first last) = not first && eqb f g
+settingFits none Single = true
+settingFits none (Looped f first last) = first
+settingFits (some g) Single = false
+settingFits (some g) (Looped f first last) = not first && eqb f g
 
 -- the loop that is open behind a step
 unfoldable pub openBehind : Setting → Option ℕ
-openBehind single = none
-openBehind (looped f first last) = cond last none (some f)
+openBehind Single = none
+openBehind (Looped f first last) = cond last none (some f)
 
 -- the steps of a loop stand together, the first and the last of them marked; from the loop open before to the one open behind
 abbrev pub Loops : Option ℕ → List Step → Option ℕ → Type 0

@@ -1,10 +1,12 @@
 -- The program that a rules text describes: steps of rules over the register's fields, the readings of a step and its plan.
-use Prim.Native.Nat.{ℕ}
+use Prim.Native.Nat.{ℕ, max}
 use mathlib.Core.Bool.{Bool, true, false, _||_}
 use mathlib.Core.List.{List, [], _∷_, _++_}
 use lib.IntN.{ℤ}
+use lib.ListN.{length}
 use Rattle.plan.specs.Plan.{Fact, plan}
 use Rattle.syntax.specs.Written.{Comparison}
+use Rattle.rules.specs.declared.around.Setting.{Setting}
 
 -- "A term X or Y is a chain or a number": a chain by its hop word
 pub data Term : Type 0 where
@@ -28,11 +30,6 @@ pub data Action : Type 0 where
 pub record Rule : Type 0 where
   pub test : Test
   pub action : Action
-
--- where a step stands: outside loops, or in a loop on a field, whether first and whether last in it
-pub data Setting : Type 0 where
-  single : Setting
-  looped : ℕ → Bool → Bool → Setting
 
 -- a step: its rules from the top, and where it stands
 pub record Step : Type 0 where
@@ -68,6 +65,11 @@ readings (r ∷ rs) = ruleReadings r ++ readings rs
 
 unfoldable pub stepPlan : List Rule → List Fact
 stepPlan rs = plan (readings rs)
+
+-- L, "the most lines of any step"
+unfoldable pub mostLines : Program → ℕ
+mostLines [] = 0
+mostLines (x ∷ xs) = max (length (stepPlan (x .rules))) (mostLines xs)
 
 -- whether a rule is a remote one, and whether a step holds one: then "a remote exchange follows"
 unfoldable pub isRemote : Action → Bool

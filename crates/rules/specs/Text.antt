@@ -14,9 +14,13 @@ use Rattle.plan.specs.Plan.{Fact, result}
 use Rattle.syntax.specs.Numeral.{numberValue}
 use Rattle.syntax.specs.Written.{Term, chain, number, Condition, always, when, Action, set, sum, difference, least, total, Line, step, end, done, loop, rule}
 use Rattle.syntax.specs.Line.{lineForm}
+use Rattle.rules.specs.declared.around.Around.{Around}
+use Rattle.rules.specs.declared.around.Around.the-variants.{Outside, Unused, Used}
+use Rattle.rules.specs.declared.around.Setting.{Setting}
+use Rattle.rules.specs.declared.around.Setting.the-variants.{Single, Looped}
 use Rattle.rules.specs.Program as P
-use Rattle.rules.specs.Program.{Rule, Setting, single, looped, Step, Program, readings, hasRemote}
-use Rattle.rules.specs.Check.{Around, outside, unused, used, State, isOutside, isOpen, openRules, lineRefusal}
+use Rattle.rules.specs.Program.{Rule, Step, Program, readings, hasRemote}
+use Rattle.rules.specs.Check.{State, isOutside, isOpen, openRules, lineRefusal}
 
 -- A line of a text: its bytes with byte 10 behind them, or the last line without byte 10.
 pub data Piece : Type 0 where
@@ -56,20 +60,20 @@ actionOf (total f c x) = P.total (fieldOf f) (wordOf c) (termOf x)
 
 -- where the next step stands, whether or not it will be the last of its loop
 unfoldable pub settingIn : Around → Setting
-settingIn outside = single
-settingIn (unused f) = looped f true false
-settingIn (used f) = looped f false false
+settingIn Outside = Single
+settingIn (Unused f) = Looped f true false
+settingIn (Used f) = Looped f false false
 
 -- a loop that now holds a step
 unfoldable pub withStep : Around → Around
-withStep outside = outside
-withStep (unused f) = used f
-withStep (used f) = used f
+withStep Outside = Outside
+withStep (Unused f) = Used f
+withStep (Used f) = Used f
 
 -- the last step so far is the last of its loop
 unfoldable pub lastOf : Setting → Setting
-lastOf single = single
-lastOf (looped f first last) = looped f first true
+lastOf Single = Single
+lastOf (Looped f first last) = Looped f first true
 
 unfoldable pub closeLoop : List Step → List Step
 closeLoop [] = []
@@ -84,8 +88,8 @@ advance st end = record {
   around = withStep (st .around);
   open-rules = none;
 }
-advance st (loop f) = record { steps = st .steps; around = unused (fieldOf f); open-rules = none }
-advance st done = record { steps = closeLoop (st .steps); around = outside; open-rules = none }
+advance st (loop f) = record { steps = st .steps; around = Unused (fieldOf f); open-rules = none }
+advance st done = record { steps = closeLoop (st .steps); around = Outside; open-rules = none }
 advance st (rule c a) = record {
   steps = st .steps;
   around = st .around;
@@ -108,7 +112,7 @@ readFrom s st k (p ∷ ps) = after (lineOutcome s st k (pieceForm p)) (λ st. re
 
 -- before the first line
 unfoldable pub start : State
-start = record { steps = []; around = outside; open-rules = none }
+start = record { steps = []; around = Outside; open-rules = none }
 
 -- the program of a text over a register of these sizes: 6 first, "too long (line 0)"
 unfoldable pub textProgram : Sizes → List ℕ → Outcome Program

@@ -1,3 +1,2 @@
-// The rules text: its definitions and what follows from them, where a line ends, and how the plan of a step grows.
-pub mod planned;
-pub mod text;
+// The rules text: what it is, which texts pass, and what follows from that.
+pub mod around;

@@ -19,8 +19,8 @@ read-requires c κs = search needs
 enum-known-answer-2 : tie.Need-enum-known-answer-2
 enum-known-answer-2 c = search needs
 
-register-number-requires : tie.Need-register-number-requires
-register-number-requires c κs = search needs
+number-of-requires : tie.Need-number-of-requires
+number-of-requires c κs = search needs
 
 refused-requires : tie.Need-refused-requires
 refused-requires c κs = search needs
@@ -47,7 +47,7 @@ returns c = c .read .ensures ∙ sym (ap (λ (a : ReadingAnswer). readNumbers (r
 returns-2 : tie.Need-returns-2
 unfolding readingOutcome
 returns-2 c =
-    c .refused .ensures ∙ ap (λ (k : ℕ). readNumbers (refused k 0)) (c .before .register-number .ensures)
+    c .refused .ensures ∙ ap (λ (k : ℕ). readNumbers (refused k 0)) (c .before .number-of .ensures)
     ∙ sym (ap (λ (a : ReadingAnswer). readNumbers (readingOutcome a)) (c .before .before .before .answer2 .given .1))
 
 returns-3 : tie.Need-returns-3
@@ -67,7 +67,7 @@ numbers-spec =
     enum-known-answer
     read-requires
     enum-known-answer-2
-    register-number-requires
+    number-of-requires
     refused-requires
     enum-known-answer-3
     chain-number-requires

@@ -1,0 +1,17 @@
+-- `c_api::step::flag_number` meets its contract.
+-- Assumes nothing.
+use mathlib.Core.Path.{sym, ap}
+use Rattle.c_api.specs.Answer.{flagNumber}
+use Rattle.c_api.proofs.step.flag_number.Statement.{statement}
+use Rattle.c_api.proofs.step.flag_number.Tie as tie
+
+returns : tie.Need-returns
+unfolding flagNumber
+returns c = sym (ap flagNumber (c .if1 .taken))
+
+returns-2 : tie.Need-returns-2
+unfolding flagNumber
+returns-2 c = sym (ap flagNumber (c .if1 .left))
+
+pub flag-number-spec : {M : Type 1} → statement M
+flag-number-spec = tie.close (tie.spec returns returns-2)

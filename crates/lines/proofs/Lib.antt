@@ -1,0 +1,6 @@
+-- Laws of the definitions of `specs/`, for the proofs here and in the crates above.
+pub mod Fronts
+pub mod Plans
+pub mod Slots
+pub mod Standing
+pub mod Refusals

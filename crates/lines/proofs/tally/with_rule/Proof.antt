@@ -1,0 +1,69 @@
+-- `lines::tally::with_rule` meets its contract.
+-- Assumes nothing.
+use mathlib.Core.Path.{sym, ap, _∙_}
+use Rattle.lines.specs.State.{moreRules, withRule}
+use borrow.Author.Needs.{needs}
+use Rattle.lines.proofs.tally.with_rule.Statement.{statement}
+use Rattle.lines.proofs.tally.with_rule.Tie as tie
+
+add-next : tie.Need-add-next
+add-next c = search needs
+
+enum-told : tie.Need-enum-told
+enum-told c = search needs
+
+enum-told-2 : tie.Need-enum-told-2
+enum-told-2 c = search needs
+
+enum-told-3 : tie.Need-enum-told-3
+enum-told-3 c = search needs
+
+enum-known-rule : tie.Need-enum-known-rule
+enum-known-rule c = search needs
+
+with-least-requires : tie.Need-with-least-requires
+with-least-requires c κs = search needs
+
+enum-known-rule-2 : tie.Need-enum-known-rule-2
+enum-known-rule-2 c = search needs
+
+with-total-requires : tie.Need-with-total-requires
+with-total-requires c κs = search needs
+
+returns : tie.Need-returns
+unfolding withRule moreRules
+returns c = sym (ap (withRule (c .before .before .before .args .tally)) (c .enum-told .given .1))
+
+returns-2 : tie.Need-returns-2
+unfolding withRule moreRules
+returns-2 c = sym (ap (withRule (c .before .before .before .args .tally)) (c .enum-told2 .given .1))
+
+returns-3 : tie.Need-returns-3
+unfolding withRule moreRules
+returns-3 c = sym (ap (withRule (c .before .before .before .args .tally)) (c .enum-told3 .given .1))
+
+returns-4 : tie.Need-returns-4
+unfolding withRule moreRules
+returns-4 c = c .with-least .ensures ∙ sym (ap (withRule (c .before .before .before .before .before .args .tally)) (c .before .before .rule .given .1))
+
+returns-5 : tie.Need-returns-5
+unfolding withRule moreRules
+returns-5 c = c .with-total .ensures ∙ sym (ap (withRule (c .before .before .before .before .before .args .tally)) (c .before .before .rule2 .given .1))
+
+pub with-rule-spec : {M : Type 1} → statement M
+with-rule-spec =
+    tie.close
+    (tie.spec
+    add-next
+    enum-told
+    enum-told-2
+    enum-told-3
+    enum-known-rule
+    with-least-requires
+    enum-known-rule-2
+    with-total-requires
+    returns
+    returns-2
+    returns-3
+    returns-4
+    returns-5)

@@ -1,0 +1,62 @@
+-- What the reader's arrays hold of a program, and its answer.
+use Prim.Native.Nat.{ℕ}
+use mathlib.Core.Path.{_≡_}
+use mathlib.Core.List.{List, [], _∷_}
+use lib.ListN.{length, take}
+use Rattle.register.specs.Outcome.{Outcome, done, unless}
+use Rattle.plan.specs.Plan.{Fact}
+use Rattle.plan.specs.Held.{facts, Holds}
+use Rattle.plan.specs.declared.Plan.{Plan}
+use Rattle.rules.specs.Program.{Step, Program, stepPlan, hasRemote, mostLines}
+use Rattle.rules.specs.Text.{Planned}
+use Rattle.lines.specs.Stored.{stepsIn}
+use Rattle.lines.specs.declared.state.Frame.{Frame}
+use Rattle.program.specs.declared.reader.Program as R
+use Rattle.program.specs.declared.reader.Checked.{Checked}
+use Rattle.program.specs.declared.step.StepPlan.{StepPlan}
+
+-- the program that an array holds
+unfoldable pub programOf : R.Program → Program
+programOf p = stepsIn (p .slots) (take (p .steps) (p .frames))
+
+-- each step's frame has its plan, and whether one of its rules is remote
+abbrev pub Framed : List Frame → List Step → Type 0
+Framed fs [] = Unit {0}
+Framed [] (x ∷ xs) = ⊥
+Framed (f ∷ fs) (x ∷ xs) = (f .remote ≡ hasRemote (x .rules)) × Holds (f .plan) (stepPlan (x .rules)) × Framed fs xs
+
+pub record Complete (p : R.Program) : Type 0 where
+  pub framed : Framed (p .frames) (programOf p)
+  pub steps-are : p .steps ≡ length (programOf p)
+  pub lines-are : p .lines ≡ mostLines (programOf p)
+
+-- the outcome of a check
+unfoldable pub outcomeOf : Checked → Outcome Program
+outcomeOf r = unless (r .refusal) (r .line) (done (programOf (r .program)))
+
+pub record Answers (o : Outcome Program) (r : Checked) : Type 0 where
+  pub outcome-is : outcomeOf r ≡ o
+  pub complete : r .refusal ≡ 0 → Complete (r .program)
+
+-- two lists side by side, as far as the first goes
+unfoldable pub zip : List Fact → List ℕ → List (Fact × ℕ)
+zip [] ns = []
+zip (f ∷ fs) [] = []
+zip (f ∷ fs) (n ∷ ns) = (f, n) ∷ zip fs ns
+
+-- the lines of a plan, each with its round
+unfoldable pub linesOf : Plan → List (Fact × ℕ)
+linesOf p = zip (facts p) (p .rounds)
+
+-- the outcome of the plan of a step
+unfoldable pub planOutcome : StepPlan → Outcome Planned
+planOutcome r = unless (r .refusal) (r .line) (done (record { plan-lines = linesOf (r .plan); remote = r .remote }))
+
+pub record PlanAnswers (o : Outcome Planned) (r : StepPlan) : Type 0 where
+  pub outcome-is : planOutcome r ≡ o
+  pub sound : r .refusal ≡ 0 → Holds (r .plan) (facts (r .plan))
+
+-- a refusal, whatever the plan
+pub record RefusedPlan (n line : ℕ) (r : StepPlan) : Type 0 where
+  pub refusal-is : r .refusal ≡ n
+  pub line-is : r .line ≡ line

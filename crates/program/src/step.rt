@@ -1,0 +1,50 @@
+// Document 01's plan of a step.
+ghost use Rattle.rules.specs.Text.{planOfStep};
+ghost use Rattle.program.specs.Kept.{PlanAnswers, RefusedPlan};
+use crate::check;
+use plan::Plan;
+
+// The plan of a step and whether a remote exchange follows, where the refusal is 0; otherwise the refusal's number and line.
+pub struct StepPlan {
+    pub refusal: u32,
+    pub line: usize,
+    pub plan: Plan,
+    pub remote: bool,
+}
+
+fn refused(refusal: u32, line: usize) -> StepPlan
+    ensures { λ r. ⌜ RefusedPlan refusal line r ⌝ }
+{
+    StepPlan {
+        refusal,
+        line,
+        plan: Plan::empty(),
+        remote: false,
+    }
+}
+
+// The plan of a step, counted from 1; 17 for a step that is not there.
+pub fn plan_step(file: &[u8], text: &[u8], step: u64) -> StepPlan
+    ensures { λ r. ⌜ PlanAnswers (planOfStep (now (file .entry)) (now (text .entry)) step) r ⌝ }
+{
+    let checked = check::check(file, text);
+    if checked.refusal != 0 {
+        return refused(checked.refusal, checked.line);
+    }
+    let program = checked.program;
+    if step == 0 {
+        return refused(17, 0);
+    }
+    if (program.steps as u64) < step {
+        return refused(17, 0);
+    }
+    let frames = program.frames;
+    let frame = frames[(step - 1) as usize];
+    let plan = frame.plan;
+    StepPlan {
+        refusal: 0,
+        line: 0,
+        plan,
+        remote: frame.remote,
+    }
+}
