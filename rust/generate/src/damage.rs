@@ -71,7 +71,7 @@ fn exchange_kinds(file: &mut [u8]) {
     }
 }
 
-fn set_size(file: &mut [u8], place: usize, size: u32) {
+pub(crate) fn set_size(file: &mut [u8], place: usize, size: u32) {
     if let Some(bytes) = file.get_mut(4 * place..4 * place + 4) {
         bytes.copy_from_slice(&size.to_le_bytes());
     }
@@ -103,7 +103,7 @@ fn damage_cell(random: &mut Random, sizes: Sizes, file: &mut [u8]) {
     set_cell(file, sizes, record * sizes.fields() + field, value, mark);
 }
 
-fn set_cell(file: &mut [u8], sizes: Sizes, cell: usize, value: i32, mark: u8) {
+pub(crate) fn set_cell(file: &mut [u8], sizes: Sizes, cell: usize, value: i32, mark: u8) {
     let value_place = 12 + 4 * cell;
     file[value_place..value_place + 4].copy_from_slice(&value.to_le_bytes());
     file[12 + 4 * sizes.cells() + cell] = mark;

@@ -3,7 +3,12 @@
 
 pub mod chains;
 pub mod damage;
+pub mod mutations;
+pub mod neighbours;
+pub mod padding;
 pub mod random;
 pub mod registers;
+mod rule_writer;
+pub mod scraps;
 pub mod tally;
 pub mod texts;

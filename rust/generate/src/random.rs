@@ -40,6 +40,18 @@ impl Random {
         self.number() as u8
     }
 
+    /// So many bytes, all random.
+    pub fn bytes(&mut self, count: usize) -> Vec<u8> {
+        (0..count).map(|_| self.byte()).collect()
+    }
+
+    /// Fills an array with random bytes.
+    pub fn fill(&mut self, array: &mut [u8]) {
+        for chunk in array.chunks_mut(8) {
+            chunk.copy_from_slice(&self.number().to_le_bytes()[..chunk.len()]);
+        }
+    }
+
     /// One of several.
     pub fn pick<T: Copy>(&mut self, several: &[T]) -> T {
         several[self.below(several.len())]

@@ -18,6 +18,11 @@ impl Tally {
         }
     }
 
+    /// How often an answer came up.
+    pub fn of(&self, answer: &str) -> u64 {
+        self.counts.get(answer).copied().unwrap_or(0)
+    }
+
     /// Prints every count, also where a test's output is captured.
     pub fn print(&self, title: &str) {
         let mut out = std::io::stdout().lock();
@@ -32,9 +37,9 @@ impl Tally {
     }
 
     /// Fails unless each of these answers came up so often.
-    pub fn require(&self, least: u64, answers: &[&str]) {
-        for answer in answers {
-            let count = self.counts.get(*answer).copied().unwrap_or(0);
+    pub fn require<S: AsRef<str>>(&self, least: u64, answers: &[S]) {
+        for answer in answers.iter().map(S::as_ref) {
+            let count = self.of(answer);
             assert!(count >= least, "{answer}: {count} times, not {least}");
         }
     }

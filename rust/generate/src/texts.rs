@@ -1,11 +1,9 @@
 //! Rules texts whose every line is right by itself: they pass the check unless a
 //! step needs more than 64 plan lines or the text is longer than may be.
 
-use crate::chains;
 use crate::random::Random;
-use crate::registers;
-use reference::register::{Kind, Sizes};
-use reference::rule::Sort;
+use crate::rule_writer::RuleWriter;
+use reference::register::Sizes;
 
 /// How much a text holds at most.
 #[derive(Clone, Copy, Debug)]
@@ -14,8 +12,18 @@ pub struct Shape {
     pub parts: usize,
     /// Rules of a step.
     pub rules: usize,
+    /// Rules of a step at least, if the register has a field.
+    pub fewest_rules: usize,
     /// Hops of a chain.
     pub hops: usize,
+    /// Rules in a hundred that have a test.
+    pub tests: usize,
+    /// Rules in a hundred that write remotely.
+    pub remotes: usize,
+    /// Measures in a hundred that are numbers.
+    pub numbers: usize,
+    /// Chains in a hundred that take letters over from an earlier chain of their step.
+    pub shared: usize,
 }
 
 /// Any shape, small more often than large.
@@ -23,7 +31,27 @@ pub fn shape(random: &mut Random) -> Shape {
     Shape {
         parts: random.pick(&[0, 1, 1, 2, 2, 3, 4, 8, 16]),
         rules: random.pick(&[0, 1, 2, 3, 4, 6, 9, 12, 32]),
+        fewest_rules: 0,
         hops: random.pick(&[0, 1, 2, 2, 3, 3, 4, 5, 8, 16]),
+        tests: 40,
+        remotes: 35,
+        numbers: 30,
+        shared: random.pick(&[0, 50]),
+    }
+}
+
+/// A shape for plans: 1 to 32 rules, from no chain to four in each, up to 16 hops.
+pub fn plan_shape(random: &mut Random) -> Shape {
+    let rules = random.pick(&[1, 1, 2, 4, 8, 16, 32, 32]);
+    Shape {
+        parts: random.pick(&[1, 1, 1, 2, 3]),
+        rules,
+        fewest_rules: random.pick(&[1, 1, rules]),
+        hops: random.pick(&[1, 2, 2, 3, 4, 5, 8, 9, 16, 16]),
+        tests: random.pick(&[0, 50, 100, 100]),
+        remotes: random.pick(&[0, 50, 100, 100]),
+        numbers: random.pick(&[0, 0, 30, 100]),
+        shared: random.pick(&[0, 50, 90, 98]),
     }
 }
 
@@ -49,105 +77,17 @@ fn step(random: &mut Random, sizes: Sizes, shape: Shape) -> String {
     let mut writer = RuleWriter::new(random, sizes, shape);
     let rules = match sizes.fields() {
         0 => 0,
-        _ => writer.random.between(0, shape.rules),
+        _ => writer.random.between(shape.fewest_rules, shape.rules),
     };
     let rules: String = (0..rules).map(|_| writer.rule() + "\n").collect();
     format!("step\n{rules}end\n")
 }
 
-/// Writes the rules of one step.
-struct RuleWriter<'a> {
-    random: &'a mut Random,
-    sizes: Sizes,
-    shape: Shape,
-    /// The one sort of remote write that each measure field takes.
-    sorts: [Sort; 16],
-}
-
-impl<'a> RuleWriter<'a> {
-    fn new(random: &'a mut Random, sizes: Sizes, shape: Shape) -> RuleWriter<'a> {
-        let sorts = std::array::from_fn(|_| random.pick(&[Sort::Least, Sort::Add, Sort::Add]));
-        RuleWriter {
-            random,
-            sizes,
-            shape,
-            sorts,
-        }
-    }
-
-    fn rule(&mut self) -> String {
-        let test = match self.random.percent(40) {
-            true => self.test(),
-            false => String::new(),
-        };
-        let field = self.random.below(self.sizes.fields());
-        let action = match self.random.percent(35) {
-            true => self.remote(field),
-            false => self.local(field),
-        };
-        test + &action
-    }
-
-    fn test(&mut self) -> String {
-        let kind = self.random.pick(&[Kind::Reference, Kind::Measure]);
-        let sign = self.random.pick(&["<", "==", "!="]);
-        format!("if {} {sign} {}: ", self.term(kind), self.term(kind))
-    }
-
-    fn local(&mut self, field: usize) -> String {
-        let letter = char::from(self.sizes.letter(field));
-        let kind = self.sizes.kind(field);
-        let x = self.term(kind);
-        if kind == Kind::Reference || self.random.percent(40) {
-            return format!("{letter}[u] := {x}");
-        }
-        let sign = self.random.pick(&['+', '-']);
-        format!("{letter}[u] := {x} {sign} {}", self.term(kind))
-    }
-
-    fn remote(&mut self, field: usize) -> String {
-        let letter = char::from(self.sizes.letter(field));
-        let kind = self.sizes.kind(field);
-        let sign = match (kind, self.sorts[field]) {
-            (Kind::Measure, Sort::Add) => "+=",
-            _ => "<?=",
-        };
-        let target = self.term(Kind::Reference);
-        format!("remote {letter}[{target}] {sign} {}", self.term(kind))
-    }
-
-    /// A chain of a kind, or a number.
-    fn term(&mut self, kind: Kind) -> String {
-        let hops = self.random.between(0, self.shape.hops);
-        let numeric = self.sizes.measures == 0 || self.random.percent(30);
-        let letters = match kind {
-            Kind::Measure if numeric => return number(self.random).to_string(),
-            Kind::Measure => self.letters(b'M', self.sizes.measures, hops),
-            Kind::Reference if hops == 0 || self.sizes.references == 0 => Vec::new(),
-            Kind::Reference => self.letters(b'A', self.sizes.references, hops),
-        };
-        String::from_utf8(chains::text(&letters)).expect("a chain is plain text")
-    }
-
-    /// So many hops, at least one; the outermost letter is one of several from
-    /// the first on. The inner ones are A and B, so that chains share beginnings
-    /// and ends.
-    fn letters(&mut self, first: u8, several: usize, hops: usize) -> Vec<u8> {
-        let inner = match self.sizes.references {
-            0 => 0,
-            _ => hops.saturating_sub(1),
-        };
-        let different = self.sizes.references.min(2);
-        let mut letters = vec![first + self.random.below(several) as u8];
-        letters.extend((0..inner).map(|_| b'A' + self.random.below(different) as u8));
-        letters
-    }
-}
-
-/// A number of a rules text, seldom near the ends of the range.
-fn number(random: &mut Random) -> i32 {
-    match random.percent(85) {
-        true => random.below(21) as i32 - 10,
-        false => registers::measure(random),
+/// A line with a rule of any shape; without fields there is none.
+pub(crate) fn rule(random: &mut Random, sizes: Sizes) -> String {
+    let shape = shape(random);
+    match sizes.fields() {
+        0 => String::new(),
+        _ => RuleWriter::new(random, sizes, shape).rule() + "\n",
     }
 }

@@ -8,6 +8,46 @@ pub type Answer = [u64; 8];
 pub const LINE: usize = 0;
 /// The place that says whether a reading is filled: 1 filled, 0 unfilled.
 pub const FILLED: usize = 6;
+/// The place of a checked text's number of steps.
+pub const STEPS: usize = 6;
+/// The place of the most lines of any step of a checked text.
+pub const MOST_LINES: usize = 7;
+/// The place of a plan's number of lines.
+pub const LINES: usize = 6;
+/// The place that says whether a remote exchange follows a plan: 1 if so.
+pub const REMOTE: usize = 7;
+
+/// The most lines of a plan.
+pub const MAX_LINES: usize = 64;
+/// The bytes that the chain of a plan line takes up.
+pub const CHAIN_BYTES: usize = 16;
+/// The kind of a Back line.
+pub const BACK: u8 = 0;
+/// The kind of a Read line.
+pub const READ: u8 = 1;
+
+/// Buffers for the lines of a plan. Places behind the last line become 0; on a
+/// refusal all three stay as they are.
+#[derive(Clone, Debug, PartialEq, Eq)]
+pub struct PlanBuffers {
+    /// Line i is a Back or a Read line.
+    pub kinds: [u8; MAX_LINES],
+    /// The hop letters of line i from the inside out, in bytes 16·i to 16·i + 15,
+    /// 0 behind the last.
+    pub chains: [u8; MAX_LINES * CHAIN_BYTES],
+    /// The round of line i.
+    pub rounds: [u8; MAX_LINES],
+}
+
+impl Default for PlanBuffers {
+    fn default() -> PlanBuffers {
+        PlanBuffers {
+            kinds: [0; MAX_LINES],
+            chains: [0; MAX_LINES * CHAIN_BYTES],
+            rounds: [0; MAX_LINES],
+        }
+    }
+}
 
 unsafe extern "C" {
     fn plot_read(
@@ -17,6 +57,26 @@ unsafe extern "C" {
         chain_length: usize,
         record: u64,
         value: *mut i64,
+        answer: *mut Answer,
+    ) -> u32;
+
+    fn plot_check(
+        register: *const u8,
+        register_length: usize,
+        text: *const u8,
+        text_length: usize,
+        answer: *mut Answer,
+    ) -> u32;
+
+    fn plot_plan(
+        register: *const u8,
+        register_length: usize,
+        text: *const u8,
+        text_length: usize,
+        step: u64,
+        kinds: *mut [u8; MAX_LINES],
+        chains: *mut [u8; MAX_LINES * CHAIN_BYTES],
+        rounds: *mut [u8; MAX_LINES],
         answer: *mut Answer,
     ) -> u32;
 }
@@ -41,6 +101,49 @@ pub fn read(
             chain.len(),
             record,
             value,
+            answer,
+        )
+    }
+}
+
+/// Checks a rules text for a register.
+pub fn check(register: &[u8], text: &[u8], answer: &mut Answer) -> u32 {
+    // SAFETY: each pointer comes from a reference that outlives the call, is not
+    // null, and goes with its slice's length; the library writes to `answer`
+    // only, and keeps no pointer.
+    unsafe {
+        plot_check(
+            register.as_ptr(),
+            register.len(),
+            text.as_ptr(),
+            text.len(),
+            answer,
+        )
+    }
+}
+
+/// Makes the plan of a step of a rules text; steps count from 1.
+pub fn plan(
+    register: &[u8],
+    text: &[u8],
+    step: u64,
+    lines: &mut PlanBuffers,
+    answer: &mut Answer,
+) -> u32 {
+    // SAFETY: each pointer comes from a reference that outlives the call, is not
+    // null, and goes with its slice's length or to an array of the length that
+    // the library writes; it writes to the three buffers and `answer` only, and
+    // keeps no pointer.
+    unsafe {
+        plot_plan(
+            register.as_ptr(),
+            register.len(),
+            text.as_ptr(),
+            text.len(),
+            step,
+            &mut lines.kinds,
+            &mut lines.chains,
+            &mut lines.rounds,
             answer,
         )
     }

@@ -102,7 +102,8 @@ impl Plan {
 
     /// The line of a fact: the one that lists it, or a new one behind its needs.
     fn add_fact(&mut self, kind: LineKind, chain: &[u8]) -> Result<usize, TooManyLines> {
-        if let Some(line) = self.find(kind, chain) {
+        let word = Word::new(chain);
+        if let Some(line) = self.find(kind, &word) {
             return Ok(line);
         }
         let (start, rest) = chain.split_at(first_part(chain.len()));
@@ -114,15 +115,17 @@ impl Plan {
         let round = 1 + self.round_of_writer(writer).max(self.round_of(knows));
         self.push(Line {
             kind,
-            chain: Word::new(chain),
+            chain: word,
             round,
             writer,
             knows,
         })
     }
 
-    fn find(&self, kind: LineKind, chain: &[u8]) -> Option<usize> {
-        let listed = |line: &Line| line.kind == kind && line.chain.fields() == chain;
+    /// A line's whole word and kind are compared at once, without a branch between
+    /// them: of the many comparisons all but the last one fail, anywhere.
+    fn find(&self, kind: LineKind, chain: &Word) -> Option<usize> {
+        let listed = |line: &Line| (line.chain == *chain) & (line.kind == kind);
         self.lines.iter().position(listed)
     }
 

@@ -2,13 +2,19 @@
 
 use crate::timing::Row;
 use generate::random::Random;
-use generate::registers;
+use generate::{neighbours, padding, registers, texts};
 use reference::reading::reading;
+use reference::register::{MAX_FIELDS, Sizes};
+use reference::text::{MAX_BYTES, check};
 use std::hint::black_box;
 
 /// All rows, in the order they are printed.
 pub fn rows() -> Vec<Row> {
-    vec![load()]
+    vec![
+        load(),
+        check_text("check 8,192 bytes, plain", plain_text()),
+        check_text("check 8,192 bytes, dense", dense_text()),
+    ]
 }
 
 /// Loading the largest register, by the cheapest reading of it.
@@ -27,4 +33,70 @@ fn load() -> Row {
             let _ = black_box(reading(black_box(&same), b"u", 0));
         }),
     }
+}
+
+/// The sizes of the register that the texts are for: all fields that there are,
+/// and so few records that loading it takes no time to speak of.
+const TEXT_SIZES: Sizes = Sizes {
+    records: 2,
+    references: MAX_FIELDS,
+    measures: MAX_FIELDS,
+};
+
+/// Checking a text that passes and is as long as may be.
+fn check_text(name: &'static str, text: Vec<u8>) -> Row {
+    let register = registers::full_file(&mut Random::new(3), TEXT_SIZES);
+    assert_eq!(text.len(), 8192);
+    assert!(plot::check(&register, &text).is_ok());
+    let (same_register, same_text) = (register.clone(), text.clone());
+    Row {
+        name,
+        at_most: 1.5,
+        library: Box::new(move || {
+            let _ = black_box(plot::check(black_box(&register), black_box(&text)));
+        }),
+        reference: Box::new(move || {
+            let _ = black_box(check(black_box(&same_register), black_box(&same_text)));
+        }),
+    }
+}
+
+/// Rules of every form with short chains.
+fn plain_text() -> Vec<u8> {
+    let mut random = Random::new(6);
+    let shape = texts::Shape {
+        parts: 1,
+        rules: 12,
+        fewest_rules: 12,
+        hops: 2,
+        tests: 40,
+        remotes: 35,
+        numbers: 30,
+        shared: 50,
+    };
+    full_text(&mut random, |random| texts::text(random, TEXT_SIZES, shape))
+}
+
+/// Steps of long chains, each with 64 plan lines.
+fn dense_text() -> Vec<u8> {
+    full_text(&mut Random::new(7), |random| {
+        loop {
+            if let Some(step) = neighbours::full_step(random, TEXT_SIZES) {
+                return step;
+            }
+        }
+    })
+}
+
+/// As many parts as there is room for, and a last step that fills the text up.
+fn full_text(random: &mut Random, mut part: impl FnMut(&mut Random) -> Vec<u8>) -> Vec<u8> {
+    let mut text = Vec::new();
+    loop {
+        let more = [&text[..], &part(random)].concat();
+        match padding::pad(random, TEXT_SIZES, &more, MAX_BYTES) {
+            Some(_) => text = more,
+            None => break,
+        }
+    }
+    padding::pad(random, TEXT_SIZES, &text, MAX_BYTES).expect("it has room for a last step")
 }
