@@ -10,11 +10,12 @@ use borrow.Author.Tests.{lt-ltb, le-ltb, ltb-true, ltb-false}
 use Rattle.plan.specs.Plan.{Fact, read, hops, line-from, back-need, read-need, place, add, plan}
 use Rattle.plan.specs.Facts.{back-need-shorter, read-need-shorter}
 use Rattle.plan.specs.Lines.{add-one, add-both, Next, grows-length, add-grows, add-next, plan-more}
-use Rattle.plan.specs.Held.{fact-of, facts, NeedsOf, Holds, Extended, AddedTo}
+use Rattle.plan.specs.Held.{fact-of, facts, settled, NeedsOf, Holds, Extended, AddedTo}
 use Rattle.plan.specs.declared.Plan.{Plan}
 use Rattle.plan.specs.declared.Added.{Added}
 use Rattle.plan.specs.declared.key.Needs.{Needs}
 use Rattle.plan.proofs.Appending.{holds-count}
+use Rattle.plan.proofs.Settled.{settled-adds}
 
 pub holds-facts : {p : Plan} {l : List Fact} → Holds p l → Holds p (facts p)
 holds-facts h = rw (h .facts-are) h
@@ -31,6 +32,10 @@ extended-more {l} m e y h =
 -- a plan that already holds the lines
 pub extended-same : {p : Plan} {l : List Fact} → Holds p l → Extended l (record { plan = p; full = false })
 extended-same {p} {l} h = record { full-is = sym (le-ltb 64 (length l) (omega (arith, holds-count h, h .keyed))); holds = λ k. h }
+
+-- a plan holds the lines of a fact that is settled
+pub holds-settled : {p : Plan} {l : List Fact} (f : Fact) → Holds p l → settled (facts p) f ≡ true → Holds p (add l f)
+holds-settled {p} {l} f h s = rw (settled-adds l f (rw (h .facts-are) at s)) h
 
 add-length : (l : List Fact) (f : Fact) → length l ≤ length (add l f)
 add-length l f = grows-length (add-grows l f)

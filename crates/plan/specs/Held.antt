@@ -50,6 +50,10 @@ facts p = facts-in (p .keys) (p .count)
 abbrev pub line-at : Plan → ℕ → Line
 line-at p i = record { key = getD (p .keys) i 0; round = getD (p .rounds) i 0; back = getD (p .backs) i 0; read = getD (p .reads) i 0 }
 
+-- the line of Back of one hop, which needs no line
+abbrev pub first-line : ℕ → Line
+first-line k = record { key = k; round = 1; back = 64; read = 64 }
+
 -- whether f adds no line to l: it has none, or is listed
 unfoldable pub settled : List Fact → Fact → Bool
 settled l f = ltb (hops f) (line-from f) || listed l f

@@ -1,5 +1,6 @@
 // The plan of a step's readings: its lines, their rounds, and which lines their needs are.
 ghost use mathlib.Core.Path.{_≡_};
+ghost use mathlib.Core.Bool.{false};
 ghost use mathlib.Core.List.{[]};
 ghost use Prim.Native.Nat.{_≤_, _<_};
 ghost use lib.ListN.{length};
@@ -12,7 +13,6 @@ mod lines;
 pub mod word;
 
 use key::ONE_HOP;
-use lines::NO_LINE;
 
 // At most 64 lines. Line i, from 0, has its key, its round, and the lines of its two needs, 64 where it needs none.
 pub struct Plan {
@@ -61,7 +61,15 @@ impl Plan {
         requires { ⌜ Holds self (facts self) × (length (unpack chain) ≤ 16) ⌝ }
         ensures { λ r. ⌜ AddedTo self (addOf (facts self) (read (unpack chain))) r ⌝ }
     {
-        let added = add_fact(self, key::read(chain));
+        let key = key::read(chain);
+        let count = self.count;
+        if lines::is_settled(&self.keys, count, key) {
+            return Added {
+                plan: self,
+                full: false,
+            };
+        }
+        let added = add_fact(self, key);
         if added.full {
             return Added {
                 plan: self,
@@ -118,35 +126,39 @@ pub fn find_read(keys: &[u64; 64], count: usize, chain: u64) -> Found
     }
 }
 
-// The lines of a fact behind those of a plan: those of its needs first, then its own.
+// The lines of a fact that is not settled behind those of a plan: those of its needs first, then its own. A need that is
+// settled costs no call, and so no copy of the plan.
 fn add_fact(plan: Plan, key: u64) -> Added
-    requires { ⌜ Holds plan (facts plan) × (hops (fact-of key) ≤ 16) ⌝ }
+    requires { ⌜ Holds plan (facts plan) × (hops (fact-of key) ≤ 16) × (settled (facts plan) (fact-of key) ≡ false) ⌝ }
     ensures { λ r. ⌜ Extended (addOf (facts plan) (fact-of key)) r ⌝ }
 {
-    let count = plan.count;
-    if lines::is_settled(&plan.keys, count, key) {
-        return Added { plan, full: false };
-    }
     if key <= ONE_HOP {
-        // Back of one hop, which needs nothing.
-        return lines::append(
-            plan,
-            Line {
-                key,
-                round: 1,
-                back: NO_LINE,
-                read: NO_LINE,
-            },
-        );
+        return lines::append(plan, lines::first_line(key));
     }
     let needs = key::needs_of(key);
-    let first = add_fact(plan, needs.back);
-    if first.full {
-        return first;
+    let count = plan.count;
+    if lines::is_settled(&plan.keys, count, needs.back) {
+        if lines::is_settled(&plan.keys, count, needs.read) {
+            return lines::append_after(plan, key, needs);
+        }
+        let read = add_fact(plan, needs.read);
+        if read.full {
+            return read;
+        }
+        return lines::append_after(read.plan, key, needs);
     }
-    let second = add_fact(first.plan, needs.read);
-    if second.full {
-        return second;
+    let back = add_fact(plan, needs.back);
+    if back.full {
+        return back;
     }
-    lines::append_after(second.plan, key, needs)
+    let held = back.plan;
+    let behind = held.count;
+    if lines::is_settled(&held.keys, behind, needs.read) {
+        return lines::append_after(held, key, needs);
+    }
+    let both = add_fact(held, needs.read);
+    if both.full {
+        return both;
+    }
+    lines::append_after(both.plan, key, needs)
 }

@@ -4,7 +4,7 @@ ghost use mathlib.Core.List.{[], _∷_, _++_};
 ghost use Prim.Native.Nat.{suc, _<_, max};
 ghost use lib.ListN.{length, getD};
 ghost use Rattle.plan.specs.Plan.{place};
-ghost use Rattle.plan.specs.Held.{fact-of, facts-in, facts, settled, index, Keyed, LineOf, Ready, Holds, Extended};
+ghost use Rattle.plan.specs.Held.{fact-of, facts-in, facts, settled, index, first-line as firstLine, Keyed, LineOf, Ready, Holds, Extended};
 use crate::Added;
 use crate::Line;
 use crate::Plan;
@@ -12,7 +12,7 @@ use crate::key::Needs;
 use crate::key::has_line;
 
 // The line of a need that has none.
-pub const NO_LINE: u8 = 64;
+const NO_LINE: u8 = 64;
 
 // The place of a line; the count where it is not listed.
 pub fn find(keys: &[u64; 64], count: usize, key: u64) -> usize
@@ -70,6 +70,18 @@ fn round_after(rounds: &[u8; 64], back: u8, read: u8) -> u8
     ensures { λ r. ⌜ r ≡ suc (max (getD (now (rounds .entry)) back 0) (getD (now (rounds .entry)) read 0)) ⌝ }
 {
     later(round_at(rounds, back), round_at(rounds, read)) + 1
+}
+
+// The line of Back of one hop, which needs nothing.
+pub fn first_line(key: u64) -> Line
+    ensures { λ r. ⌜ r ≡ firstLine key ⌝ }
+{
+    Line {
+        key,
+        round: 1,
+        back: NO_LINE,
+        read: NO_LINE,
+    }
 }
 
 pub fn append(plan: Plan, line: Line) -> Added
