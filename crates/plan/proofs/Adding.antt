@@ -1,6 +1,6 @@
 -- A fact added to a plan: its needs' lines first, then its own, as long as there is room.
 use Prim.Native.Nat.{ℕ, _≤_, _<_}
-use mathlib.Core.Path.{_≡_, refl, sym, _∙_}
+use mathlib.Core.Path.{_≡_, refl, sym, ap, _∙_}
 use mathlib.Core.Bool.{true, false}
 use mathlib.Core.List.{List, [], _∷_, _++_}
 use native.Mathlib.Omega.{arith}
@@ -10,7 +10,7 @@ use borrow.Author.Tests.{lt-ltb, le-ltb, ltb-true, ltb-false}
 use Rattle.plan.specs.Plan.{Fact, read, hops, line-from, back-need, read-need, place, add, plan}
 use Rattle.plan.specs.Facts.{back-need-shorter, read-need-shorter}
 use Rattle.plan.specs.Lines.{add-one, add-both, Next, grows-length, add-grows, add-next, plan-more}
-use Rattle.plan.specs.Held.{fact-of, facts, settled, NeedsOf, Holds, Extended, AddedTo}
+use Rattle.plan.specs.Held.{fact-of, facts, settled, NeedsOf, Holds, Extended, ExtendedTo, AddedTo}
 use Rattle.plan.specs.declared.Plan.{Plan}
 use Rattle.plan.specs.declared.Added.{Added}
 use Rattle.plan.specs.declared.key.Needs.{Needs}
@@ -33,9 +33,8 @@ extended-more {l} m e y h =
 pub extended-same : {p : Plan} {l : List Fact} → Holds p l → Extended l (record { plan = p; full = false })
 extended-same {p} {l} h = record { full-is = sym (le-ltb 64 (length l) (omega (arith, holds-count h, h .keyed))); holds = λ k. h }
 
--- a plan holds the lines of a fact that is settled
-pub holds-settled : {p : Plan} {l : List Fact} (f : Fact) → Holds p l → settled (facts p) f ≡ true → Holds p (add l f)
-holds-settled {p} {l} f h s = rw (settled-adds l f (rw (h .facts-are) at s)) h
+pub extended-settled : {p : Plan} {l : List Fact} (f : Fact) → Holds p l → settled l f ≡ true → ExtendedTo (add l f) p
+extended-settled {p} {l} f h s = rw (settled-adds l f s) (record { full-is = ap (ltb 64) (sym (holds-count h)); holds = λ k. h })
 
 add-length : (l : List Fact) (f : Fact) → length l ≤ length (add l f)
 add-length l f = grows-length (add-grows l f)

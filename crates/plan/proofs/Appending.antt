@@ -1,14 +1,14 @@
 -- A line appended to a plan: what holds of the arrays then.
 use Prim.Native.Nat.{ℕ, suc, _+_, _≤_, _<_, max}
 use mathlib.Core.Path.{_≡_, refl, sym, ap, ap₂, _∙_}
-use mathlib.Core.Bool.{true, false}
 use mathlib.Core.List.{List, [], _∷_, _++_, map-append}
 use mathlib.Core.Logic.{⊎-elim}
 use native.Mathlib.Omega.{arith}
 use native.Mathlib.Numerals.{add-one}
+use lib.Dec.{ltb}
 use lib.ListN.{length, getD, set, take, length-append, length-set, List·getD-eq-default}
 use lib.Seq.{take-suc-set, getD-set-same, getD-set-other}
-use borrow.Author.Tests.{le-ltb}
+use borrow.Author.Tests.{lt-ltb}
 use Rattle.plan.specs.Plan.{Fact, hops, line-from, back-need, read-need, round, place, line}
 use Rattle.plan.specs.Promise.{Stands}
 use Rattle.plan.specs.Cases.{lt-or-le}
@@ -16,7 +16,7 @@ use Rattle.plan.specs.Facts.{round-none, round-one, round-both, round-ho
 use Rattle.plan.specs.Places.{place-line, place-append-listed}
 use Rattle.plan.specs.Lines.{Had, Next}
 use Rattle.plan.specs.Kept.{Ordered, ordered-append, lines-append}
-use Rattle.plan.specs.Held.{fact-of, facts-in, index, need-index, Column, Holds, LineOf, Ready, Extended}
+use Rattle.plan.specs.Held.{fact-of, facts-in, index, need-index, Column, Holds, LineOf, Ready, ExtendedTo}
 use Rattle.plan.specs.declared.Plan.{Plan}
 use Rattle.plan.specs.declared.Line.{Line}
 use Rattle.plan.specs.declared.key.Needs.{Needs}
@@ -97,47 +97,47 @@ holds-append {p} {l} {x} h n room =
     }
 
 -- the round of a need that is had, read from its line; 0 where it has none
-pub need-round : {p : Plan} {l : List Fact} (g : Fact) → Holds p l → Had l g → getD (p .rounds) (index l g) 0 ≡ round g
-need-round {p} {l} g h had =
+pub need-round : {xs : List ℕ} {l : List Fact} (g : Fact) → Column xs l round → Had l g → getD xs (index l g) 0 ≡ round g
+need-round {xs} {l} g h had =
     ⊎-elim
-    (λ (b : place l g < length l). rw (index-old l g b) (h .rounds-are .entry (place l g) b ∙ ap round (place-line l g b)))
+    (λ (b : place l g < length l). rw (index-old l g b) (h .entry (place l g) b ∙ ap round (place-line l g b)))
     (λ (b : length l ≤ place l g).
     rw (index-new l g b)
-    (List·getD-eq-default (p .rounds) 0 (omega (arith, h .rounds-are .places))
+    (List·getD-eq-default xs 0 (omega (arith, h .places))
     ∙ sym (round-none g (⊎-elim (λ q. q) (λ q. absurd (omega (arith, had q))) (lt-or-le (hops g) (line-from g))))))
     (lt-or-le (place l g) (length l))
 
 -- the answer for the lines with one more: where all 64 places are taken, and where one is left
-pub extended-full : {p : Plan} {l : List Fact} (f : Fact) → Holds p l → p .count ≡ 64 → Extended (l ++ (f ∷ [])) (record { plan = p; full = true })
-extended-full {p} {l} f h e =
+pub extended-full : {p o : Plan} {l : List Fact} (f : Fact) → Holds p l → p .count ≡ 64 → 64 < o .count → ExtendedTo (l ++ (f ∷ [])) o
+extended-full {p} {o} {l} f h e b =
     let k : length (l ++ (f ∷ [])) ≡ 65 = simp length-append (omega (arith, holds-count h)) in
-    record { full-is = rw k; holds = λ b. absurd (omega arith) }
+    record { full-is = lt-ltb 64 (o .count) b ∙ sym (lt-ltb 64 (length (l ++ (f ∷ []))) (omega (arith, k))); holds = λ n. absurd (omega (arith, k)) }
 
-pub extended-append : {p : Plan} {l : List Fact} {x : Line} → Holds p l → LineOf l x → p .count < 64 → Extended (l ++ (fact-of (x .key) ∷ [])) (record { plan = appended p x; full = false })
+pub extended-append : {p : Plan} {l : List Fact} {x : Line} → Holds p l → LineOf l x → p .count < 64 → ExtendedTo (l ++ (fact-of (x .key) ∷ [])) (appended p x)
 extended-append {p} {l} {x} h n room =
     let m = l ++ (fact-of (x .key) ∷ []) in
     let k : length m ≡ p .count + 1 = simp length-append (omega (arith, holds-count h)) in
-    record { full-is = sym (le-ltb 64 (length m) (omega arith)); holds = λ b. holds-append h n room }
+    record { full-is = ap (ltb 64) (sym k); holds = λ b. holds-append h n room }
 
 -- the line of a fact of two or more hops, from the lines that its needs have
-module _ {p : Plan} {l : List Fact} {k : ℕ} {needs : Needs} (h : Holds p l) (q : Ready l k needs) where
-  back-round : getD (p .rounds) (index l (fact-of (needs .back))) 0 ≡ round (back-need (fact-of k))
+module _ {xs : List ℕ} {l : List Fact} {k : ℕ} {needs : Needs} (h : Column xs l round) (q : Ready l k needs) where
+  back-round : getD xs (index l (fact-of (needs .back))) 0 ≡ round (back-need (fact-of k))
   back-round = rw (q .needs-are .back-is) (need-round (back-need (fact-of k)) h (q .next .needs (q .two) .0))
 
-  read-round : getD (p .rounds) (index l (fact-of (needs .read))) 0 ≡ round (read-need (fact-of k))
+  read-round : getD xs (index l (fact-of (needs .read))) 0 ≡ round (read-need (fact-of k))
   read-round = rw (q .needs-are .read-is) (need-round (read-need (fact-of k)) h (q .next .needs (q .two) .1))
 
-  pub back-round< : getD (p .rounds) (index l (fact-of (needs .back))) 0 < 255
+  pub back-round< : getD xs (index l (fact-of (needs .back))) 0 < 255
   back-round< = omega (arith, q .short, back-round, round-hops (back-need (fact-of k)), back-need-shorter (fact-of k) (q .two))
 
-  pub read-round< : getD (p .rounds) (index l (fact-of (needs .read))) 0 < 255
+  pub read-round< : getD xs (index l (fact-of (needs .read))) 0 < 255
   read-round< = omega (arith, q .short, read-round, round-hops (read-need (fact-of k)), read-need-shorter (fact-of k) (q .two))
 
   pub line-both : {r b d : ℕ} → b ≡ index l (fact-of (needs .back)) → d ≡ index l (fact-of (needs .read))
-      → r ≡ suc (max (getD (p .rounds) b 0) (getD (p .rounds) d 0)) → LineOf l (record { key = k; round = r; back = b; read = d })
+      → r ≡ suc (max (getD xs b 0) (getD xs d 0)) → LineOf l (record { key = k; round = r; back = b; read = d })
   line-both eb ed er =
       let f = fact-of k in
-      let at : ℕ → ℕ = λ i. getD (p .rounds) i 0 in
+      let at : ℕ → ℕ = λ i. getD xs i 0 in
       record {
         next = q .next;
         round-is = er ∙ ap suc (ap₂ max (ap at eb ∙ back-round) (ap at ed ∙ read-round)) ∙ sym (round-both f (q .two));

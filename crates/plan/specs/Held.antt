@@ -109,6 +109,14 @@ pub record Extended (l : List Fact) (r : Added) : Type 0 where
   pub full-is : r .full ≡ ltb 64 (length l)
   pub holds : length l ≤ 64 → Holds (r .plan) l
 
+-- a plan by its arrays and the number of its lines
+abbrev pub plan-of : List ℕ → List ℕ → List ℕ → List ℕ → ℕ → Plan
+plan-of keys rounds backs reads n = record { keys = keys; rounds = rounds; backs = backs; reads = reads; count = n }
+
+-- the same answer as a plan whose number of lines is above 64 where there is no room
+abbrev pub ExtendedTo : List Fact → Plan → Type 0
+ExtendedTo l p = Extended l (record { plan = p; full = ltb 64 (p .count) })
+
 -- and where it is full, the plan p as it was
 pub record AddedTo (p : Plan) (l : List Fact) (r : Added) : Type 0 where
   pub extended : Extended l r

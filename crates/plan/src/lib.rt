@@ -1,12 +1,11 @@
 // The plan of a step's readings: its lines, their rounds, and which lines their needs are.
 ghost use mathlib.Core.Path.{_≡_};
-ghost use mathlib.Core.Bool.{false};
 ghost use mathlib.Core.List.{[]};
 ghost use Prim.Native.Nat.{_≤_, _<_};
 ghost use lib.ListN.{length};
 ghost use Rattle.chain.specs.Word.{unpack};
 ghost use Rattle.plan.specs.Plan.{read, hops, last-round, add as addOf};
-ghost use Rattle.plan.specs.Held.{fact-of, facts-in, facts, settled, found, line-at as lineAt, Keyed, Holds, Extended, AddedTo};
+ghost use Rattle.plan.specs.Held.{fact-of, facts-in, facts, settled, found, line-at as lineAt, Keyed, Holds, plan-of as planOf, ExtendedTo, AddedTo};
 
 pub mod key;
 mod lines;
@@ -61,22 +60,33 @@ impl Plan {
         requires { ⌜ Holds self (facts self) × (length (unpack chain) ≤ 16) ⌝ }
         ensures { λ r. ⌜ AddedTo self (addOf (facts self) (read (unpack chain))) r ⌝ }
     {
-        let key = key::read(chain);
-        let count = self.count;
-        if lines::is_settled(&self.keys, count, key) {
-            return Added {
-                plan: self,
-                full: false,
-            };
-        }
-        let added = add_fact(self, key);
-        if added.full {
+        let mut keys = self.keys;
+        let mut rounds = self.rounds;
+        let mut backs = self.backs;
+        let mut reads = self.reads;
+        let from = self.count;
+        let count = add_fact(
+            &mut keys,
+            &mut rounds,
+            &mut backs,
+            &mut reads,
+            from,
+            key::read(chain),
+        );
+        if 64 < count {
             return Added {
                 plan: self,
                 full: true,
             };
         }
-        added
+        let plan = Plan {
+            keys,
+            rounds,
+            backs,
+            reads,
+            count,
+        };
+        Added { plan, full: false }
     }
 
     pub fn line(self, i: usize) -> Line
@@ -126,39 +136,34 @@ pub fn find_read(keys: &[u64; 64], count: usize, chain: u64) -> Found
     }
 }
 
-// The lines of a fact that is not settled behind those of a plan: those of its needs first, then its own. A need that is
-// settled costs no call, and so no copy of the plan.
-fn add_fact(plan: Plan, key: u64) -> Added
-    requires { ⌜ Holds plan (facts plan) × (hops (fact-of key) ≤ 16) × (settled (facts plan) (fact-of key) ≡ false) ⌝ }
-    ensures { λ r. ⌜ Extended (addOf (facts plan) (fact-of key)) r ⌝ }
+// The lines of a fact behind those of a plan, those of its needs first, then its own; the number of lines then, 65 where
+// there is no room. The plan's arrays are lent, so that no call copies them.
+fn add_fact(
+    keys: &mut [u64; 64],
+    rounds: &mut [u8; 64],
+    backs: &mut [u8; 64],
+    reads: &mut [u8; 64],
+    count: usize,
+    key: u64,
+) -> usize
+    requires { ⌜ Holds (planOf (now keys) (now rounds) (now backs) (now reads) count) (facts-in (now keys) count) × (hops (fact-of key) ≤ 16) ⌝ }
+    ensures { λ r. ⌜ ExtendedTo (addOf (facts-in (now (keys .entry)) count) (fact-of key)) (planOf (now (keys .exit)) (now (rounds .exit)) (now (backs .exit)) (now (reads .exit)) r) ⌝ }
 {
+    if lines::is_settled(keys, count, key) {
+        return count;
+    }
     if key <= ONE_HOP {
-        return lines::append(plan, lines::first_line(key));
+        return lines::append(keys, rounds, backs, reads, count, lines::first_line(key));
     }
     let needs = key::needs_of(key);
-    let count = plan.count;
-    if lines::is_settled(&plan.keys, count, needs.back) {
-        if lines::is_settled(&plan.keys, count, needs.read) {
-            return lines::append_after(plan, key, needs);
-        }
-        let read = add_fact(plan, needs.read);
-        if read.full {
-            return read;
-        }
-        return lines::append_after(read.plan, key, needs);
-    }
-    let back = add_fact(plan, needs.back);
-    if back.full {
+    let back = add_fact(keys, rounds, backs, reads, count, needs.back);
+    if 64 < back {
         return back;
     }
-    let held = back.plan;
-    let behind = held.count;
-    if lines::is_settled(&held.keys, behind, needs.read) {
-        return lines::append_after(held, key, needs);
+    let read = add_fact(keys, rounds, backs, reads, back, needs.read);
+    if 64 < read {
+        return read;
     }
-    let both = add_fact(held, needs.read);
-    if both.full {
-        return both;
-    }
-    lines::append_after(both.plan, key, needs)
+    let line = lines::line_after(keys, rounds, read, key, needs);
+    lines::append(keys, rounds, backs, reads, read, line)
 }

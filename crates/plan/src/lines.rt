@@ -3,11 +3,9 @@ ghost use mathlib.Core.Path.{_≡_};
 ghost use mathlib.Core.List.{[], _∷_, _++_};
 ghost use Prim.Native.Nat.{suc, _<_, max};
 ghost use lib.ListN.{length, getD};
-ghost use Rattle.plan.specs.Plan.{place};
-ghost use Rattle.plan.specs.Held.{fact-of, facts-in, facts, settled, index, first-line as firstLine, Keyed, LineOf, Ready, Holds, Extended};
-use crate::Added;
+ghost use Rattle.plan.specs.Plan.{round as roundOf, place};
+ghost use Rattle.plan.specs.Held.{fact-of, facts-in, settled, index, first-line as firstLine, Keyed, Column, LineOf, Ready, Holds, plan-of as planOf, ExtendedTo};
 use crate::Line;
-use crate::Plan;
 use crate::key::Needs;
 use crate::key::has_line;
 
@@ -84,42 +82,40 @@ pub fn first_line(key: u64) -> Line
     }
 }
 
-pub fn append(plan: Plan, line: Line) -> Added
-    requires { ⌜ Holds plan (facts plan) × LineOf (facts plan) line ⌝ }
-    ensures { λ r. ⌜ Extended (facts plan ++ (fact-of (line .key) ∷ [])) r ⌝ }
+// The line of a fact whose two needs are had.
+pub fn line_after(keys: &[u64; 64], rounds: &[u8; 64], count: usize, key: u64, needs: Needs) -> Line
+    requires { ⌜ Keyed (now keys) count × Column (now rounds) (facts-in (now keys) count) roundOf × Ready (facts-in (now keys) count) key needs ⌝ }
+    ensures { λ r. ⌜ (r .key ≡ key) × LineOf (facts-in (now (keys .entry)) count) r ⌝ }
 {
-    let at = plan.count;
-    if at == 64 {
-        return Added { plan, full: true };
-    }
-    let mut next = plan;
-    next.keys[at] = line.key;
-    next.rounds[at] = line.round;
-    next.backs[at] = line.back;
-    next.reads[at] = line.read;
-    next.count = at + 1;
-    Added {
-        plan: next,
-        full: false,
+    let back = index_of(keys, count, needs.back);
+    let read = index_of(keys, count, needs.read);
+    let round = round_after(rounds, back, read);
+    Line {
+        key,
+        round,
+        back,
+        read,
     }
 }
 
-// The line of a fact whose two needs are had.
-pub fn append_after(plan: Plan, key: u64, needs: Needs) -> Added
-    requires { ⌜ Holds plan (facts plan) × Ready (facts plan) key needs ⌝ }
-    ensures { λ r. ⌜ Extended (facts plan ++ (fact-of key ∷ [])) r ⌝ }
+// One line more, and the number of lines then; 65 where there is no room.
+pub fn append(
+    keys: &mut [u64; 64],
+    rounds: &mut [u8; 64],
+    backs: &mut [u8; 64],
+    reads: &mut [u8; 64],
+    count: usize,
+    line: Line,
+) -> usize
+    requires { ⌜ Holds (planOf (now keys) (now rounds) (now backs) (now reads) count) (facts-in (now keys) count) × LineOf (facts-in (now keys) count) line ⌝ }
+    ensures { λ r. ⌜ ExtendedTo (facts-in (now (keys .entry)) count ++ (fact-of (line .key) ∷ [])) (planOf (now (keys .exit)) (now (rounds .exit)) (now (backs .exit)) (now (reads .exit)) r) ⌝ }
 {
-    let count = plan.count;
-    let back = index_of(&plan.keys, count, needs.back);
-    let read = index_of(&plan.keys, count, needs.read);
-    let round = round_after(&plan.rounds, back, read);
-    append(
-        plan,
-        Line {
-            key,
-            round,
-            back,
-            read,
-        },
-    )
+    if count == 64 {
+        return 65;
+    }
+    keys[count] = line.key;
+    rounds[count] = line.round;
+    backs[count] = line.back;
+    reads[count] = line.read;
+    count + 1
 }
