@@ -40,7 +40,8 @@ module _ (p : Added) (h : Sound p) (n : p .full ≡ false) (w : List ℕ) where
     sound = h;
     extends = λ ws e.
         let held = extended-holds e n in
-        let same : plan (ws ++ (w ∷ [])) ≡ plan ws = plan-more ws w ∙ ap (λ (l : List Fact). add l (read w)) (sym (held .facts-are)) ∙ settled-adds (facts (p .plan)) (read w) y ∙ held .facts-are in
+        let same : plan (ws ++ (w ∷ [])) ≡ plan ws = plan-more ws w
+        ∙ ap (λ (l : List Fact). add l (read w)) (sym (held .facts-are)) ∙ settled-adds (facts (p .plan)) (read w) y ∙ held .facts-are in
         rw same e;
   }
 
@@ -96,7 +97,8 @@ module _ where
 
   rule-same : (r : Rule) → SameLines (pairWords (ruleChains r)) (actionReadings (actionOf r))
   unfolding ruleChains actionReadings actionOf
-  rule-same (Set f x) = λ (l : List Fact). same-both (unpack (chainIn x) ∷ []) (termReadings (termOf x)) (unpack 0 ∷ []) [] (term-same x) none-same l ∙ ap (add-readings l) (append-nil (termReadings (termOf x)))
+  rule-same (Set f x) = λ (l : List Fact). same-both (unpack (chainIn x) ∷ []) (termReadings (termOf x)) (unpack 0 ∷ []) [] (term-same x) none-same l
+      ∙ ap (add-readings l) (append-nil (termReadings (termOf x)))
   rule-same (Sum f x y) = terms-same x y
   rule-same (Difference f x y) = terms-same x y
   rule-same (Least f c x) = target-same c x

@@ -97,7 +97,8 @@ module _ {x : Tally} {rs : List Rule} (h : Counts x rs) (r : Rule) where
     totals-are = λ f. h .totals-are f ∙ sym (some-append (isTotal f) rs r ∙ rw (d f, or-false));
   }
 
-  counts-least : (g : ℕ) → g < 16 → isRemote (r .action) ≡ true → ((f : ℕ) → isLeast f (r .action) ≡ eqb f g) → ((f : ℕ) → isTotal f (r .action) ≡ false) → Counts (withLeast (moreRules x) g) (rs ++ (r ∷ []))
+  counts-least : (g : ℕ) → g < 16 → isRemote (r .action) ≡ true → ((f : ℕ) → isLeast f (r .action) ≡ eqb f g)
+      → ((f : ℕ) → isTotal f (r .action) ≡ false) → Counts (withLeast (moreRules x) g) (rs ++ (r ∷ []))
   unfolding moreRules withLeast
   counts-least g k a b d = record {
     rules-are = one-more;
@@ -108,7 +109,8 @@ module _ {x : Tally} {rs : List Rule} (h : Counts x rs) (r : Rule) where
     totals-are = λ f. h .totals-are f ∙ sym (some-append (isTotal f) rs r ∙ rw (d f, or-false));
   }
 
-  counts-total : (g : ℕ) → g < 16 → isRemote (r .action) ≡ true → ((f : ℕ) → isLeast f (r .action) ≡ false) → ((f : ℕ) → isTotal f (r .action) ≡ eqb f g) → Counts (withTotal (moreRules x) g) (rs ++ (r ∷ []))
+  counts-total : (g : ℕ) → g < 16 → isRemote (r .action) ≡ true → ((f : ℕ) → isLeast f (r .action) ≡ false)
+      → ((f : ℕ) → isTotal f (r .action) ≡ eqb f g) → Counts (withTotal (moreRules x) g) (rs ++ (r ∷ []))
   unfolding moreRules withTotal
   counts-total g k a b d = record {
     rules-are = one-more;
@@ -120,7 +122,8 @@ module _ {x : Tally} {rs : List Rule} (h : Counts x rs) (r : Rule) where
   }
 
 -- a rule that has passed
-counts-rule : {x : Tally} {rs : List Rule} (t : Test) (a : W.Action) → Counts x rs → fieldOf (target a) < 16 → Counts (withRule x (ruleOfAction a)) (rs ++ (record { test = t; action = actionOf a } ∷ []))
+counts-rule : {x : Tally} {rs : List Rule} (t : Test) (a : W.Action) → Counts x rs → fieldOf (target a) < 16
+    → Counts (withRule x (ruleOfAction a)) (rs ++ (record { test = t; action = actionOf a } ∷ []))
 unfolding withRule ruleOfAction actionOf target isRemote isLeast isTotal
 counts-rule t (W.set f x) h k = counts-local h _ refl (λ i. refl) (λ i. refl)
 counts-rule t (W.sum f x y) h k = counts-local h _ refl (λ i. refl) (λ i. refl)

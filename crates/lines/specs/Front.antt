@@ -1,20 +1,21 @@
 -- The first line of a text: what stands before its first byte 10, and its form.
 use Prim.Native.Nat.{ℕ}
-use mathlib.Core.Bool.{Bool, false, cond, not}
-use mathlib.Core.List.{List, [], _∷_}
+use mathlib.Core.Bool.{Bool, cond}
+use mathlib.Core.List.{List}
 use mathlib.Core.Option.{Option, none}
-use lib.Dec.{eqb, ltb}
+use lib.Dec.{ltb}
 use lib.ListN.{length}
+use Rattle.syntax.specs.Span.{starts, span}
 use Rattle.syntax.specs.Written.{Line}
 use Rattle.syntax.specs.Line.{lineForm}
+use Rattle.rules.specs.Text.{isWithin}
 
-unfoldable pub goesOn : List ℕ → Bool
-goesOn [] = false
-goesOn (b ∷ t) = not (eqb b 10)
+-- whether a line goes on: the text begins with a byte other than 10
+abbrev pub goesOn : List ℕ → Bool
+goesOn t = starts isWithin t
 
-unfoldable pub front : List ℕ → List ℕ
-front [] = []
-front (b ∷ t) = cond (not (eqb b 10)) (b ∷ front t) []
+abbrev pub front : List ℕ → List ℕ
+front t = span isWithin t
 
 -- 7: "a last line without byte 10" has none
 unfoldable pub firstForm : List ℕ → Option Line

@@ -183,7 +183,8 @@ module _ (s : Sizes) where
   loop-line (loop f) e = (f, refl)
   loop-line (rule c a) e = absurd (omega (arith, ap tag e))
 
-  pub rule-line : (l : Line) {y : Slot} {ch : Checks} → lineRead s (some l) ≡ L.Rule y ch → (c : W.Condition) × (a : W.Action) × (l ≡ rule c a) × (y ≡ record { test = R.testOf c; rule = ruleOfAction a })
+  pub rule-line : (l : Line) {y : Slot} {ch : Checks} → lineRead s (some l) ≡ L.Rule y ch
+      → (c : W.Condition) × (a : W.Action) × (l ≡ rule c a) × (y ≡ record { test = R.testOf c; rule = ruleOfAction a })
   unfolding lineRead tag
   rule-line step e = absurd (omega (arith, ap tag e))
   rule-line end e = absurd (omega (arith, ap tag e))
@@ -288,7 +289,8 @@ module _ (s : Sizes) (lim : Limits s) {slots : List Slot} {frames : List Frame} 
     at-end {q} e =
         let f = frameOf x p in
         let front : length (take (x .steps) frames) ≡ x .steps = length-take-le (x .steps) frames (omega (arith, end-steps, b .kept .frames-length)) in
-        let more : take (x .steps + 1) (set frames (x .steps) f) ≡ take (x .steps) frames ++ (f ∷ []) = ap (λ (i : ℕ). take i (set frames (x .steps) f)) (add-one (x .steps)) ∙ take-suc-set frames (x .steps) f (omega (arith, end-steps, b .kept .frames-length)) in
+        let more : take (x .steps + 1) (set frames (x .steps) f) ≡ take (x .steps) frames ++ (f ∷ []) = ap (λ (i : ℕ). take i (set frames (x .steps) f)) (add-one (x .steps))
+        ∙ take-suc-set frames (x .steps) f (omega (arith, end-steps, b .kept .frames-length)) in
         let new : stepsIn slots (take (x .steps + 1) (set frames (x .steps) f)) ≡ st .steps ++ (record { rules = openRules st; setting = settingIn (st .around) } ∷ []) =
         ap (stepsIn slots) more ∙ more-frames slots (take (x .steps) frames) f
         ∙ rw (b .kept .steps-are, front, b .kept .rules-are, h .around-is) in

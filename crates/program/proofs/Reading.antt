@@ -89,7 +89,8 @@ refuse : {A B : Type 0} (n k : ℕ) (o : Outcome A) (f : A → Outcome B) → (n
 unfolding after unless
 refuse n k o f h = rw (refuse-none n k o h)
 
-refused-line : (s : Sizes) (st : State) (k : ℕ) (o : Option Line) (f : State → Outcome Program) → (number s st o ≡ 0 → ⊥) → after (lineOutcome s st k o) f ≡ refused (number s st o) k
+refused-line : (s : Sizes) (st : State) (k : ℕ) (o : Option Line) (f : State → Outcome Program) → (number s st o ≡ 0 → ⊥)
+    → after (lineOutcome s st k o) f ≡ refused (number s st o) k
 unfolding number lineOutcome after
 refused-line s st k none f h = refl
 refused-line s st k (some l) f h = refuse (lineRefusal s st l) k (O.done (advance st l)) f h
@@ -119,7 +120,11 @@ module _ (s : Sizes) (lim : Limits s) {t : List ℕ} {plan : Plan} {full : Bool}
     pub onward : readFrom s start 1 (lines t) ≡ readFrom s (advance (q .state) form) (suc k) (lines (drop (at + length (front (drop at t)) + 1) t))
 
   module _ (read : LineRead) (here : at < length t) (e : read ≡ lineRead s (firstForm (drop at t))) where
-    outcome : readFrom s start 1 (lines t) ≡ after (lineOutcome s (q .state) k (firstForm (drop at t))) (λ st. readFrom s st (suc k) (lines (drop (length (front (drop at t)) + 1) (drop at t))))
+    -- what follows it
+    abbrev follows : State → Outcome Program
+    follows st = readFrom s st (suc k) (lines (drop (length (front (drop at t)) + 1) (drop at t)))
+
+    outcome : readFrom s start 1 (lines t) ≡ after (lineOutcome s (q .state) k (firstForm (drop at t))) follows
     outcome = q .rest ∙ first-line s (q .state) k (drop at t) (simp length-drop (omega arith))
 
     numbered : refusalOf x full read ≡ number s (q .state) (firstForm (drop at t))
@@ -127,27 +132,30 @@ module _ (s : Sizes) (lim : Limits s) {t : List ℕ} {plan : Plan} {full : Bool}
 
     -- a line that is refused
     pub stopped : (refusalOf x full read ≡ 0 → ⊥) → readFrom s start 1 (lines t) ≡ refused (refusalOf x full read) k
-    stopped h = outcome ∙ refused-line s (q .state) k (firstForm (drop at t)) _ (λ z. h (numbered ∙ z)) ∙ ap (λ (n : ℕ). refused n k) (sym numbered)
+    stopped h = outcome ∙ refused-line s (q .state) k (firstForm (drop at t)) follows (λ z. h (numbered ∙ z)) ∙ ap (λ (n : ℕ). refused n k) (sym numbered)
 
     pub passes : refusalOf x full read ≡ 0 → Passes read
     passes h =
-        let p = passed-line s (q .state) k (firstForm (drop at t)) (λ st. readFrom s st (suc k) (lines (drop (length (front (drop at t)) + 1) (drop at t)))) (sym numbered ∙ h) in
+        let p = passed-line s (q .state) k (firstForm (drop at t)) follows (sym numbered ∙ h) in
         let behind : at + (length (front (drop at t)) + 1) ≡ at + length (front (drop at t)) + 1 = omega arith in
         record {
           form = p .0;
           clean = p .2;
           is-read = e ∙ ap (lineRead s) (p .1);
           inside = omega (arith, first-some (drop at t) (p .0) (p .1), length-drop at t);
-          onward = outcome ∙ p .3 ∙ ap (λ (u : List ℕ). readFrom s (advance (q .state) (p .0)) (suc k) (lines u)) (drop-drop (length (front (drop at t)) + 1) at t ∙ ap (λ (i : ℕ). drop i t) behind);
+          onward = outcome ∙ p .3
+              ∙ ap (λ (u : List ℕ). readFrom s (advance (q .state) (p .0)) (suc k) (lines u)) (drop-drop (length (front (drop at t)) + 1) at t ∙ ap (λ (i : ℕ). drop i t) behind);
         }
 
-  rule-stored : (n : ℕ) {l : Line} {y : Slot} (c : W.Condition) (a : W.Action) → l ≡ rule c a → y ≡ record { test = R.testOf c; rule = ruleOfAction a } → (ch : Checks) → Clean s (q .state) l
+  rule-stored : (n : ℕ) {l : Line} {y : Slot} (c : W.Condition) (a : W.Action) → l ≡ rule c a → y ≡ record { test = R.testOf c; rule = ruleOfAction a }
+      → (ch : Checks) → Clean s (q .state) l
       → {o : Plan} {g : Bool} → Extended (stepPlan (openRules (q .state) ++ (ruleOf y ∷ []))) (record { plan = o; full = g })
       → Behind (set slots (32 * x .steps + x .tally .rules) y) frames o g (advanceOf x n (L.Rule y ch)) (advance (q .state) l)
   rule-stored n c a i j ch k h = rw (i, j) (at-rule s lim (q .reached) (q .stands) (q .behind) n c a (rw i at k) ch (rw j at h))
 
-  module _ {read : LineRead} (p : Passes read) (n : ℕ) where
-    -- the arrays and the plan behind each sort of line
+-- the arrays and the plan behind each sort of line
+module _ {s : Sizes} {lim : Limits s} {t : List ℕ} {plan : Plan} {full : Bool} {slots : List Slot} {frames : List Frame} {x : S.State} {at k : ℕ} {q : Read s t plan full slots frames x at k} where
+  module _ {read : LineRead} (p : Passes s lim q read) (n : ℕ) where
     pub arm-step : read ≡ L.Step → Behind slots frames plan full (advanceOf x n read) (advance (q .state) (p .form))
     arm-step e =
         let is : p .form ≡ step = step-line s (p .form) (sym (p .is-read) ∙ e) in
@@ -207,14 +215,14 @@ module _ (s : Sizes) (lim : Limits s) {t : List ℕ} {plan : Plan} {full : Bool}
 
       pub arm-rule : {o : Plan} {g : Bool} → Extended (stepPlan (openRules (q .state) ++ (ruleOf y ∷ []))) (record { plan = o; full = g })
           → Behind (set slots (32 * x .steps + x .tally .rules) y) frames o g (advanceOf x n read) (advance (q .state) (p .form))
-      arm-rule h = rw e (rule-stored n (rule-form .0) (rule-form .1) (rule-form .2) (rule-form .3) ch (p .clean) h)
+      arm-rule h = rw e (rule-stored s lim q n (rule-form .0) (rule-form .1) (rule-form .2) (rule-form .3) ch (p .clean) h)
 
     -- the count of the open step's plan, which its `end` asks for
     pub end-lines : p .form ≡ end → plan .count ≡ length (stepPlan (openRules (q .state)))
     end-lines e = end-count s lim (q .reached) (q .stands) (q .behind) n (subst (Clean s (q .state)) e (p .clean))
 
   -- one line further
-  pub again : {read : LineRead} (p : Passes read) {slots' : List Slot} {frames' : List Frame} {plan' : Plan} {full' : Bool}
+  pub again : {read : LineRead} (p : Passes s lim q read) {slots' : List Slot} {frames' : List Frame} {plan' : Plan} {full' : Bool}
       → Behind slots' frames' plan' full' (advanceOf x (plan .count) read) (advance (q .state) (p .form))
       → Read s t plan' full' slots' frames' (advanceOf x (plan .count) read) (at + length (front (drop at t)) + 1) (k + 1)
   again {read} p b = record {
@@ -232,7 +240,7 @@ pub answer-refused : {o : Outcome Program} (n k : ℕ) (p : C.Program) → (n �
 unfolding outcomeOf
 answer-refused n k p h e = record { outcome-is = refuse-none n k (O.done (programOf p)) h ∙ sym e; complete = λ z. absurd (h z) }
 
-module _ (s : Sizes) {t : List ℕ} {plan : Plan} {full : Bool} {slots : List Slot} {frames : List Frame} {x : S.State} {at k : ℕ} (q : Read s t plan full slots frames x at k) where
+module _ {s : Sizes} {t : List ℕ} {plan : Plan} {full : Bool} {slots : List Slot} {frames : List Frame} {x : S.State} {at k : ℕ} (q : Read s t plan full slots frames x at k) where
   pub small : (x .steps ≤ 32) × (x .tally .rules ≤ 32)
   small = (omega (arith, q .reached .few, q .stands .steps-are), omega (arith, q .reached .rules .few, q .stands .tally-is .rules-are))
 
@@ -243,7 +251,8 @@ module _ (s : Sizes) {t : List ℕ} {plan : Plan} {full : Bool} {slots : List Sl
   unfolding programOf program
   program-is = q .behind .kept .steps-are
 
-  pub answer-read : length t ≤ at → Answers (readFrom s start 1 (lines t)) (record { refusal = lastRefusal x; line = k; program = record { slots = slots; frames = frames; steps = x .steps; lines = x .lines } })
+  pub answer-read : length t ≤ at
+      → Answers (readFrom s start 1 (lines t)) (record { refusal = lastRefusal x; line = k; program = record { slots = slots; frames = frames; steps = x .steps; lines = x .lines } })
   unfolding outcomeOf program lines readFrom closed unless
   answer-read h =
       let ended : readFrom s start 1 (lines t) ≡ closed (q .state) k = q .rest ∙ ap (λ (u : List ℕ). readFrom s (q .state) k (lines u)) (drop-of-length-le t h) in

@@ -4,15 +4,15 @@ use mathlib.Core.Path.{_≡_, refl, sym, _∙_}
 use mathlib.Core.Bool.{Bool, true, false, cond, not, _&&_}
 use mathlib.Core.List.{List, [], _∷_, _++_}
 use native.Mathlib.Omega.{arith}
-use borrow.Author.Tests.{ltb-true, ltb-false, leb-true, lt-ltb, le-ltb, not-true}
-use lib.Dec.{leb, ltb}
+use borrow.Author.Tests.{leb-true, lt-ltb, le-ltb, not-true}
+use lib.Dec.{ltb}
 use lib.ListN.{length}
 use Rattle.register.specs.Shape.{Limits}
 use Rattle.register.specs.declared.Sizes.{Sizes}
-use Rattle.integers.proofs.Bools.{and-both, and-true}
-use Rattle.chain.specs.Word.{isReference, hasField, readable}
-use Rattle.chain.specs.Text.{every, names, fieldOf, isReferenceLetter, innerReferences, wordOf}
-use Rattle.chain.proofs.Passing.{letters-pass, refused-none, letters-readable}
+use Rattle.integers.proofs.Bools.{and-both}
+use Rattle.chain.specs.Word.{isReference, hasField, Passes}
+use Rattle.chain.specs.Text.{every, names, fieldOf, isReferenceLetter, wordOf}
+use Rattle.chain.proofs.Passing.{letters-pass, refused-none, reference-field, measure-field, named-field}
 use Rattle.syntax.specs.Written as W
 use Rattle.syntax.specs.Written.{chain, number, Line, rule}
 use Rattle.syntax.specs.Parts as K
@@ -20,7 +20,7 @@ use Rattle.syntax.specs.Parts.{conditionTerms, actionTerms, terms, everyTerm, t
 use Rattle.rules.specs.Program.{Term, Action}
 use Rattle.rules.specs.Check.{State, inPlace, hasRoom, sortsAgree, planFits, lineRefusal}
 use Rattle.rules.specs.Text.{termOf, testOf, actionOf}
-use Rattle.rules.specs.Passed.{Each, isReferenceWord, isReferenceTerm, WordPasses, TermPasses, TestPasses, Alike, Measured, Target, ActionPasses, RulePasses}
+use Rattle.rules.specs.Passed.{Each, isReferenceWord, isReferenceTerm, TermPasses, TestPasses, Alike, Measured, Target, ActionPasses, RulePasses}
 
 -- the tests that a line with no refusal has passed
 pub record Clean (s : Sizes) (st : State) (l : Line) : Type 0 where
@@ -66,16 +66,15 @@ each-back P (a ∷ l) m h = each-back P l m (h .1)
 -- the field of a letter that names one
 module _ (s : Sizes) (lim : Limits s) (l : ℕ) (h : names s l ≡ true) where
   letter-kind : isReference (fieldOf l) ≡ isReferenceLetter l
-  unfolding isReference fieldOf isReferenceLetter names
-  letter-kind = go (ltb l 77) refl h
+  unfolding isReference
+  letter-kind = go (isReferenceLetter l) refl
     where
-      go : (x : Bool) → ltb l 77 ≡ x → cond x (leb 65 l && ltb l (65 + s .references)) (ltb l (77 + s .measures)) ≡ true → ltb (cond x (l - 65) (l - 69)) 8 ≡ x
-      go true e n = lt-ltb (l - 65) 8 (omega (arith, ltb-true l (65 + s .references) (and-both (leb 65 l) (ltb l (65 + s .references)) n .1), lim .references≤, leb-true 65 l (and-both (leb 65 l) (ltb l (65 + s .references)) n .0)))
-      go false e n = le-ltb (l - 69) 8 (omega (arith, ltb-false l 77 e))
+      go : (x : Bool) → isReferenceLetter l ≡ x → ltb (fieldOf l) 8 ≡ x
+      go true e = lt-ltb (fieldOf l) 8 (omega (arith, reference-field s l h e, lim .references≤))
+      go false e = le-ltb (fieldOf l) 8 (measure-field s l h e .0)
 
   pub letter-field : hasField s (fieldOf l) ≡ true
-  unfolding every readable wordOf innerReferences
-  letter-field = letters-readable s (l ∷ []) (sym (and-true true h)) refl
+  letter-field = named-field s l h
 
 last-kind : (w : List ℕ) (f : ℕ) → isReferenceWord (w ++ (f ∷ [])) ≡ isReference f
 unfolding isReferenceWord
@@ -90,7 +89,8 @@ pub record Fine (s : Sizes) (x : W.Term) : Type 0 where
   pub is-short : termShort x ≡ true
   pub in-range : termInRange x ≡ true
 
-pub terms-fine : (s : Sizes) (xs : List W.Term) → everyTerm (termNamed s) xs ≡ true → everyTerm termKinded xs ≡ true → everyTerm termShort xs ≡ true → everyTerm termInRange xs ≡ true → Each (Fine s) xs
+pub terms-fine : (s : Sizes) (xs : List W.Term) → everyTerm (termNamed s) xs ≡ true → everyTerm termKinded xs ≡ true
+    → everyTerm termShort xs ≡ true → everyTerm termInRange xs ≡ true → Each (Fine s) xs
 unfolding everyTerm
 terms-fine s [] a b c d = tt
 terms-fine s (x ∷ xs) a b c d =
@@ -110,11 +110,9 @@ rule-fine s st c a k =
     (k .is-short)
     (k .in-range)
 
-word-passes : (s : Sizes) (ls : List ℕ) → Fine s (chain ls) → WordPasses s (wordOf ls)
+word-passes : (s : Sizes) (ls : List ℕ) → Fine s (chain ls) → Passes s (wordOf ls)
 unfolding termNamed termKinded termShort
-word-passes s ls w =
-    let p = letters-pass s ls (refused-none s ls (w .is-named) (w .is-kinded) (le-ltb 16 (length ls) (leb-true (length ls) 16 (w .is-short)))) in
-    record { follows = p .follows; short = p .short }
+word-passes s ls w = letters-pass s ls (refused-none s ls (w .is-named) (w .is-kinded) (le-ltb 16 (length ls) (leb-true (length ls) 16 (w .is-short))))
 
 term-passes : (s : Sizes) (x : W.Term) → Fine s x → TermPasses s (termOf x)
 unfolding termOf termInRange

@@ -1,7 +1,7 @@
 -- The lines of a text, from the front: a line is what stands before the first byte 10.
 use Prim.Native.Nat.{ℕ, _<_}
 use mathlib.Core.Path.{_≡_, refl, ap, _∙_}
-use mathlib.Core.Bool.{Bool, true, not}
+use mathlib.Core.Bool.{true}
 use mathlib.Core.List.{List, [], _∷_, _++_}
 use borrow.Author.Tests.{lt-ltb, not-true}
 use lib.Dec.{eqb}
@@ -10,11 +10,7 @@ use Rattle.register.specs.Outcome.{refused}
 use Rattle.register.specs.declared.Sizes.{Sizes}
 use Rattle.chain.specs.Text.{every}
 use Rattle.integers.proofs.Bools.{and-both}
-use Rattle.rules.specs.Text.{ended, cut, onto, lines, textProgram}
-
--- no byte of a line is 10
-unfoldable pub isWithin : ℕ → Bool
-isWithin b = not (eqb b 10)
+use Rattle.rules.specs.Text.{isWithin, ended, cut, onto, lines, textProgram}
 
 lines-more : (b : ℕ) (t : List ℕ) → isWithin b ≡ true → lines (b ∷ t) ≡ onto b (lines t)
 unfolding lines isWithin

@@ -15,9 +15,9 @@ use Rattle.syntax.specs.Written.{Term, chain, number, Comparison, less, equal, 
 use Rattle.syntax.specs.Term.{printedTerm, ProperTerm}
 use Rattle.syntax.specs.Line.{comparisonText, printedAction, printedLine, ProperAction, Proper}
 use Rattle.syntax.proofs.Lines.{printed-line}
-use Rattle.rules.specs.Text.{lines, pieceForm}
+use Rattle.rules.specs.Text.{isWithin, lines, pieceForm}
 use Rattle.rules.specs.Passed.{Each}
-use Rattle.rules.proofs.Pieces.{isWithin, lines-ended}
+use Rattle.rules.proofs.Pieces.{lines-ended}
 
 -- the text of some lines
 unfoldable pub printedText : List Line → List ℕ

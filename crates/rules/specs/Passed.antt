@@ -8,7 +8,7 @@ use lib.Dec.{eqb}
 use lib.ListN.{length}
 use Rattle.integers.specs.Range.{inRange}
 use Rattle.register.specs.declared.Sizes.{Sizes}
-use Rattle.chain.specs.Word.{isReference, hasField, readable}
+use Rattle.chain.specs.Word.{isReference, hasField, Passes}
 use Rattle.rules.specs.declared.around.Setting.{Setting}
 use Rattle.rules.specs.declared.around.Setting.the-variants.{Single, Looped}
 use Rattle.rules.specs.Program.{Term, reading, constant, Test, always, when, Action, set, sum, difference, least, total, Rule, Step, Program, stepPlan}
@@ -29,13 +29,8 @@ unfoldable pub isReferenceTerm : Term → Bool
 isReferenceTerm (reading w) = isReferenceWord w
 isReferenceTerm (constant z) = false
 
--- a word that can be followed, of at most 16 hops
-pub record WordPasses (s : Sizes) (w : List ℕ) : Type 0 where
-  pub follows : readable s w ≡ true
-  pub short : length w ≤ 16
-
 abbrev pub TermPasses : Sizes → Term → Type 0
-TermPasses s (reading w) = WordPasses s w
+TermPasses s (reading w) = Passes s w
 TermPasses s (constant z) = inRange z ≡ true
 
 abbrev pub TestPasses : Sizes → Test → Type 0
@@ -57,7 +52,7 @@ pub record Measured (s : Sizes) (f : ℕ) (x : Term) : Type 0 where
 
 -- C: a word of reference kind
 pub record Target (s : Sizes) (c : List ℕ) : Type 0 where
-  pub passes : WordPasses s c
+  pub passes : Passes s c
   pub reference : isReferenceWord c ≡ true
 
 abbrev pub ActionPasses : Sizes → Action → Type 0

@@ -26,6 +26,10 @@ use Rattle.rules.specs.Check.{State, isOutside, isOpen, openRules, lineR
 pub data Piece : Type 0 where
   ended cut : List ℕ → Piece
 
+-- no byte of a line is 10
+unfoldable pub isWithin : ℕ → Bool
+isWithin b = not (eqb b 10)
+
 -- one more byte in front of the first line
 unfoldable pub onto : ℕ → List Piece → List Piece
 onto b [] = cut (b ∷ []) ∷ []

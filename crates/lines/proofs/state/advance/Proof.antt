@@ -75,13 +75,15 @@ returns-4 : tie.Need-returns-4
 unfolding advanceOf
 returns-4 c =
     let a = c .before .before .before .before .before .args in
-    c .behind3 .ensures ∙ ap (standing (a .state) (Unused (c .before .before .before .read .given .0 .0)) false) (c .before .no-rules3 .ensures) ∙ sym (ap (advanceOf (a .state) (a .n)) (c .before .before .before .read .given .1))
+    c .behind3 .ensures ∙ ap (standing (a .state) (Unused (c .before .before .before .read .given .0 .0)) false) (c .before .no-rules3 .ensures)
+    ∙ sym (ap (advanceOf (a .state) (a .n)) (c .before .before .before .read .given .1))
 
 returns-5 : tie.Need-returns-5
 unfolding advanceOf
 returns-5 c =
     let a = c .before .before .before .before .before .before .args in
-    c .behind4 .ensures ∙ ap (standing (a .state) (a .state .around) true) (c .before .with-rule .ensures) ∙ sym (ap (advanceOf (a .state) (a .n)) (c .before .before .before .before .read2 .given .1))
+    c .behind4 .ensures ∙ ap (standing (a .state) (a .state .around) true) (c .before .with-rule .ensures)
+    ∙ sym (ap (advanceOf (a .state) (a .n)) (c .before .before .before .before .read2 .given .1))
 
 returns-6 : tie.Need-returns-6
 unfolding advanceOf

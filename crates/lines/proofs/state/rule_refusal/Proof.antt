@@ -21,18 +21,38 @@ returns-2 c = rw (c .before .before .if1 .left, ← c .before .checks-refusal .e
 
 returns-3 : tie.Need-returns-3
 unfolding ruleRefusal
-returns-3 c = rw (c .before .before .before .before .before .if1 .left, ← c .before .before .before .before .checks-refusal .ensures, or-none _ _ (c .before .before .before .if2 .left), le-ltb _ _ (c .if3 .taken))
+returns-3 c =
+    let d = c .before .before .before in
+    rw (d .before .before .if1 .left, ← d .before .checks-refusal .ensures, or-none _ _ (d .if2 .left), le-ltb _ _ (c .if3 .taken))
 
 is-other-sort-requires : tie.Need-is-other-sort-requires
 is-other-sort-requires c κs = search needs
 
 returns-4 : tie.Need-returns-4
 unfolding ruleRefusal
-returns-4 c = rw (c .before .before .before .before .before .before .before .if1 .left, ← c .before .before .before .before .before .before .checks-refusal .ensures, or-none _ _ (c .before .before .before .before .before .if2 .left), lt-ltb _ _ (c .before .before .if3 .left), ← c .before .is-other-sort .ensures, c .if4 .taken)
+returns-4 c =
+    let d = c .before .before .before .before .before in
+    rw (
+      d .before .before .if1 .left,
+      ← d .before .checks-refusal .ensures,
+      or-none _ _ (d .if2 .left),
+      lt-ltb _ _ (c .before .before .if3 .left),
+      ← c .before .is-other-sort .ensures,
+      c .if4 .taken,
+    )
 
 returns-5 : tie.Need-returns-5
 unfolding ruleRefusal
-returns-5 c = rw (c .before .before .before .before .before .before .before .if1 .left, ← c .before .before .before .before .before .before .checks-refusal .ensures, or-none _ _ (c .before .before .before .before .before .if2 .left), lt-ltb _ _ (c .before .before .if3 .left), ← c .before .is-other-sort .ensures, c .if4 .left)
+returns-5 c =
+    let d = c .before .before .before .before .before in
+    rw (
+      d .before .before .if1 .left,
+      ← d .before .checks-refusal .ensures,
+      or-none _ _ (d .if2 .left),
+      lt-ltb _ _ (c .before .before .if3 .left),
+      ← c .before .is-other-sort .ensures,
+      c .if4 .left,
+    )
 
 pub rule-refusal-spec : {M : Type 1} → statement M
 rule-refusal-spec =

@@ -7,12 +7,13 @@ use native.Mathlib.Omega.{arith}
 use lib.ListN.{length, drop}
 use denote.Ref.{now}
 use Rattle.lines.specs.Front.{goesOn}
-use Rattle.lines.proofs.Fronts.{Onward, onward-more, onward-end, goes-inside}
+use Rattle.syntax.proofs.Spans.{Onward, onward-more, onward-end, starts-inside}
+use Rattle.rules.specs.Text.{isWithin}
 use Rattle.lines.proofs.text.line_end.Statement.{statement}
 use Rattle.lines.proofs.text.line_end.Tie as tie
 
 abbrev Inv-loop : tie.InvT-loop
-Inv-loop text at i₀ i = Onward text at i
+Inv-loop text at i₀ i = Onward isWithin text at i
 
 abbrev μ-loop : tie.MeasureT-loop
 μ-loop text at i₀ i = length text - i
@@ -22,7 +23,7 @@ on : (c : tie.Then1 Inv-loop μ-loop) → goesOn (drop (c .before .before .loop 
 on c = sym (c .before .goes-on .ensures) ∙ c .if1 .taken
 
 inside : (c : tie.Then1 Inv-loop μ-loop) → c .before .before .loop .i < length (now (c .before .before .before .before .args .text))
-inside c = goes-inside (now (c .before .before .before .before .args .text)) (c .before .before .loop .i) (on c)
+inside c = starts-inside isWithin (now (c .before .before .before .before .args .text)) (c .before .before .loop .i) (on c)
 
 loop-holds : tie.Need-loop-holds Inv-loop μ-loop
 loop-holds c = record { inside = c .before .pre; place = refl }
@@ -37,10 +38,10 @@ loop-less : tie.Need-loop-less Inv-loop μ-loop
 loop-less c = omega (arith, inside c)
 
 loop-again : tie.Need-loop-again Inv-loop μ-loop
-loop-again c = onward-more (c .before .before .loop .inv) (on c)
+loop-again c = onward-more isWithin (c .before .before .loop .inv) (on c)
 
 returns : tie.Need-returns Inv-loop μ-loop
-returns c = onward-end (c .before .before .loop .inv) (sym (c .before .goes-on .ensures) ∙ c .if1 .left)
+returns c = onward-end isWithin (c .before .before .loop .inv) (sym (c .before .goes-on .ensures) ∙ c .if1 .left)
 
 pub line-end-spec : {M : Type 1} → statement M
 line-end-spec =

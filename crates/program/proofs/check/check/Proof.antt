@@ -39,10 +39,14 @@ refused-requires : tie.Need-refused-requires
 refused-requires c κs = rw (c .number-of .ensures) (number-positive _)
 
 returns : tie.Need-returns
-returns c = let a = c .before .before .before .before .before .before .before .args in rw (check-loaded (now (a .file)) (now (a .text)) (loaded (c .before .before))) (c .read-text .ensures)
+returns c =
+    let a = c .before .before .before .before .before .before .before .args in
+    rw (check-loaded (now (a .file)) (now (a .text)) (loaded (c .before .before))) (c .read-text .ensures)
 
 returns-2 : tie.Need-returns-2
-returns-2 c = let a = c .before .before .before .before .before .before .before .before .args in rw (check-refused (now (a .file)) (now (a .text)) (turned-back (c .before .before .before)), ← c .before .number-of .ensures) (c .refused .ensures)
+returns-2 c =
+    let a = c .before .before .before .before .before .before .before .before .args in
+    rw (check-refused (now (a .file)) (now (a .text)) (turned-back (c .before .before .before)), ← c .before .number-of .ensures) (c .refused .ensures)
 
 pub check-spec : {M : Type 1} → statement M
 check-spec =

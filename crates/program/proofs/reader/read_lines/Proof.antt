@@ -1,4 +1,5 @@
--- `program::reader::read_lines` meets its contract.
+-- `program::reader::read_lines` meets its contract. The loop's invariant: some state of the definition has been reached, and the arrays,
+-- the open step's plan and what is kept beside them stand for it.
 -- Assumes nothing.
 use Prim.Native.Nat.{ℕ, _-_, _≤_, _<_}
 use mathlib.Core.Path.{_≡_, refl, sym, ap, _∙_}
@@ -27,14 +28,17 @@ abbrev μ-loop : tie.MeasureT-loop
     length text - at
 
 -- a line that has passed: the loop's state, what it begins with, and its arms' laws
-abbrev sizes : (c : tie.Else1 Inv-loop μ-loop) → Sizes
-sizes c = c .before .before .before .before .before .before .before .before .before .before .before .args .sizes
-
-limits : (c : tie.Else1 Inv-loop μ-loop) → Limits (sizes c)
-limits c = c .before .before .before .before .before .before .before .before .before .before .before .pre .0
-
 abbrev so-far : (c : tie.Else1 Inv-loop μ-loop) → tie.At-loop Inv-loop μ-loop
 so-far c = c .before .before .before .before .before
+
+abbrev entry : (c : tie.Else1 Inv-loop μ-loop) → tie.Start Inv-loop μ-loop
+entry c = so-far c .before .before .before .before .before .before
+
+abbrev sizes : (c : tie.Else1 Inv-loop μ-loop) → Sizes
+sizes c = entry c .args .sizes
+
+limits : (c : tie.Else1 Inv-loop μ-loop) → Limits (sizes c)
+limits c = entry c .pre .0
 
 passed : (c : tie.Else1 Inv-loop μ-loop) → Passes (sizes c) (limits c) (so-far c .loop .inv .0) (c .before .before .read-first .result)
 passed c =
@@ -46,39 +50,45 @@ place-below : (c : tie.After-place Inv-loop μ-loop) → c .place .result < 1024
 place-below c =
     let d = c .before .before .before .before in
     let e = c .before .before .read .given .1 in
-    omega (arith, c .place .ensures, arm-steps (sizes d) (limits d) (so-far d .loop .inv .0) (passed d) 0 e, arm-rules (sizes d) (limits d) (so-far d .loop .inv .0) (passed d) 0 e)
+    omega (arith, c .place .ensures, arm-steps (passed d) 0 e, arm-rules (passed d) 0 e)
 
 -- the number of steps before an `end`, and before a `done`
 end-below : (c : tie.After-enum-told Inv-loop μ-loop) → so-far (c .before .before) .loop .state .steps < 32
-end-below c = let d = c .before .before in arm-end-steps (sizes d) (limits d) (so-far d .loop .inv .0) (passed d) 0 (c .enum-told .given .1)
+end-below c = let d = c .before .before in arm-end-steps (passed d) 0 (c .enum-told .given .1)
 
 done-above : (c : tie.After-enum-told2 Inv-loop μ-loop) → 1 ≤ so-far (c .before .before) .loop .state .steps
-done-above c = let d = c .before .before in arm-done-steps (sizes d) (limits d) (so-far d .loop .inv .0) (passed d) 0 (c .enum-told2 .given .1)
+done-above c = let d = c .before .before in arm-done-steps (passed d) 0 (c .enum-told2 .given .1)
 
 done-below : (c : tie.After-enum-told2 Inv-loop μ-loop) → so-far (c .before .before) .loop .state .steps ≤ 32
-done-below c = let d = c .before .before in small (sizes d) (so-far d .loop .inv .0) .0
+done-below c = let d = c .before .before in small (so-far d .loop .inv .0) .0
 
 -- the arrays and the plan where the arms meet
 joined : (c : tie.At-match-came Inv-loop μ-loop)
-    → Behind (c .match .slots) (c .match .frames) (c .match .plan) (c .match .full) (advanceOf (so-far (c .before) .loop .state) (so-far (c .before) .loop .plan .count) (c .before .before .before .read-first .result))
-    (advance (so-far (c .before) .loop .inv .0 .state) (passed (c .before) .form))
+    → let d = c .before in
+    Behind (c .match .slots) (c .match .frames) (c .match .plan) (c .match .full)
+    (advanceOf (so-far d .loop .state) (so-far d .loop .plan .count) (d .before .before .read-first .result)) (advance (so-far d .loop .inv .0 .state) (passed d .form))
 joined c =
     let d = c .before in
     let q = so-far d .loop .inv .0 in
     let n = so-far d .loop .plan .count in
-    ⊎-elim (λ w. rw (w .11, w .12, w .13, w .14, w .3 .ensures) (arm-rule (sizes d) (limits d) q (passed d) n (w .1 .given .1) (open-more (openRules (q .state)) (q .behind .planned) (w .1 .given .0 .0) (rw (w .4 .ensures) at (w .9 .ensures)))))
-    (⊎-elim (λ w. rw (w .9, w .10, w .11, w .12, w .3 .ensures) (arm-rule (sizes d) (limits d) q (passed d) n (w .1 .given .1) (open-same (openRules (q .state)) (q .behind .planned) (w .1 .given .0 .0) (rw (w .4 .ensures) at (sym (w .7 .ensures) ∙ w .8 .left)))))
-    (⊎-elim (λ w. rw (w .4, w .5, w .6, w .7, w .2 .ensures) (arm-end (sizes d) (limits d) q (passed d) n (w .1 .given .1) (w .3 .ensures)))
-    (⊎-elim (λ w. rw (w .4, w .5, w .6, w .7, w .3 .ensures) (arm-done (sizes d) (limits d) q (passed d) n (w .1 .given .1) _))
-    (⊎-elim (λ w. rw (w .2, w .3, w .4, w .5) (arm-step (sizes d) (limits d) q (passed d) n (w .1 .given .1)))
-    (⊎-elim (λ w. rw (w .2, w .3, w .4, w .5) (arm-loop (sizes d) (limits d) q (passed d) n (w .1 .given .1)))
-    (λ w. arm-none (sizes d) (limits d) q (passed d) n (w .1 .given .1)))))))
+    let rs = openRules (q .state) in
+    ⊎-elim (λ w. rw (w .11, w .12, w .13, w .14, w .3 .ensures) (arm-rule (passed d) n (w .1 .given .1)
+    (open-more rs (q .behind .planned) (w .1 .given .0 .0) (rw (w .4 .ensures) at (w .9 .ensures)))))
+    (⊎-elim (λ w. rw (w .9, w .10, w .11, w .12, w .3 .ensures) (arm-rule (passed d) n (w .1 .given .1)
+    (open-same rs (q .behind .planned) (w .1 .given .0 .0) (rw (w .4 .ensures) at (sym (w .7 .ensures) ∙ w .8 .left)))))
+    (⊎-elim (λ w. rw (w .4, w .5, w .6, w .7, w .2 .ensures) (arm-end (passed d) n (w .1 .given .1) (w .3 .ensures)))
+    (⊎-elim (λ w. rw (w .4, w .5, w .6, w .7, w .3 .ensures) (arm-done (passed d) n (w .1 .given .1) _))
+    (⊎-elim (λ w. rw (w .2, w .3, w .4, w .5) (arm-step (passed d) n (w .1 .given .1)))
+    (⊎-elim (λ w. rw (w .2, w .3, w .4, w .5) (arm-loop (passed d) n (w .1 .given .1)))
+    (λ w. arm-none (passed d) n (w .1 .given .1)))))))
     (c .match .came)
 
 -- and the line is still what was read
 read-same : (c : tie.At-match-came Inv-loop μ-loop) → c .match .read ≡ c .before .before .before .read-first .result
 read-same c =
-    ⊎-elim (λ w. w .15 ∙ sym (w .1 .given .1)) (⊎-elim (λ w. w .13 ∙ sym (w .1 .given .1)) (⊎-elim (λ w. w .8) (⊎-elim (λ w. w .8) (⊎-elim (λ w. w .6) (⊎-elim (λ w. w .6) (λ w. w .6)))))) (c .match .came)
+    ⊎-elim (λ w. w .15 ∙ sym (w .1 .given .1)) (⊎-elim (λ w. w .13 ∙ sym (w .1 .given .1))
+    (⊎-elim (λ w. w .8) (⊎-elim (λ w. w .8) (⊎-elim (λ w. w .6) (⊎-elim (λ w. w .6) (λ w. w .6))))))
+    (c .match .came)
 
 empty-slot-requires : tie.Need-empty-slot-requires Inv-loop μ-loop
 empty-slot-requires c κs = tt
@@ -108,7 +118,7 @@ enum-known-read : tie.Need-enum-known-read Inv-loop μ-loop
 enum-known-read c = search needs
 
 place-requires : tie.Need-place-requires Inv-loop μ-loop
-place-requires c κs = small (c .before .before .before .before .before .before .before .before .before .before .before .before .before .before .args .sizes) (c .before .before .before .before .before .before .before .before .loop .inv .0)
+place-requires c κs = small (c .before .before .before .before .before .before .before .before .loop .inv .0)
 
 mul-slots : tie.Need-mul-slots Inv-loop μ-loop
 mul-slots c = record { fits = omega (arith, place-below c) }
@@ -121,15 +131,17 @@ readings-of-requires c κs = tt
 
 add-lines-requires : tie.Need-add-lines-requires Inv-loop μ-loop
 add-lines-requires c κs =
-    let d = c .before .before .before .before .before .before .before in
+    let r = c .before .before in
+    let d = r .before .before .before .before .before in
     let q = so-far d .loop .inv .0 in
-    (open-keyed (openRules (q .state)) (q .behind .planned), rw (c .before .before .readings-of .ensures) (arm-short (sizes d) (limits d) q (passed d) 0 (c .before .before .before .before .before .read .given .1)))
+    (open-keyed (openRules (q .state)) (q .behind .planned), rw (r .readings-of .ensures) (arm-short (passed d) 0 (r .before .before .before .read .given .1)))
 
 with-readings-requires : tie.Need-with-readings-requires Inv-loop μ-loop
 with-readings-requires c κs =
-    let d = c .before .before .before .before .before .before .before .before .before in
+    let r = c .before .before .before .before in
+    let d = r .before .before .before .before .before in
     let q = so-far d .loop .inv .0 in
-    (open-sound (openRules (q .state)) (q .behind .planned), rw (c .before .before .before .before .readings-of .ensures) (arm-short (sizes d) (limits d) q (passed d) 0 (c .before .before .before .before .before .before .before .read .given .1)))
+    (open-sound (openRules (q .state)) (q .behind .planned), rw (r .readings-of .ensures) (arm-short (passed d) 0 (r .before .before .before .read .given .1)))
 
 enum-told : tie.Need-enum-told Inv-loop μ-loop
 enum-told c = search needs
@@ -180,13 +192,13 @@ enum-told-5 : tie.Need-enum-told-5 Inv-loop μ-loop
 enum-told-5 c = search needs
 
 advance-requires : tie.Need-advance-requires Inv-loop μ-loop
-advance-requires c κs = let d = c .before in small (sizes d) (so-far d .loop .inv .0)
+advance-requires c κs = let d = c .before in small (so-far d .loop .inv .0)
 
 add-at : tie.Need-add-at Inv-loop μ-loop
-add-at c = record { fits = omega (arith, passed (c .before .before) .inside, c .before .before .before .before .before .line-end .ensures, c .before .before .before .before .before .before .before .before .before .before .before .before .before .pre .1) }
+add-at c = let d = c .before .before in record { fits = omega (arith, passed d .inside, d .before .before .before .line-end .ensures, entry d .pre .1) }
 
 add-line : tie.Need-add-line Inv-loop μ-loop
-add-line c = record { fits = omega (arith, so-far (c .before .before) .loop .inv .0 .few, so-far (c .before .before) .loop .inv .0 .within, c .before .before .before .before .before .before .before .before .before .before .before .before .before .pre .1) }
+add-line c = let d = c .before .before in let q = so-far d .loop .inv .0 in record { fits = omega (arith, q .few, q .within, entry d .pre .1) }
 
 loop-less : tie.Need-loop-less Inv-loop μ-loop
 loop-less c = omega (arith, passed (c .before .before) .inside, c .before .before .before .before .before .line-end .ensures)
@@ -194,7 +206,7 @@ loop-less c = omega (arith, passed (c .before .before) .inside, c .before .befor
 loop-again : tie.Need-loop-again Inv-loop μ-loop
 loop-again c =
     let d = c .before .before in
-    (rw (c .advance .ensures, read-same (c .before), c .before .before .before .before .before .line-end .ensures) (again (sizes d) (limits d) (so-far d .loop .inv .0) (passed d) (joined (c .before))), d .if1 .left)
+    (rw (c .advance .ensures, read-same (c .before), d .before .before .before .line-end .ensures) (again (passed d) (joined (c .before))), d .if1 .left)
 
 refusal-or-last-requires : tie.Need-refusal-or-last-requires Inv-loop μ-loop
 refusal-or-last-requires c κs = tt
@@ -204,8 +216,10 @@ returns c =
     let l = c .before .before in
     let s = l .before .before .before .before .before .before .args .sizes in
     let lim = l .before .before .before .before .before .before .pre .0 in
-    ⊎-elim (λ w. rw (c .refusal-or-last .ensures, w .1, l .loop .inv .1, or-none 0 _ refl) (answer-read s (l .loop .inv .0) (w .0 .left)))
-    (λ w. rw (c .refusal-or-last .ensures, w .5, or-first _ _ (w .4 .taken)) (answer-refused (w .3 .result) _ _ (w .4 .taken) (stopped s lim (l .loop .inv .0) (w .2 .result) (w .0 .taken) (w .2 .ensures) (λ z. w .4 .taken (w .3 .ensures ∙ z)) ∙ ap (λ (n : ℕ). refused n _) (sym (w .3 .ensures)))))
+    ⊎-elim (λ w. rw (c .refusal-or-last .ensures, w .1, l .loop .inv .1, or-none 0 _ refl) (answer-read (l .loop .inv .0) (w .0 .left)))
+    (λ w.
+    let stop = stopped s lim (l .loop .inv .0) (w .2 .result) (w .0 .taken) (w .2 .ensures) (λ z. w .4 .taken (w .3 .ensures ∙ z)) in
+    rw (c .refusal-or-last .ensures, w .5, or-first _ _ (w .4 .taken)) (answer-refused (w .3 .result) _ _ (w .4 .taken) (stop ∙ ap (λ (n : ℕ). refused n _) (sym (w .3 .ensures)))))
     (c .before .loop-test .came)
 
 pub read-lines-spec : {M : Type 1} → statement M
