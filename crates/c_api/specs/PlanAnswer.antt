@@ -8,24 +8,24 @@ use Rattle.rules.specs.Text.{Planned}
 use Rattle.c_api.specs.Answer.{flagNumber}
 use Rattle.c_api.specs.PlanArrays.{PlanArrays}
 
--- the three arrays that are lent
-pub record Lent : Type 0 where
+-- the caller's three arrays, document 01's lent arrays
+pub record Buffers : Type 0 where
   pub kinds : List ℕ
   pub chains : List ℕ
   pub rounds : List ℕ
 
 -- a plan: the number of its lines, 1 where a remote exchange follows, and the lines in the arrays
-pub record PlanDone (p : Planned) (result : ℕ) (answer : List ℕ) (after : Lent) : Type 0 where
+pub record PlanDone (p : Planned) (result : ℕ) (answer : List ℕ) (after : Buffers) : Type 0 where
   pub result-is : result ≡ 0
   pub answer-is : answer ≡ 0 ∷ 0 ∷ 0 ∷ 0 ∷ 0 ∷ 0 ∷ length (p .plan-lines) ∷ flagNumber (p .remote) ∷ []
   pub arrays-are : PlanArrays (p .plan-lines) (after .kinds) (after .chains) (after .rounds)
 
 -- a refusal: its number and line, and the arrays as they were
-pub record PlanRefused (number line result : ℕ) (answer : List ℕ) (before after : Lent) : Type 0 where
+pub record PlanRefused (number line result : ℕ) (answer : List ℕ) (before after : Buffers) : Type 0 where
   pub result-is : result ≡ number
   pub answer-is : answer ≡ line ∷ 0 ∷ 0 ∷ 0 ∷ 0 ∷ 0 ∷ 0 ∷ 0 ∷ []
   pub arrays-stay : after ≡ before
 
-abbrev pub PlanAnswer : Outcome Planned → ℕ → List ℕ → Lent → Lent → Type 0
+abbrev pub PlanAnswer : Outcome Planned → ℕ → List ℕ → Buffers → Buffers → Type 0
 PlanAnswer (done p) result answer before after = PlanDone p result answer after
 PlanAnswer (refused number line) result answer before after = PlanRefused number line result answer before after

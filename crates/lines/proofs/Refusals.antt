@@ -1,7 +1,7 @@
 -- The refusal of a line, as the reader finds it, is the lowest number that applies to it.
 use Prim.Native.Nat.{ℕ, zero, suc, _≤_}
 use mathlib.Core.Path.{_≡_, refl, sym, _∙_}
-use mathlib.Core.Bool.{Bool, true, false, cond, not, _&&_}
+use mathlib.Core.Bool.{Bool, true, false, cond, not, _&&_, _||_}
 use mathlib.Core.List.{List}
 use mathlib.Core.Option.{Option, none, some}
 use native.Mathlib.Omega.{arith}
@@ -20,7 +20,7 @@ use Rattle.syntax.specs.LineRead.{lineRead, lineChecks}
 use Rattle.syntax.specs.declared.term.Checks.{Checks}
 use Rattle.rules.specs.Program.{Rule, stepPlan}
 use Rattle.rules.specs.Check.{State, isOutside, isUsed, isOpen, openRules, inPlace, hasRoom, oneSort, sortsAgree, planFits, lineRefusal}
-use Rattle.lines.specs.State.{otherSort, checksRefusal, stepRefusal, endRefusal, doneRefusal, loopRefusal, ruleRefusal, refusalOf, lastRefusal}
+use Rattle.lines.specs.State.{otherSort, checksRefusal, stepRefusal, endRefusal, misplaced, doneRefusal, loopRefusal, ruleRefusal, refusalOf, lastRefusal}
 use Rattle.lines.specs.declared.tally.Tally.{Tally}
 use Rattle.lines.specs.declared.state.State as S
 use Rattle.lines.proofs.Standing.{Counts, Stands}
@@ -60,9 +60,9 @@ not-leb n = go (decLe n 64)
     go (no h) = rw (lt-ltb 64 n (omega arith), lt-leb n 64 (omega arith))
 
 -- two reasons for 8
-either-8 : (o u : Bool) (n : ℕ) → cond o 8 (cond (not u) 8 n) ≡ cond (not (not o && u)) 8 n
-either-8 true u n = refl
-either-8 false u n = refl
+place-is : (o u : Bool) → o || not u ≡ not (not o && u)
+place-is true u = refl
+place-is false u = refl
 
 and-done : (b : Bool) → b && true ≡ b
 and-done true = refl
@@ -93,20 +93,19 @@ module _ (s : Sizes) {x : S.State} {st : State} (h : Stands x st) (full : Bool) 
       )
 
   pub refusal-is : (o : Option Line) → refusalOf x full (lineRead s o) ≡ number s st o
-  unfolding refusalOf lineRead number lineRefusal stepRefusal endRefusal doneRefusal loopRefusal inPlace hasRoom sortsAgree planFits named fieldNamed kinded kindsAgree short numbersInRange terms everyTerm
+  unfolding refusalOf lineRead number lineRefusal stepRefusal endRefusal misplaced doneRefusal loopRefusal inPlace hasRoom sortsAgree planFits named fieldNamed kinded kindsAgree short numbersInRange terms everyTerm
   refusal-is none = refl
   refusal-is (some step) = rw (h .in-step, h .steps-are, not-not)
   refusal-is (some end) = rw (h .in-step, f, not-leb)
-  refusal-is (some done) = rw (h .in-step, h .around-is) (either-8 (isOpen st) (isUsed (st .around)) 0)
-  refusal-is (some (loop g)) = rw (h .in-step, h .around-is, and-done) (either-8 (isOpen st) (isOutside (st .around)) (cond (not (names s g)) 9 0))
+  refusal-is (some done) = rw (h .in-step, h .around-is, place-is)
+  refusal-is (some (loop g)) = rw (h .in-step, h .around-is, place-is, and-done)
   refusal-is (some (rule c a)) = rule-number c a
 
 -- behind the last line
 pub last-is : {x : S.State} {st : State} → Stands x st → lastRefusal x ≡ cond (not (isOpen st) && isOutside (st .around)) 0 8
-unfolding lastRefusal
-last-is {x} {st} h = rw (h .in-step, h .around-is) (go (isOpen st) (isOutside (st .around)))
+unfolding lastRefusal misplaced
+last-is {x} {st} h = rw (h .in-step, h .around-is, place-is) (go (not (isOpen st) && isOutside (st .around)))
   where
-    go : (o u : Bool) → _≡_ {A = ℕ} (cond o 8 (cond (not u) 8 0)) (cond (not o && u) 0 8)
-    go true u = refl
-    go false true = refl
-    go false false = refl
+    go : (b : Bool) → _≡_ {A = ℕ} (cond (not b) 8 0) (cond b 0 8)
+    go true = refl
+    go false = refl

@@ -27,7 +27,7 @@ use Rattle.rules.specs.Check as C
 use Rattle.rules.specs.Text.{testOf, actionOf, closeLoop, withStep, advance, start}
 use Rattle.rules.proofs.Checked.{Clean, letter-field}
 use Rattle.rules.proofs.Sorts.{or-false, some-append}
-use Rattle.lines.specs.State.{noRules, moreRules, withLeast, withTotal, withRule, startState, standing, advanceOf}
+use Rattle.lines.specs.State.{noRules, moreRules, withRemote, withRule, startState, standing, advanceOf}
 use Rattle.lines.specs.declared.tally.Tally.{Tally}
 use Rattle.lines.specs.declared.state.State.{State}
 
@@ -86,6 +86,14 @@ module _ {x : Tally} {rs : List Rule} (h : Counts x rs) (r : Rule) where
   one-more : x .rules + 1 ≡ length (rs ++ (r ∷ []))
   one-more = rw (h .rules-are, length-append rs (r ∷ []))
 
+  -- the fields that have taken one sort of remote write: as before, or with the rule's own
+  module _ (sort : ℕ → Action → Bool) (l : List Bool) (k : (f : ℕ) → getD l f false ≡ someAction (sort f) rs) where
+    sort-same : ((f : ℕ) → sort f (r .action) ≡ false) → (f : ℕ) → getD l f false ≡ someAction (sort f) (rs ++ (r ∷ []))
+    sort-same b f = k f ∙ sym (some-append (sort f) rs r ∙ rw (b f, or-false))
+
+    sort-taken : (g : ℕ) → g < length l → ((f : ℕ) → sort f (r .action) ≡ eqb f g) → (f : ℕ) → getD (set l g true) f false ≡ someAction (sort f) (rs ++ (r ∷ []))
+    sort-taken g i b f = taken-more l g f i ∙ sym (some-append (sort f) rs r ∙ rw (b f, k f))
+
   counts-local : isRemote (r .action) ≡ false → ((f : ℕ) → isLeast f (r .action) ≡ false) → ((f : ℕ) → isTotal f (r .action) ≡ false) → Counts (moreRules x) (rs ++ (r ∷ []))
   unfolding moreRules
   counts-local a b d = record {
@@ -93,32 +101,21 @@ module _ {x : Tally} {rs : List Rule} (h : Counts x rs) (r : Rule) where
     remote-is = h .remote-is ∙ sym (remote-append rs r ∙ rw (a, or-false));
     leasts-length = h .leasts-length;
     totals-length = h .totals-length;
-    leasts-are = λ f. h .leasts-are f ∙ sym (some-append (isLeast f) rs r ∙ rw (b f, or-false));
-    totals-are = λ f. h .totals-are f ∙ sym (some-append (isTotal f) rs r ∙ rw (d f, or-false));
+    leasts-are = sort-same isLeast (x .leasts) (h .leasts-are) b;
+    totals-are = sort-same isTotal (x .totals) (h .totals-are) d;
   }
 
-  counts-least : (g : ℕ) → g < 16 → isRemote (r .action) ≡ true → ((f : ℕ) → isLeast f (r .action) ≡ eqb f g)
-      → ((f : ℕ) → isTotal f (r .action) ≡ false) → Counts (withLeast (moreRules x) g) (rs ++ (r ∷ []))
-  unfolding moreRules withLeast
-  counts-least g k a b d = record {
+  counts-remote : (leasts totals : List Bool) → isRemote (r .action) ≡ true → length leasts ≡ 16 → length totals ≡ 16
+      → ((f : ℕ) → getD leasts f false ≡ someAction (isLeast f) (rs ++ (r ∷ []))) → ((f : ℕ) → getD totals f false ≡ someAction (isTotal f) (rs ++ (r ∷ [])))
+      → Counts (withRemote (moreRules x) leasts totals) (rs ++ (r ∷ []))
+  unfolding moreRules withRemote
+  counts-remote leasts totals a m n b d = record {
     rules-are = one-more;
     remote-is = sym (remote-append rs r ∙ rw (a, or-true));
-    leasts-length = length-set (x .leasts) g true ∙ h .leasts-length;
-    totals-length = h .totals-length;
-    leasts-are = λ f. taken-more (x .leasts) g f (omega (arith, k, h .leasts-length)) ∙ sym (some-append (isLeast f) rs r ∙ rw (b f, h .leasts-are f));
-    totals-are = λ f. h .totals-are f ∙ sym (some-append (isTotal f) rs r ∙ rw (d f, or-false));
-  }
-
-  counts-total : (g : ℕ) → g < 16 → isRemote (r .action) ≡ true → ((f : ℕ) → isLeast f (r .action) ≡ false)
-      → ((f : ℕ) → isTotal f (r .action) ≡ eqb f g) → Counts (withTotal (moreRules x) g) (rs ++ (r ∷ []))
-  unfolding moreRules withTotal
-  counts-total g k a b d = record {
-    rules-are = one-more;
-    remote-is = sym (remote-append rs r ∙ rw (a, or-true));
-    leasts-length = h .leasts-length;
-    totals-length = length-set (x .totals) g true ∙ h .totals-length;
-    leasts-are = λ f. h .leasts-are f ∙ sym (some-append (isLeast f) rs r ∙ rw (b f, or-false));
-    totals-are = λ f. taken-more (x .totals) g f (omega (arith, k, h .totals-length)) ∙ sym (some-append (isTotal f) rs r ∙ rw (d f, h .totals-are f));
+    leasts-length = m;
+    totals-length = n;
+    leasts-are = b;
+    totals-are = d;
   }
 
 -- a rule that has passed
@@ -128,8 +125,12 @@ unfolding withRule ruleOfAction actionOf target isRemote isLeast isTotal
 counts-rule t (W.set f x) h k = counts-local h _ refl (λ i. refl) (λ i. refl)
 counts-rule t (W.sum f x y) h k = counts-local h _ refl (λ i. refl) (λ i. refl)
 counts-rule t (W.difference f x y) h k = counts-local h _ refl (λ i. refl) (λ i. refl)
-counts-rule t (W.least f c x) h k = counts-least h _ (fieldOf f) k refl (λ i. refl) (λ i. refl)
-counts-rule t (W.total f c x) h k = counts-total h _ (fieldOf f) k refl (λ i. refl) (λ i. refl)
+counts-rule {x} t (W.least f c y) h k =
+    let taken = sort-taken h _ isLeast (x .leasts) (h .leasts-are) (fieldOf f) (omega (arith, k, h .leasts-length)) (λ i. refl) in
+    counts-remote h _ (set (x .leasts) (fieldOf f) true) (x .totals) refl (length-set (x .leasts) (fieldOf f) true ∙ h .leasts-length) (h .totals-length) taken (sort-same h _ isTotal (x .totals) (h .totals-are) (λ i. refl))
+counts-rule {x} t (W.total f c y) h k =
+    let taken = sort-taken h _ isTotal (x .totals) (h .totals-are) (fieldOf f) (omega (arith, k, h .totals-length)) (λ i. refl) in
+    counts-remote h _ (x .leasts) (set (x .totals) (fieldOf f) true) refl (h .leasts-length) (length-set (x .totals) (fieldOf f) true ∙ h .totals-length) (sort-same h _ isLeast (x .leasts) (h .leasts-are) (λ i. refl)) taken
 
 field-below : (s : Sizes) (f : ℕ) → Limits s → hasField s f ≡ true → f < 16
 unfolding hasField

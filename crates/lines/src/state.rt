@@ -2,7 +2,7 @@
 ghost use mathlib.Core.Path.{_≡_};
 ghost use Prim.Native.Nat.{_+_, _*_, _≤_, max};
 ghost use Rattle.register.specs.Outcome.{orElse};
-ghost use Rattle.lines.specs.State.{startState, checksRefusal, ruleRefusal, stepRefusal, endRefusal, loopRefusal, doneRefusal, refusalOf, lastRefusal, frameOf, lastFrame, standing, advanceOf};
+ghost use Rattle.lines.specs.State.{startState, checksRefusal, ruleRefusal, stepRefusal, endRefusal, misplaced, loopRefusal, doneRefusal, refusalOf, lastRefusal, frameOf, lastFrame, standing, advanceOf};
 use crate::tally;
 use crate::tally::Tally;
 use plan::Plan;
@@ -108,16 +108,19 @@ fn end_refusal(state: State, full: bool) -> u32
     0
 }
 
+// Whether a line that stands outside steps is out of place; `fits`: the loop around, or none, is one that it asks for.
+fn is_misplaced(state: State, fits: bool) -> bool
+    ensures { λ r. ⌜ r ≡ misplaced state fits ⌝ }
+{
+    state.in_step | !fits
+}
+
 fn loop_refusal(state: State, named: bool) -> u32
     ensures { λ r. ⌜ r ≡ loopRefusal state named ⌝ }
 {
-    let inside = state.in_step;
-    if inside {
-        return 8;
-    }
     let around = state.around;
     let outside = around::is_outside(around);
-    if !outside {
+    if is_misplaced(state, outside) {
         return 8;
     }
     if !named {
@@ -129,13 +132,9 @@ fn loop_refusal(state: State, named: bool) -> u32
 fn done_refusal(state: State) -> u32
     ensures { λ r. ⌜ r ≡ doneRefusal state ⌝ }
 {
-    let inside = state.in_step;
-    if inside {
-        return 8;
-    }
     let around = state.around;
     let used = around::is_used(around);
-    if !used {
+    if is_misplaced(state, used) {
         return 8;
     }
     0
@@ -162,11 +161,8 @@ pub fn refusal(state: State, full: bool, read: LineRead) -> u32
 fn last_refusal(state: State) -> u32
     ensures { λ r. ⌜ r ≡ lastRefusal state ⌝ }
 {
-    if state.in_step {
-        return 8;
-    }
     let around = state.around;
-    if !around::is_outside(around) {
+    if is_misplaced(state, around::is_outside(around)) {
         return 8;
     }
     0

@@ -3,7 +3,7 @@ ghost use mathlib.Core.Path.{_≡_};
 ghost use mathlib.Core.Bool.{true, false};
 ghost use Prim.Native.Nat.{_≤_};
 ghost use lib.ListN.{getD, set};
-ghost use Rattle.lines.specs.State.{noRules, otherSort, withLeast, withTotal, withRule};
+ghost use Rattle.lines.specs.State.{noRules, otherSort, withRemote, withRule};
 use syntax::rule::Rule;
 
 // Their number, whether one is remote, and which fields have taken a `<?=` and which a `+=`.
@@ -60,26 +60,16 @@ pub fn is_other_sort(tally: Tally, rule: Rule) -> bool
     }
 }
 
-fn with_least(tally: Tally, field: u64) -> Tally
-    ensures { λ r. ⌜ r ≡ withLeast tally field ⌝ }
+// A remote rule, behind which these fields have taken the one sort and these the other.
+fn with_remote(tally: Tally, leasts: [bool; 16], totals: [bool; 16]) -> Tally
+    ensures { λ r. ⌜ r ≡ withRemote tally leasts totals ⌝ }
 {
-    let leasts = tally.leasts;
-    let taken = with_taken(leasts, field);
-    let mut next = tally;
-    next.remote = true;
-    next.leasts = taken;
-    next
-}
-
-fn with_total(tally: Tally, field: u64) -> Tally
-    ensures { λ r. ⌜ r ≡ withTotal tally field ⌝ }
-{
-    let totals = tally.totals;
-    let taken = with_taken(totals, field);
-    let mut next = tally;
-    next.remote = true;
-    next.totals = taken;
-    next
+    Tally {
+        rules: tally.rules,
+        remote: true,
+        leasts,
+        totals,
+    }
 }
 
 // With one more rule.
@@ -87,13 +77,15 @@ pub fn with_rule(tally: Tally, rule: Rule) -> Tally
     requires { ⌜ tally .rules ≤ 32 ⌝ }
     ensures { λ r. ⌜ r ≡ withRule tally rule ⌝ }
 {
+    let leasts = tally.leasts;
+    let totals = tally.totals;
     let mut next = tally;
     next.rules += 1;
     match rule {
         Rule::Set(_, _) => next,
         Rule::Sum(_, _, _) => next,
         Rule::Difference(_, _, _) => next,
-        Rule::Least(field, _, _) => with_least(next, field),
-        Rule::Total(field, _, _) => with_total(next, field),
+        Rule::Least(field, _, _) => with_remote(next, with_taken(leasts, field), totals),
+        Rule::Total(field, _, _) => with_remote(next, leasts, with_taken(totals, field)),
     }
 }

@@ -47,7 +47,7 @@ use Rattle.rules.proofs.Loops.{openLoop}
 use Rattle.rules.proofs.Passing.{Reached}
 use Rattle.lines.specs.Stored.{termOf, testOf, actionOf, ruleOf, rulesIn, stepsIn}
 use Rattle.lines.specs.Readings.{chainIn, testChains, ruleChains, slotChains, pairWords, words, Short, Sound, PlannedWith, allSettled}
-use Rattle.lines.specs.State.{noRules, moreRules, withLeast, withTotal, withRule, frameOf, lastFrame, standing, advanceOf}
+use Rattle.lines.specs.State.{noRules, moreRules, withRemote, withRule, frameOf, lastFrame, standing, advanceOf}
 use Rattle.program.specs.Kept.{Framed}
 use Rattle.lines.specs.declared.tally.Tally.{Tally}
 use Rattle.lines.specs.declared.state.Frame.{Frame}
@@ -81,7 +81,7 @@ readings-more [] r = append-nil (ruleReadings r)
 readings-more (q ∷ rs) r = ap (λ (ws : List (List ℕ)). ruleReadings q ++ ws) (readings-more rs r) ∙ sym (append-assoc (ruleReadings q) (readings rs) (ruleReadings r))
 
 rules-more : (x : Tally) (r : C.Rule) → withRule x r .rules ≡ x .rules + 1
-unfolding withRule moreRules withLeast withTotal
+unfolding withRule moreRules withRemote
 rules-more x (Set f y) = refl
 rules-more x (Sum f y z) = refl
 rules-more x (Difference f y z) = refl

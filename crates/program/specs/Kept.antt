@@ -25,6 +25,7 @@ Framed fs [] = Unit {0}
 Framed [] (x ∷ xs) = ⊥
 Framed (f ∷ fs) (x ∷ xs) = (f .remote ≡ hasRemote (x .rules)) × Holds (f .plan) (stepPlan (x .rules)) × Framed fs xs
 
+-- its frames, its number of steps and its most lines are those of the program that its array holds
 pub record Complete (p : R.Program) : Type 0 where
   pub framed : Framed (p .frames) (programOf p)
   pub steps-are : p .steps ≡ length (programOf p)
@@ -34,6 +35,7 @@ pub record Complete (p : R.Program) : Type 0 where
 unfoldable pub outcomeOf : Checked → Outcome Program
 outcomeOf r = unless (r .refusal) (r .line) (done (programOf (r .program)))
 
+-- an answer of this outcome, with all that is kept beside a program that passed
 pub record Answers (o : Outcome Program) (r : Checked) : Type 0 where
   pub outcome-is : outcomeOf r ≡ o
   pub complete : r .refusal ≡ 0 → Complete (r .program)
@@ -52,6 +54,7 @@ linesOf p = zip (facts p) (p .rounds)
 unfoldable pub planOutcome : StepPlan → Outcome Planned
 planOutcome r = unless (r .refusal) (r .line) (done (record { plan-lines = linesOf (r .plan); remote = r .remote }))
 
+-- an answer of this outcome, with a plan whose arrays hold its lines where nothing is refused
 pub record PlanAnswers (o : Outcome Planned) (r : StepPlan) : Type 0 where
   pub outcome-is : planOutcome r ≡ o
   pub sound : r .refusal ≡ 0 → Holds (r .plan) (facts (r .plan))

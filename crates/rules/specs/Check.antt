@@ -1,4 +1,5 @@
--- What a line of a rules text may hold and where it may stand: one definition for each refusal, 8 to 15, and the lowest that applies.
+-- Where a line of a rules text may stand and what a step may hold: one definition for each of the refusals 8, 13, 14 and 15, and the
+-- lowest that applies of these and of 9 to 12, which are in the Parts of `syntax`.
 use Prim.Native.Nat.{ℕ}
 use mathlib.Core.Bool.{Bool, true, false, cond, not, _&&_, _||_}
 use mathlib.Core.List.{List, [], _∷_}

@@ -21,34 +21,40 @@ enum-told-3 c = search needs
 enum-known-rule : tie.Need-enum-known-rule
 enum-known-rule c = search needs
 
-with-least-requires : tie.Need-with-least-requires
-with-least-requires c κs = search needs
+with-taken-requires : tie.Need-with-taken-requires
+with-taken-requires c κs = search needs
+
+with-remote-requires : tie.Need-with-remote-requires
+with-remote-requires c κs = search needs
 
 enum-known-rule-2 : tie.Need-enum-known-rule-2
 enum-known-rule-2 c = search needs
 
-with-total-requires : tie.Need-with-total-requires
-with-total-requires c κs = search needs
+with-taken-requires-2 : tie.Need-with-taken-requires-2
+with-taken-requires-2 c κs = search needs
+
+with-remote-requires-2 : tie.Need-with-remote-requires-2
+with-remote-requires-2 c κs = search needs
 
 returns : tie.Need-returns
 unfolding withRule moreRules
-returns c = sym (ap (withRule (c .before .before .before .args .tally)) (c .enum-told .given .1))
+returns c = sym (ap (withRule (c .before .before .before .before .before .args .tally)) (c .enum-told .given .1))
 
 returns-2 : tie.Need-returns-2
 unfolding withRule moreRules
-returns-2 c = sym (ap (withRule (c .before .before .before .args .tally)) (c .enum-told2 .given .1))
+returns-2 c = sym (ap (withRule (c .before .before .before .before .before .args .tally)) (c .enum-told2 .given .1))
 
 returns-3 : tie.Need-returns-3
 unfolding withRule moreRules
-returns-3 c = sym (ap (withRule (c .before .before .before .args .tally)) (c .enum-told3 .given .1))
+returns-3 c = sym (ap (withRule (c .before .before .before .before .before .args .tally)) (c .enum-told3 .given .1))
 
 returns-4 : tie.Need-returns-4
 unfolding withRule moreRules
-returns-4 c = c .with-least .ensures ∙ sym (ap (withRule (c .before .before .before .before .before .args .tally)) (c .before .before .rule .given .1))
+returns-4 c = rw (c .before .with-taken .ensures) at (c .with-remote .ensures) ∙ sym (ap (withRule (c .before .before .before .before .before .before .before .before .args .tally)) (c .before .before .before .rule .given .1))
 
 returns-5 : tie.Need-returns-5
 unfolding withRule moreRules
-returns-5 c = c .with-total .ensures ∙ sym (ap (withRule (c .before .before .before .before .before .args .tally)) (c .before .before .rule2 .given .1))
+returns-5 c = rw (c .before .with-taken2 .ensures) at (c .with-remote2 .ensures) ∙ sym (ap (withRule (c .before .before .before .before .before .before .before .before .args .tally)) (c .before .before .before .rule2 .given .1))
 
 pub with-rule-spec : {M : Type 1} → statement M
 with-rule-spec =
@@ -59,9 +65,11 @@ with-rule-spec =
     enum-told-2
     enum-told-3
     enum-known-rule
-    with-least-requires
+    with-taken-requires
+    with-remote-requires
     enum-known-rule-2
-    with-total-requires
+    with-taken-requires-2
+    with-remote-requires-2
     returns
     returns-2
     returns-3

@@ -1,0 +1,13 @@
+-- `lines::tally::with_remote` meets its contract.
+-- Assumes nothing.
+use Rattle.lines.specs.State.{withRemote}
+use borrow.Author.Needs.{needs}
+use Rattle.lines.proofs.tally.with_remote.Statement.{statement}
+use Rattle.lines.proofs.tally.with_remote.Tie as tie
+
+returns : tie.Need-returns
+unfolding withRemote
+returns c = search needs
+
+pub with-remote-spec : {M : Type 1} → statement M
+with-remote-spec = tie.close (tie.spec returns)
