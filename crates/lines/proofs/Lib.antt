@@ -1,6 +1,3 @@
 -- Laws of the definitions of `specs/`, for the proofs here and in the crates above.
+pub mod Reading
 pub mod Fronts
-pub mod Plans
-pub mod Slots
-pub mod Standing
-pub mod Refusals

@@ -1,5 +1,3 @@
--- What the text reader keeps of the lines so far.
+-- The first line of a text, and what the line reader answers.
+pub mod LineRead
 pub mod Front
-pub mod Readings
-pub mod State
-pub mod Stored

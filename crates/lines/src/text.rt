@@ -3,11 +3,11 @@ ghost use mathlib.Core.Path.{_≡_};
 ghost use Prim.Native.Nat.{_+_, _≤_, _<_};
 ghost use lib.ListN.{length, drop};
 ghost use Rattle.register.specs.Shape.{Limits};
-ghost use Rattle.syntax.specs.LineRead.{lineRead};
+ghost use Rattle.lines.specs.LineRead.{lineRead};
 ghost use Rattle.lines.specs.Front.{goesOn, front, firstForm};
+use crate::line;
+use crate::line::LineRead;
 use register::Sizes;
-use syntax::line;
-use syntax::line::LineRead;
 
 // Whether the line goes on at `at`: neither byte 10 nor the end of the text stands there.
 fn goes_on(text: &[u8], at: usize) -> bool

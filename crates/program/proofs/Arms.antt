@@ -22,19 +22,19 @@ use Rattle.plan.proofs.Adding.{holds-facts, extended-holds, extended-same}
 use Rattle.plan.proofs.Appending.{holds-count}
 use Rattle.syntax.specs.Written as W
 use Rattle.syntax.specs.Written.{Line, step, end, done, loop, rule}
-use Rattle.syntax.specs.ActionRead.{ruleOfAction}
-use Rattle.syntax.specs.LineRead as R
-use Rattle.syntax.specs.LineRead.{lineRead}
-use Rattle.syntax.specs.declared.term.Term.{Term}
-use Rattle.syntax.specs.declared.term.Term.the-variants.{Chain, Number}
-use Rattle.syntax.specs.declared.term.Checks.{Checks}
-use Rattle.syntax.specs.declared.line.LineRead.{LineRead}
-use Rattle.syntax.specs.declared.line.LineRead.the-variants as L
-use Rattle.syntax.specs.declared.rule.Test.{Test}
-use Rattle.syntax.specs.declared.rule.Test.the-variants.{Always, When}
-use Rattle.syntax.specs.declared.rule.Rule as C
-use Rattle.syntax.specs.declared.rule.Rule.the-variants.{Set, Sum, Difference, Least, Total}
-use Rattle.syntax.specs.declared.rule.Slot.{Slot}
+use Rattle.actions.specs.ActionRead.{ruleOfAction}
+use Rattle.actions.specs.ActionRead as R
+use Rattle.lines.specs.LineRead.{lineRead}
+use Rattle.terms.specs.declared.term.Term.{Term}
+use Rattle.terms.specs.declared.term.Term.the-variants.{Chain, Number}
+use Rattle.terms.specs.declared.term.Checks.{Checks}
+use Rattle.lines.specs.declared.line.LineRead.{LineRead}
+use Rattle.lines.specs.declared.line.LineRead.the-variants as L
+use Rattle.actions.specs.declared.rule.Test.{Test}
+use Rattle.actions.specs.declared.rule.Test.the-variants.{Always, When}
+use Rattle.actions.specs.declared.rule.Rule as C
+use Rattle.actions.specs.declared.rule.Rule.the-variants.{Set, Sum, Difference, Least, Total}
+use Rattle.actions.specs.declared.rule.Slot.{Slot}
 use Rattle.rules.specs.Program.{Rule, Step, ruleReadings, readings, stepPlan}
 use Rattle.rules.specs.Check.{State, isOutside, isUsed, isOpen, openRules, inPlace, hasRoom, planFits}
 use Rattle.rules.specs.Text as T
@@ -45,16 +45,16 @@ use Rattle.rules.specs.declared.around.Around.the-variants.{Outside, Unused, Us
 use Rattle.rules.proofs.Checked.{Clean, rule-fine}
 use Rattle.rules.proofs.Loops.{openLoop}
 use Rattle.rules.proofs.Passing.{Reached}
-use Rattle.lines.specs.Stored.{termOf, testOf, actionOf, ruleOf, rulesIn, stepsIn}
-use Rattle.lines.specs.Readings.{chainIn, testChains, ruleChains, slotChains, pairWords, words, Short, Sound, PlannedWith, allSettled}
-use Rattle.lines.specs.State.{noRules, moreRules, withRemote, withRule, frameOf, lastFrame, standing, advanceOf}
-use Rattle.program.specs.Kept.{Framed}
-use Rattle.lines.specs.declared.tally.Tally.{Tally}
-use Rattle.lines.specs.declared.state.Frame.{Frame}
-use Rattle.lines.specs.declared.state.State as S
-use Rattle.lines.proofs.Plans.{readings-full, all-same, slot-plan}
-use Rattle.lines.proofs.Slots.{rule-of}
-use Rattle.lines.proofs.Standing.{Stands}
+use Rattle.step_plan.specs.Stored.{termOf, testOf, actionOf, ruleOf, rulesIn}
+use Rattle.program.specs.Kept.{stepsIn, Framed}
+use Rattle.step_plan.specs.Readings.{chainIn, testChains, ruleChains, slotChains, pairWords, words, Short, Sound, PlannedWith, allSettled}
+use Rattle.reader_state.specs.State.{noRules, moreRules, withRemote, withRule, frameOf, lastFrame, standing, advanceOf}
+use Rattle.reader_state.specs.declared.tally.Tally.{Tally}
+use Rattle.reader_state.specs.declared.state.Frame.{Frame}
+use Rattle.reader_state.specs.declared.state.State as S
+use Rattle.step_plan.proofs.Plans.{readings-full, all-same, slot-plan}
+use Rattle.step_plan.proofs.Slots.{rule-of}
+use Rattle.reader_state.proofs.Standing.{Stands}
 use Rattle.program.proofs.Keeping.{store-steps, store-rule, more-frames, framed-more, close-frames, framed-close}
 
 -- what the arrays hold of the lines so far

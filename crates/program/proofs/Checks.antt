@@ -19,7 +19,7 @@ use Rattle.plan.proofs.Appending.{holds-count}
 use Rattle.rules.specs.Program.{Rule, Program, stepPlan, hasRemote}
 use Rattle.rules.specs.Text.{lines, start, readFrom, textProgram, check, rulesAt, Planned, planned, planOfStep}
 use Rattle.program.specs.Kept.{programOf, Framed, outcomeOf, Answers, zip, linesOf, planOutcome, PlanAnswers, RefusedPlan}
-use Rattle.lines.specs.declared.state.Frame.{Frame}
+use Rattle.reader_state.specs.declared.state.Frame.{Frame}
 use Rattle.program.specs.declared.reader.Checked.{Checked}
 use Rattle.program.specs.declared.step.StepPlan.{StepPlan}
 use Rattle.program.proofs.Reading.{refuse-none}

@@ -7,13 +7,13 @@ use native.Mathlib.Numerals.{add-one}
 use lib.ListN.{length, getD, take, drop, set, length-take, length-drop}
 use lib.Seq.{take-set-le, drop-set-add, take-set-lt, take-suc-set, drop-drop}
 use Rattle.plan.specs.Held.{Holds}
-use Rattle.syntax.specs.declared.rule.Slot.{Slot}
+use Rattle.actions.specs.declared.rule.Slot.{Slot}
 use Rattle.rules.specs.Program.{Step, stepPlan, hasRemote}
 use Rattle.rules.specs.Text.{closeLoop}
-use Rattle.lines.specs.Stored.{ruleOf, rulesIn, stepsIn}
-use Rattle.lines.specs.State.{lastFrame}
-use Rattle.program.specs.Kept.{Framed}
-use Rattle.lines.specs.declared.state.Frame.{Frame}
+use Rattle.step_plan.specs.Stored.{ruleOf, rulesIn}
+use Rattle.program.specs.Kept.{stepsIn, Framed}
+use Rattle.reader_state.specs.State.{lastFrame}
+use Rattle.reader_state.specs.declared.state.Frame.{Frame}
 
 map-append : {A B : Type 0} (f : A → B) (l m : List A) → map f (l ++ m) ≡ map f l ++ map f m
 map-append f [] m = refl

@@ -21,30 +21,30 @@ use Rattle.plan.proofs.Adding.{extended-same}
 use Rattle.syntax.specs.Written as W
 use Rattle.syntax.specs.Written.{Line, step, end, done, rule}
 use Rattle.syntax.specs.Line.{lineForm}
-use Rattle.syntax.specs.ActionRead.{ruleOfAction}
-use Rattle.syntax.specs.LineRead as R
-use Rattle.syntax.specs.LineRead.{lineRead}
-use Rattle.syntax.specs.declared.term.Checks.{Checks}
-use Rattle.syntax.specs.declared.line.LineRead.{LineRead}
-use Rattle.syntax.specs.declared.line.LineRead.the-variants as L
-use Rattle.syntax.specs.declared.rule.Slot.{Slot}
+use Rattle.actions.specs.ActionRead.{ruleOfAction}
+use Rattle.actions.specs.ActionRead as R
+use Rattle.lines.specs.LineRead.{lineRead}
+use Rattle.terms.specs.declared.term.Checks.{Checks}
+use Rattle.lines.specs.declared.line.LineRead.{LineRead}
+use Rattle.lines.specs.declared.line.LineRead.the-variants as L
+use Rattle.actions.specs.declared.rule.Slot.{Slot}
 use Rattle.rules.specs.Program.{Program, readings, stepPlan}
 use Rattle.rules.specs.Check.{State, isOutside, isOpen, openRules, lineRefusal}
 use Rattle.rules.specs.Text.{lines, advance, lineOutcome, closed, readFrom, start}
 use Rattle.rules.proofs.Checked.{Clean, refusal-none, rule-passes}
 use Rattle.rules.proofs.Passing.{Reached, start-reached, advance-reached}
 use Rattle.lines.specs.Front.{front, firstForm}
-use Rattle.lines.specs.Stored.{ruleOf, rulesIn, stepsIn}
-use Rattle.lines.specs.Readings.{slotChains, words, Short}
-use Rattle.lines.specs.State.{noRules, startState, refusalOf, lastRefusal, frameOf, lastFrame, advanceOf}
-use Rattle.program.specs.Kept.{programOf, outcomeOf, Answers}
+use Rattle.step_plan.specs.Stored.{ruleOf, rulesIn}
+use Rattle.program.specs.Kept.{stepsIn, programOf, outcomeOf, Answers}
+use Rattle.step_plan.specs.Readings.{slotChains, words, Short}
+use Rattle.reader_state.specs.State.{noRules, startState, refusalOf, lastRefusal, frameOf, lastFrame, advanceOf}
 use Rattle.program.specs.declared.reader.Program as C
-use Rattle.lines.specs.declared.state.Frame.{Frame}
-use Rattle.lines.specs.declared.state.State as S
+use Rattle.reader_state.specs.declared.state.Frame.{Frame}
+use Rattle.reader_state.specs.declared.state.State as S
 use Rattle.program.proofs.Arms.{Behind, step-line, loop-line, end-line, done-line, rule-line, no-line, at-step, at-loop, at-rule, at-end, at-done, slot-short, rule-is, rule-steps, rule-rules, end-steps, end-count, done-steps}
 use Rattle.lines.proofs.Fronts.{lines-first}
-use Rattle.lines.proofs.Standing.{Stands, start-stands, advance-stands}
-use Rattle.lines.proofs.Refusals.{number, refusal-is, last-is}
+use Rattle.reader_state.proofs.Standing.{Stands, start-stands, advance-stands}
+use Rattle.reader_state.proofs.Refusals.{number, refusal-is, last-is}
 
 -- the state of the definition before line k, which begins at `at`, and what the code has of it
 pub record Read (s : Sizes) (t : List ℕ) (plan : Plan) (full : Bool) (slots : List Slot) (frames : List Frame) (x : S.State) (at k : ℕ) : Type 0 where

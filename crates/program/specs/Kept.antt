@@ -2,18 +2,24 @@
 use Prim.Native.Nat.{ℕ}
 use mathlib.Core.Path.{_≡_}
 use mathlib.Core.List.{List, [], _∷_}
-use lib.ListN.{length, take}
+use lib.ListN.{length, take, drop}
 use Rattle.register.specs.Outcome.{Outcome, done, unless}
 use Rattle.plan.specs.Plan.{Fact}
 use Rattle.plan.specs.Held.{facts, Holds}
 use Rattle.plan.specs.declared.Plan.{Plan}
 use Rattle.rules.specs.Program.{Step, Program, stepPlan, hasRemote, mostLines}
 use Rattle.rules.specs.Text.{Planned}
-use Rattle.lines.specs.Stored.{stepsIn}
-use Rattle.lines.specs.declared.state.Frame.{Frame}
+use Rattle.actions.specs.declared.rule.Slot.{Slot}
+use Rattle.step_plan.specs.Stored.{rulesIn}
+use Rattle.reader_state.specs.declared.state.Frame.{Frame}
 use Rattle.program.specs.declared.reader.Program as R
 use Rattle.program.specs.declared.reader.Checked.{Checked}
 use Rattle.program.specs.declared.step.StepPlan.{StepPlan}
+
+-- the steps of these frames, each with 32 places: rule k of step s stands at 32 × s + k
+unfoldable pub stepsIn : List Slot → List Frame → Program
+stepsIn slots [] = []
+stepsIn slots (f ∷ fs) = record { rules = rulesIn (f .rules) (take 32 slots); setting = f .setting } ∷ stepsIn (drop 32 slots) fs
 
 -- the program that an array holds
 unfoldable pub programOf : R.Program → Program

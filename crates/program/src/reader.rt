@@ -4,19 +4,19 @@ ghost use lib.ListN.{length};
 ghost use Rattle.register.specs.Shape.{Limits};
 ghost use Rattle.rules.specs.Text.{lines, start as startOf, readFrom};
 ghost use Rattle.program.specs.Kept.{Answers};
-use lines::readings;
-use lines::state;
-use lines::state::Frame;
+use actions::rule::Rule;
+use actions::rule::Slot;
+use actions::rule::Test;
+use lines::line::LineRead;
 use lines::text;
 use plan::Added;
 use plan::Plan;
+use reader_state::state;
+use reader_state::state::Frame;
 use register::Sizes;
 use rules::around::Setting;
-use syntax::line::LineRead;
-use syntax::rule::Rule;
-use syntax::rule::Slot;
-use syntax::rule::Test;
-use syntax::term::Term;
+use step_plan::readings;
+use terms::term::Term;
 
 // Rule k of step s, both from 0, stands at 32 × s + k; beside the rules the frames of the steps, their number, and the most
 // lines of any step's plan.

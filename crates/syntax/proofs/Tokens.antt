@@ -10,8 +10,7 @@ use lib.Dec.{eqb, leb}
 use lib.ListN.{length, drop}
 use Rattle.chain.specs.Text.{isCapital}
 use Rattle.integers.proofs.Bools.{and-both}
-use Rattle.syntax.specs.Read.{begins}
-use Rattle.syntax.specs.Token.{Token, token, other, capital, then, word, or, finished}
+use Rattle.syntax.specs.Token.{begins, Token, token, other, capital, then, word, or, finished}
 
 -- P holds of the answer, if there is one
 abbrev pub All : {A : Type 0} → (A → Type 0) → Option A → Type 0

@@ -7,6 +7,3 @@ pub mod Token
 pub mod Term
 pub mod Line
 pub mod Parts
-pub mod Read
-pub mod ActionRead
-pub mod LineRead

@@ -1,6 +1,6 @@
 -- Reading a line token after token: what stands first in a text, and how readers are put behind and beside each other.
 use Prim.Native.Nat.{ℕ}
-use mathlib.Core.Bool.{cond}
+use mathlib.Core.Bool.{Bool, true, false, cond, _&&_}
 use mathlib.Core.List.{List, [], _∷_}
 use mathlib.Core.Option.{Option, none, some}
 use lib.Dec.{eqb}
@@ -36,3 +36,9 @@ or (some a) y = some a
 unfoldable pub finished : {A : Type 0} → A → List ℕ → Option A
 finished a [] = some a
 finished a (b ∷ r) = none
+
+-- whether a text begins with a word
+unfoldable pub begins : List ℕ → List ℕ → Bool
+begins [] t = true
+begins (b ∷ w) [] = false
+begins (b ∷ w) (d ∷ t) = eqb d b && begins w t

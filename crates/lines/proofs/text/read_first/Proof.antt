@@ -3,7 +3,7 @@
 use mathlib.Core.Path.{sym, ap, _∙_}
 use native.Mathlib.Omega.{arith}
 use denote.Ref.{now}
-use Rattle.syntax.specs.LineRead.{lineRead}
+use Rattle.lines.specs.LineRead.{lineRead}
 use Rattle.lines.proofs.Fronts.{first-past, first-within}
 use borrow.Author.Needs.{needs}
 use Rattle.lines.proofs.text.read_first.Statement.{statement}

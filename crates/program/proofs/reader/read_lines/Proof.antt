@@ -11,10 +11,10 @@ use Rattle.register.specs.declared.Sizes.{Sizes}
 use Rattle.register.specs.Outcome.{refused}
 use Rattle.rules.specs.Text.{advance}
 use Rattle.rules.specs.Check.{openRules}
-use Rattle.lines.specs.State.{advanceOf}
+use Rattle.reader_state.specs.State.{advanceOf}
 use Rattle.program.proofs.Arms.{Behind, open-sound, open-keyed, open-more, open-same}
 use Rattle.program.proofs.Reading.{Read, Passes, passes, stopped, small, again, arm-step, arm-loop, arm-none, arm-end-steps, arm-end, arm-done-steps, arm-done, arm-steps, arm-rules, arm-short, arm-rule, answer-refused, answer-read, begun}
-use Rattle.lines.proofs.Refusals.{or-first, or-none}
+use Rattle.reader_state.proofs.Refusals.{or-first, or-none}
 use borrow.Author.Needs.{needs}
 use Rattle.program.proofs.reader.read_lines.Statement.{statement}
 use Rattle.program.proofs.reader.read_lines.Tie as tie

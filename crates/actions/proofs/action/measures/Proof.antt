@@ -1,0 +1,14 @@
+-- `actions::action::measures` meets its contract.
+-- Assumes nothing.
+use mathlib.Core.Path.{refl}
+use Rattle.chain.specs.Text.{isReferenceLetter}
+use Rattle.actions.specs.ActionRead.{measured}
+use Rattle.actions.proofs.action.measures.Statement.{statement}
+use Rattle.actions.proofs.action.measures.Tie as tie
+
+returns : tie.Need-returns
+unfolding measured isReferenceLetter
+returns c = refl
+
+pub measures-spec : {M : Type 1} → statement M
+measures-spec = tie.close (tie.spec returns)

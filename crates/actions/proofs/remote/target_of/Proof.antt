@@ -1,0 +1,16 @@
+-- `actions::remote::target_of` meets its contract.
+-- Assumes nothing.
+use borrow.Author.Needs.{needs}
+use Rattle.actions.specs.ActionRead.{targetFrom}
+use Rattle.actions.proofs.remote.target_of.Statement.{statement}
+use Rattle.actions.proofs.remote.target_of.Tie as tie
+
+chain-parts-requires : tie.Need-chain-parts-requires
+chain-parts-requires c κs = search needs
+
+returns : tie.Need-returns
+unfolding targetFrom
+returns c = rw (c .before .chain-parts .ensures)
+
+pub target-of-spec : {M : Type 1} → statement M
+target-of-spec = tie.close (tie.spec chain-parts-requires returns)

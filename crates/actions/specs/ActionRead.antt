@@ -1,0 +1,161 @@
+-- What the readers of a rule and its parts answer, and a rule's test as a program holds it.
+use Prim.Native.Nat.{ℕ, _+_}
+use mathlib.Core.Path.{_≡_}
+use mathlib.Core.Bool.{Bool, true, false, not, _&&_}
+use mathlib.Core.List.{List, [], _∷_}
+use mathlib.Core.Option.{Option, none, some}
+use lib.ListN.{take}
+use Rattle.register.specs.declared.Sizes.{Sizes}
+use Rattle.chain.specs.Word.{pack}
+use Rattle.chain.specs.Text.{names, fieldOf, wordOf, isReferenceLetter, Form, formed, unformed}
+use Rattle.chain.specs.Scan.{chainEnd}
+use Rattle.chain.specs.declared.letters.Letters.{Letters}
+use Rattle.syntax.specs.Written as W
+use Rattle.syntax.specs.Token.{Token, token, other, then, word, or, finished}
+use Rattle.syntax.specs.Term.{termForm}
+use Rattle.syntax.specs.Line.{made}
+use Rattle.syntax.specs.Bytes.{bytes}
+use Rattle.syntax.specs.Parts.{everyTerm, termNamed, termKinded, termShort, termInRange, actionTerms, target, actionKinds, isReferenceTerm}
+use Rattle.terms.specs.Read.{termOf, partsOf, termChecks, chainParts}
+use Rattle.terms.specs.declared.term.Checks.{Checks}
+use Rattle.terms.specs.declared.term.TermParts.{TermParts}
+use Rattle.actions.specs.declared.rule.Rule.{Rule}
+use Rattle.actions.specs.declared.rule.Rule.the-variants.{Set, Sum, Difference, Least, Total}
+use Rattle.actions.specs.declared.rule.Comparison.{Comparison}
+use Rattle.actions.specs.declared.rule.Comparison.the-variants.{Less, Equal, Unequal}
+use Rattle.actions.specs.declared.rule.Test.{Test}
+use Rattle.actions.specs.declared.rule.Test.the-variants.{Always, When}
+use Rattle.actions.specs.declared.action.Letter.{Letter}
+use Rattle.actions.specs.declared.action.Letter.the-variants.{Capital, NoForm as NoLetter}
+use Rattle.actions.specs.declared.action.LastRead.{LastRead}
+use Rattle.actions.specs.declared.action.LastRead.the-variants.{Term, NoForm as NoTerm}
+use Rattle.actions.specs.declared.action.ActionRead.{ActionRead}
+use Rattle.actions.specs.declared.action.ActionRead.the-variants.{Action, NoForm}
+use Rattle.actions.specs.declared.remote.Target.{Target}
+use Rattle.actions.specs.declared.remote.TargetRead.{TargetRead}
+use Rattle.actions.specs.declared.remote.TargetRead.the-variants.{At, NoForm as NoTarget}
+
+-- what 9 to 12 ask of two parts
+unfoldable pub bothChecks : Checks → Checks → Checks
+bothChecks a b = record {
+  named = a .named && b .named;
+  kinded = a .kinded && b .kinded;
+  short = a .short && b .short;
+  ranged = a .ranged && b .ranged;
+}
+
+-- what 9 to 12 ask of some terms
+unfoldable pub termsChecks : Sizes → List W.Term → Checks
+termsChecks s xs = record {
+  named = everyTerm (termNamed s) xs;
+  kinded = everyTerm termKinded xs;
+  short = everyTerm termShort xs;
+  ranged = everyTerm termInRange xs;
+}
+
+-- with a rule's own: that its field is named, and that its kinds agree
+unfoldable pub ruleChecks : Bool → Bool → Checks → Checks
+ruleChecks field kinds c = record { named = field && c .named; kinded = c .kinded && kinds; short = c .short; ranged = c .ranged }
+
+-- what 9 to 12 ask of a rule without its test
+unfoldable pub actionChecks : Sizes → W.Action → Checks
+actionChecks s a = ruleChecks (names s (target a)) (actionKinds a) (termsChecks s (actionTerms a))
+
+-- whether a field and a term, by its kind, are measures
+unfoldable pub measured : ℕ → Bool → Bool
+measured f reference = not (isReferenceLetter f) && not reference
+
+-- a chain of at most 16 hops as a program holds it; of a longer one the first 16
+abbrev packed : List ℕ → ℕ
+packed ls = pack (wordOf (take 16 ls))
+
+-- a rule as a program holds it
+unfoldable pub ruleOfAction : W.Action → Rule
+ruleOfAction (W.set f x) = Set (fieldOf f) (termOf x)
+ruleOfAction (W.sum f x y) = Sum (fieldOf f) (termOf x) (termOf y)
+ruleOfAction (W.difference f x y) = Difference (fieldOf f) (termOf x) (termOf y)
+ruleOfAction (W.least f c x) = Least (fieldOf f) (packed c) (termOf x)
+ruleOfAction (W.total f c x) = Total (fieldOf f) (packed c) (termOf x)
+
+-- the answer for a rule's form
+unfoldable pub actionRead : Sizes → Option W.Action → ActionRead
+actionRead s none = NoForm
+actionRead s (some a) = Action (ruleOfAction a) (actionChecks s a)
+
+-- the answer for a field letter
+unfoldable pub letterRead : Token ℕ → Letter
+letterRead other = NoLetter
+letterRead (token l r) = Capital l
+
+-- a word, and behind it the term that ends the line
+unfoldable pub lastTerm : List ℕ → List ℕ → Option W.Term
+lastTerm w t = word w t (λ r. then (termForm r) finished)
+
+-- the answer for a term that ends the line
+unfoldable pub lastRead : Sizes → Option W.Term → LastRead
+lastRead s none = NoTerm
+lastRead s (some x) = Term (partsOf s x)
+
+-- `F[u] := X + Y`, or with a minus `F[u] := X - Y`
+abbrev pub combined : Bool → ℕ → W.Term → W.Term → W.Action
+combined true f x y = W.difference f x y
+combined false f x y = W.sum f x y
+
+-- ` - Y` behind `F[u] := X`
+abbrev pub minusForm : ℕ → W.Term → List ℕ → Option W.Action
+minusForm f x t = made (combined true f x) (bytes " - ") t
+
+-- ` + Y` or ` - Y` behind `F[u] := X`
+abbrev pub sumForm : ℕ → W.Term → List ℕ → Option W.Action
+sumForm f x t = or (made (combined false f x) (bytes " + ") t) (minusForm f x t)
+
+-- an answer that is right for every term with these parts
+abbrev pub ForTerm : Sizes → TermParts → (W.Term → ActionRead) → ActionRead → Type 0
+ForTerm s p answer r = (w : W.Term) → p ≡ partsOf s w → r ≡ answer w
+
+-- an answer that is right for every two terms with these parts
+abbrev pub ForTerms : Sizes → TermParts → TermParts → (W.Term → W.Term → ActionRead) → ActionRead → Type 0
+ForTerms s p q answer r = (v w : W.Term) → p ≡ partsOf s v → q ≡ partsOf s w → r ≡ answer v w
+
+-- ` += X` behind `remote F[C]`
+abbrev pub totalForm : ℕ → List ℕ → List ℕ → Option W.Action
+totalForm f c t = made (W.total f c) (bytes " += ") t
+
+-- a target by its letter and the letters of C
+unfoldable pub targetOf : Sizes → ℕ → List ℕ → Target
+targetOf s f c = record { letter = f; chain = packed c; reference = isReferenceTerm (W.chain c); checks = termChecks s (W.chain c) }
+
+-- a target by its letter, what is known of the letters of C, and the first byte of their text
+unfoldable pub targetFrom : ℕ → Letters → ℕ → Target
+targetFrom f x b = record { letter = f; chain = x .packed; reference = chainParts x b .reference; checks = chainParts x b .checks }
+
+-- what 9 to 12 ask of a remote rule, by its target, its term, and whether F and the term are of the right kinds
+unfoldable pub remoteChecks : Sizes → Target → TermParts → Bool → Checks
+remoteChecks s g x kinds = ruleChecks (names s (g .letter)) (g .reference && kinds) (bothChecks (g .checks) (x .checks))
+
+-- the answer for a target whose C begins at `at`
+unfoldable pub targetRead : Sizes → ℕ → Form → TargetRead
+targetRead s at unformed = NoTarget
+targetRead s at (formed [] r) = NoTarget
+targetRead s at (formed (f ∷ c) r) = At (targetOf s f c) (chainEnd at c + 1)
+
+-- an answer that is right for every target with these parts
+abbrev pub ForTarget : Sizes → Target → (ℕ → List ℕ → ActionRead) → ActionRead → Type 0
+ForTarget s p answer r = (f : ℕ) (c : List ℕ) → p ≡ targetOf s f c → r ≡ answer f c
+
+-- a comparison of the code as it is written
+unfoldable pub written : Comparison → W.Comparison
+written Less = W.less
+written Equal = W.equal
+written Unequal = W.unequal
+
+-- a written comparison as the code has it
+unfoldable pub comparisonOf : W.Comparison → Comparison
+comparisonOf W.less = Less
+comparisonOf W.equal = Equal
+comparisonOf W.unequal = Unequal
+
+-- a test as a program holds it
+unfoldable pub testOf : W.Condition → Test
+testOf W.always = Always
+testOf (W.when x c y) = When (termOf x) (comparisonOf c) (termOf y)

@@ -1,0 +1,2 @@
+-- What the readers of a rule answer.
+pub mod ActionRead

@@ -1,0 +1,21 @@
+-- `reader_state::state::open_frame` meets its contract.
+-- Assumes nothing.
+use mathlib.Core.Path.{ap}
+use Rattle.rules.specs.declared.around.Setting.{Setting}
+use Rattle.reader_state.specs.State.{frameOf}
+use Rattle.reader_state.specs.declared.state.Frame.{Frame}
+use borrow.Author.Needs.{needs}
+use Rattle.reader_state.proofs.state.open_frame.Statement.{statement}
+use Rattle.reader_state.proofs.state.open_frame.Tie as tie
+
+setting-in-requires : tie.Need-setting-in-requires
+setting-in-requires c κs = search needs
+
+returns : tie.Need-returns
+unfolding frameOf
+returns c =
+    let a = c .before .before .args in
+    ap {B = Frame} (λ (x : Setting). record { rules = a .state .tally .rules; remote = a .state .tally .remote; setting = x; plan = a .plan }) (c .setting-in .ensures)
+
+pub open-frame-spec : {M : Type 1} → statement M
+open-frame-spec = tie.close (tie.spec setting-in-requires returns)

@@ -1,0 +1,2 @@
+-- What the text reader keeps of the lines so far.
+pub mod State

@@ -1,0 +1,119 @@
+-- What the text reader keeps of the lines so far, and its refusal of the next one.
+use Prim.Native.Nat.{ℕ, _+_, max}
+use mathlib.Core.Bool.{Bool, true, false, cond, not, _||_}
+use mathlib.Core.List.{List}
+use lib.Dec.{ltb}
+use lib.ListN.{getD, set, replicate}
+use Rattle.register.specs.Outcome.{orElse}
+use Rattle.plan.specs.declared.Plan.{Plan}
+use Rattle.actions.specs.declared.rule.Rule.{Rule}
+use Rattle.actions.specs.declared.rule.Rule.the-variants.{Set, Sum, Difference, Least, Total}
+use Rattle.terms.specs.declared.term.Checks.{Checks}
+use Rattle.lines.specs.declared.line.LineRead.{LineRead}
+use Rattle.lines.specs.declared.line.LineRead.the-variants as L
+use Rattle.rules.specs.Check.{isOutside, isUsed}
+use Rattle.rules.specs.Text.{settingIn, withStep, lastOf}
+use Rattle.rules.specs.declared.around.Around.{Around}
+use Rattle.rules.specs.declared.around.Around.the-variants.{Outside, Unused}
+use Rattle.reader_state.specs.declared.tally.Tally.{Tally}
+use Rattle.reader_state.specs.declared.state.State.{State}
+use Rattle.reader_state.specs.declared.state.Frame.{Frame}
+
+-- at the start of a step
+unfoldable pub noRules : Tally
+noRules = record { rules = 0; remote = false; leasts = replicate 16 false; totals = replicate 16 false }
+
+-- 14: the field has taken the other sort
+unfoldable pub otherSort : Tally → Rule → Bool
+otherSort o (Set f x) = false
+otherSort o (Sum f x y) = false
+otherSort o (Difference f x y) = false
+otherSort o (Least f c x) = getD (o .totals) f false
+otherSort o (Total f c x) = getD (o .leasts) f false
+
+-- one more rule, that is not remote
+unfoldable pub moreRules : Tally → Tally
+moreRules o = record { rules = o .rules + 1; remote = o .remote; leasts = o .leasts; totals = o .totals }
+
+-- a remote rule, behind which these fields have taken the one sort and these the other
+unfoldable pub withRemote : Tally → List Bool → List Bool → Tally
+withRemote o leasts totals = record { rules = o .rules; remote = true; leasts = leasts; totals = totals }
+
+-- behind one more rule of the open step
+unfoldable pub withRule : Tally → Rule → Tally
+withRule o (Set f x) = moreRules o
+withRule o (Sum f x y) = moreRules o
+withRule o (Difference f x y) = moreRules o
+withRule o (Least f c x) = withRemote (moreRules o) (set (o .leasts) f true) (o .totals)
+withRule o (Total f c x) = withRemote (moreRules o) (o .leasts) (set (o .totals) f true)
+
+-- the lowest of 9 to 12
+unfoldable pub checksRefusal : Checks → ℕ
+checksRefusal c =
+    cond (not (c .named)) 9
+    (cond (not (c .kinded)) 10
+    (cond (not (c .short)) 11
+    (cond (not (c .ranged)) 12
+    0)))
+
+-- 8, for a line that stands outside steps; fits: the loop around, or none, is one that it asks for
+unfoldable pub misplaced : State → Bool → Bool
+misplaced st fits = st .in_step || not fits
+
+-- the lowest number for each sort of line
+unfoldable pub stepRefusal : State → ℕ
+stepRefusal st = cond (st .in_step) 8 (cond (not (ltb (st .steps) 32)) 13 0)
+
+unfoldable pub endRefusal : State → Bool → ℕ
+endRefusal st full = cond (not (st .in_step)) 8 (cond full 15 0)
+
+unfoldable pub doneRefusal : State → ℕ
+doneRefusal st = cond (misplaced st (isUsed (st .around))) 8 0
+
+unfoldable pub loopRefusal : State → Bool → ℕ
+loopRefusal st named = cond (misplaced st (isOutside (st .around))) 8 (cond (not named) 9 0)
+
+unfoldable pub ruleRefusal : State → Rule → Checks → ℕ
+ruleRefusal st r c =
+    cond (not (st .in_step)) 8
+    (orElse (checksRefusal c)
+    (cond (not (ltb (st .tally .rules) 32)) 13
+    (cond (otherSort (st .tally) r) 14
+    0)))
+
+-- the lowest number that applies to a line, 0 for a line that passes
+unfoldable pub refusalOf : State → Bool → LineRead → ℕ
+refusalOf st full L.Step = stepRefusal st
+refusalOf st full L.End = endRefusal st full
+refusalOf st full L.Done = doneRefusal st
+refusalOf st full (L.Loop f named) = loopRefusal st named
+refusalOf st full (L.Rule x c) = ruleRefusal st (x .rule) c
+refusalOf st full L.NoForm = 7
+
+-- behind the last line
+unfoldable pub lastRefusal : State → ℕ
+lastRefusal st = cond (misplaced st (isOutside (st .around))) 8 0
+
+-- the frame of the open step, and of a step that is the last of its loop
+unfoldable pub frameOf : State → Plan → Frame
+frameOf st p = record { rules = st .tally .rules; remote = st .tally .remote; setting = settingIn (st .around); plan = p }
+
+unfoldable pub lastFrame : Frame → Frame
+lastFrame f = record { rules = f .rules; remote = f .remote; setting = lastOf (f .setting); plan = f .plan }
+
+-- before the first line
+unfoldable pub startState : State
+startState = record { steps = 0; lines = 0; around = Outside; in_step = false; tally = noRules }
+
+-- the same steps, with this loop around, a step open or not, and this kept of its rules
+unfoldable pub standing : State → Around → Bool → Tally → State
+standing st a o x = record { steps = st .steps; lines = st .lines; around = a; in_step = o; tally = x }
+
+-- behind a line that has passed; n is the number of lines of the open step's plan
+unfoldable pub advanceOf : State → ℕ → LineRead → State
+advanceOf st n L.Step = standing st (st .around) true noRules
+advanceOf st n L.End = record { steps = st .steps + 1; lines = max (st .lines) n; around = withStep (st .around); in_step = false; tally = noRules }
+advanceOf st n L.Done = standing st Outside false noRules
+advanceOf st n (L.Loop f named) = standing st (Unused f) false noRules
+advanceOf st n (L.Rule x c) = standing st (st .around) true (withRule (st .tally) (x .rule))
+advanceOf st n L.NoForm = st

@@ -1,0 +1,13 @@
+-- `terms::term::chain_parts` meets its contract.
+-- Assumes nothing.
+use mathlib.Core.Path.{refl}
+use Rattle.terms.specs.Read.{chainParts}
+use Rattle.terms.proofs.term.chain_parts.Statement.{statement}
+use Rattle.terms.proofs.term.chain_parts.Tie as tie
+
+returns : tie.Need-returns
+unfolding chainParts
+returns c = refl
+
+pub chain-parts-spec : {M : Type 1} → statement M
+chain-parts-spec = tie.close (tie.spec returns)

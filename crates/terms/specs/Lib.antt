@@ -1,0 +1,2 @@
+-- What the readers of words, numbers and terms answer.
+pub mod Read
