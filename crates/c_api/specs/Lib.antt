@@ -1,4 +1,3 @@
 -- The C interface: what the exported functions answer.
 pub mod Answer
-pub mod PlanArrays
 pub mod PlanAnswer

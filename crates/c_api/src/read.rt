@@ -1,70 +1,8 @@
 // A single reading.
-ghost use mathlib.Core.Path.{_≡_};
-ghost use Rattle.chain.specs.Reading.{reading, readingOutcome, refusalNumber as chainNumber};
-ghost use Rattle.register.specs.Outcome.{done, refused as refusedWith};
-ghost use Rattle.c_api.specs.Answer.{readNumbers, ReadAnswer};
-use chain::reading::ReadingAnswer;
-use register::cells::Cell;
-
-fn chain_number(refusal: chain::reading::Refusal) -> u32
-    ensures { λ r. ⌜ r ≡ chainNumber refusal ⌝ }
-{
-    match refusal {
-        chain::reading::Refusal::Form => 7,
-        chain::reading::Refusal::Field => 9,
-        chain::reading::Refusal::Kind => 10,
-        chain::reading::Refusal::Hops => 11,
-    }
-}
-
-// The numbers of a reading's answer.
-pub struct ReadNumbers {
-    pub number: u32,
-    pub line: u64,
-    pub value: i64,
-    pub filled: u64,
-}
-
-fn refused(number: u32, line: u64) -> ReadNumbers
-    ensures { λ r. ⌜ r ≡ readNumbers (refusedWith number line) ⌝ }
-{
-    ReadNumbers {
-        number,
-        line,
-        value: 0,
-        filled: 0,
-    }
-}
-
-fn read(cell: Cell) -> ReadNumbers
-    ensures { λ r. ⌜ r ≡ readNumbers (done cell) ⌝ }
-{
-    match cell {
-        Cell::Missing => ReadNumbers {
-            number: 0,
-            line: 0,
-            value: 0,
-            filled: 0,
-        },
-        Cell::Value(value) => ReadNumbers {
-            number: 0,
-            line: 0,
-            value: integers::widen(value),
-            filled: 1,
-        },
-    }
-}
-
-fn numbers(answer: ReadingAnswer) -> ReadNumbers
-    ensures { λ r. ⌜ r ≡ readNumbers (readingOutcome answer) ⌝ }
-{
-    match answer {
-        ReadingAnswer::Read(cell) => read(cell),
-        ReadingAnswer::Register(refusal) => refused(register::number_of(refusal), 0),
-        ReadingAnswer::Chain(refusal) => refused(chain_number(refusal), 1),
-        ReadingAnswer::Record => refused(16, 0),
-    }
-}
+ghost use Rattle.chain.specs.Reading.{reading};
+ghost use Rattle.answers.specs.Numbers.{readNumbers};
+ghost use Rattle.c_api.specs.Answer.{ReadAnswer};
+use answers::reading;
 
 // The reading of a chain at record u: the refusal number, 0 for none.
 #[no_mangle]
@@ -77,7 +15,7 @@ pub extern "C" fn plot_read(
 ) -> u32
     ensures { λ r. ⌜ ReadAnswer (readNumbers (reading (now (file .entry)) (now (text .entry)) u)) r (now (value .exit)) (now (answer .exit)) ⌝ }
 {
-    let numbers = numbers(chain::reading::reading(file, text, u));
+    let numbers = reading::numbers(chain::reading::reading(file, text, u));
     let found = numbers.value;
     *value = found;
     *answer = [numbers.line, 0, 0, 0, 0, 0, numbers.filled, 0];

@@ -1,15 +1,7 @@
 // The plan of a step.
-ghost use mathlib.Core.Path.{_≡_};
 ghost use Rattle.rules.specs.Text.{planOfStep};
-ghost use Rattle.c_api.specs.Answer.{flagNumber};
 ghost use Rattle.c_api.specs.PlanAnswer.{PlanAnswer};
-use crate::plan_arrays;
-
-fn flag_number(flag: bool) -> u64
-    ensures { λ r. ⌜ r ≡ flagNumber flag ⌝ }
-{
-    if flag { 1 } else { 0 }
-}
+use answers::plan_arrays;
 
 // The plan of a step, counted from 1: the refusal number, 0 for none. On a refusal the three arrays stay as they are.
 #[no_mangle]
@@ -32,6 +24,15 @@ pub extern "C" fn plot_plan(
     let plan = found.plan;
     let count = plan.count;
     plan_arrays::fill(plan, kinds, chains, rounds);
-    *answer = [0, 0, 0, 0, 0, 0, count as u64, flag_number(found.remote)];
+    *answer = [
+        0,
+        0,
+        0,
+        0,
+        0,
+        0,
+        count as u64,
+        plan_arrays::flag_number(found.remote),
+    ];
     0
 }
