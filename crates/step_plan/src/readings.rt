@@ -131,7 +131,7 @@ fn with_reading(step: Added, chain: u64) -> Added
     if plan::is_planned(&plan.keys, count, chain) {
         return step;
     }
-    plan.add(chain)
+    planner::add(plan, chain)
 }
 
 fn with_pair(step: Added, pair: Pair) -> Added

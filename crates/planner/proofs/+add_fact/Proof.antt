@@ -8,23 +8,23 @@ use borrow.Author.Tests.{lt-ltb, le-ltb}
 use borrow.Fn.Kinds.{In}
 use borrow.Fn.PlainCycle.{Measures, is, falls, and}
 use denote.Ref.{now}
 use Rattle.plan.specs.Plan.{Fact, hops, back-need, read-need, add}
 use Rattle.plan.specs.Held.{fact-of, facts-in, Holds, plan-of, ExtendedTo}
 use Rattle.plan.specs.declared.Plan.{Plan}
 use Rattle.plan.proofs.Keys.{hops-short, hops-long}
 use Rattle.plan.proofs.Settled.{unsettled-line, unsettled-new}
 use Rattle.plan.proofs.Appending.{line-one}
 use Rattle.plan.proofs.Adding.{holds-facts, extended-holds, extended-settled, extended-as, needs-shorter, NewOne, NewBoth, one-next, one-done, back-full, read-full, both-next, both-done}
-use Rattle.plan.proofs.add_fact.Reads as add-fact
-use Rattle.plan.proofs.add_fact.Kinds as add-fact-kinds
-use Rattle.plan.proofs.+add_fact.Lts-add_fact as add-fact-lts
+use Rattle.planner.proofs.add_fact.Reads as add-fact
+use Rattle.planner.proofs.add_fact.Kinds as add-fact-kinds
+use Rattle.planner.proofs.+add_fact.Lts-add_fact as add-fact-lts
 use Rattle.plan.proofs.key.needs_of.Reads as needs-of-reads
 use Rattle.plan.proofs.lines.append.Reads as append-reads
 use Rattle.plan.proofs.lines.first_line.Reads as first-line-reads
 use Rattle.plan.proofs.lines.is_settled.Reads as is-settled-reads
 use Rattle.plan.proofs.lines.line_after.Reads as line-after-reads
-use Rattle.plan.proofs.+add_fact.{statement}
-use Rattle.plan.proofs.+add_fact.Tie.{close}
+use Rattle.planner.proofs.+add_fact.{statement}
+use Rattle.planner.proofs.+add_fact.Tie.{close}
 
 abbrev μ-add-fact : Measures 4 add-fact-kinds.ps ℕ
 μ-add-fact κs a = hops (fact-of (a .1 .1 .1 .1 .1 .0))
