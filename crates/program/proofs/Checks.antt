@@ -18,11 +18,12 @@ use Rattle.plan.proofs.Adding.{holds-facts}
 use Rattle.plan.proofs.Appending.{holds-count}
 use Rattle.rules.specs.Program.{Rule, Program, stepPlan, hasRemote}
 use Rattle.rules.specs.Text.{lines, start, readFrom, textProgram, check, rulesAt, Planned, planned, planOfStep}
-use Rattle.program.specs.Kept.{programOf, Framed, outcomeOf, Answers, zip, linesOf, planOutcome, PlanAnswers, RefusedPlan}
+use Rattle.reader.specs.Kept.{programOf, Framed, outcomeOf, Answers}
+use Rattle.program.specs.StepPlan.{zip, linesOf, planOutcome, PlanAnswers, RefusedPlan}
 use Rattle.reader_state.specs.declared.state.Frame.{Frame}
-use Rattle.program.specs.declared.reader.Checked.{Checked}
+use Rattle.reader.specs.declared.Checked.{Checked}
 use Rattle.program.specs.declared.step.StepPlan.{StepPlan}
-use Rattle.program.proofs.Reading.{refuse-none}
+use Rattle.reader.proofs.Reading.{refuse-none}
 
 -- 6, and any other text
 module _ (s : Sizes) (t : List ℕ) where

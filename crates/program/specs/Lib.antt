@@ -1,2 +1,2 @@
--- A program as the code holds it, and what check and the plan of a step answer.
-pub mod Kept
+-- What the plan of a step answers.
+pub mod StepPlan

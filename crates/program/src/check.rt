@@ -3,9 +3,8 @@ ghost use Prim.Native.Nat.{_≤_};
 ghost use Rattle.register.specs.Shape.{Limits};
 ghost use Rattle.register.specs.Outcome.{refused as refusedWith};
 ghost use Rattle.rules.specs.Text.{textProgram, check as checkOf};
-ghost use Rattle.program.specs.Kept.{Answers};
-use crate::reader;
-use crate::reader::Checked;
+ghost use Rattle.reader.specs.Kept.{Answers};
+use reader::Checked;
 use register::LoadAnswer;
 use register::Sizes;
 

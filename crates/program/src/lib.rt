@@ -1,4 +1,3 @@
 // Programs: check, which reads a rules text into one, and the plan of a step.
 pub mod check;
-pub mod reader;
 pub mod step;

@@ -1,6 +1,6 @@
 // Document 01's plan of a step.
 ghost use Rattle.rules.specs.Text.{planOfStep};
-ghost use Rattle.program.specs.Kept.{PlanAnswers, RefusedPlan};
+ghost use Rattle.program.specs.StepPlan.{PlanAnswers, RefusedPlan};
 use crate::check;
 use plan::Plan;
 

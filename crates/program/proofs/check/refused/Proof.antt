@@ -2,7 +2,7 @@
 -- Assumes nothing.
 use mathlib.Core.Path.{refl}
 use native.Mathlib.Omega.{arith}
-use Rattle.program.proofs.Reading.{answer-refused}
+use Rattle.reader.proofs.Reading.{answer-refused}
 use borrow.Author.Needs.{needs}
 use Rattle.program.proofs.check.refused.Statement.{statement}
 use Rattle.program.proofs.check.refused.Tie as tie

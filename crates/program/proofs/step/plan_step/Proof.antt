@@ -7,7 +7,7 @@ use denote.Ref.{now}
 use Rattle.register.specs.Outcome.{done}
 use Rattle.rules.specs.Text.{check}
 use Rattle.rules.proofs.Passing.{check-passes}
-use Rattle.program.specs.Kept.{programOf, Complete}
+use Rattle.reader.specs.Kept.{programOf, Complete}
 use Rattle.program.proofs.Checks.{answered-refused, answered-program, plan-refused, step-zero, step-past, step-there}
 use borrow.Author.Needs.{needs}
 use Rattle.program.proofs.step.plan_step.Statement.{statement}

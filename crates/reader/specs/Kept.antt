@@ -1,20 +1,15 @@
 -- What the reader's arrays hold of a program, and its answer.
-use Prim.Native.Nat.{ℕ}
 use mathlib.Core.Path.{_≡_}
 use mathlib.Core.List.{List, [], _∷_}
 use lib.ListN.{length, take, drop}
 use Rattle.register.specs.Outcome.{Outcome, done, unless}
-use Rattle.plan.specs.Plan.{Fact}
-use Rattle.plan.specs.Held.{facts, Holds}
-use Rattle.plan.specs.declared.Plan.{Plan}
+use Rattle.plan.specs.Held.{Holds}
 use Rattle.rules.specs.Program.{Step, Program, stepPlan, hasRemote, mostLines}
-use Rattle.rules.specs.Text.{Planned}
 use Rattle.actions.specs.declared.rule.Slot.{Slot}
 use Rattle.step_plan.specs.Stored.{rulesIn}
 use Rattle.reader_state.specs.declared.state.Frame.{Frame}
-use Rattle.program.specs.declared.reader.Program as R
-use Rattle.program.specs.declared.reader.Checked.{Checked}
-use Rattle.program.specs.declared.step.StepPlan.{StepPlan}
+use Rattle.reader.specs.declared.Program as R
+use Rattle.reader.specs.declared.Checked.{Checked}
 
 -- the steps of these frames, each with 32 places: rule k of step s stands at 32 × s + k
 unfoldable pub stepsIn : List Slot → List Frame → Program
@@ -45,27 +40,3 @@ outcomeOf r = unless (r .refusal) (r .line) (done (programOf (r .program)))
 pub record Answers (o : Outcome Program) (r : Checked) : Type 0 where
   pub outcome-is : outcomeOf r ≡ o
   pub complete : r .refusal ≡ 0 → Complete (r .program)
-
--- two lists side by side, as far as the first goes
-unfoldable pub zip : List Fact → List ℕ → List (Fact × ℕ)
-zip [] ns = []
-zip (f ∷ fs) [] = []
-zip (f ∷ fs) (n ∷ ns) = (f, n) ∷ zip fs ns
-
--- the lines of a plan, each with its round
-unfoldable pub linesOf : Plan → List (Fact × ℕ)
-linesOf p = zip (facts p) (p .rounds)
-
--- the outcome of the plan of a step
-unfoldable pub planOutcome : StepPlan → Outcome Planned
-planOutcome r = unless (r .refusal) (r .line) (done (record { plan-lines = linesOf (r .plan); remote = r .remote }))
-
--- an answer of this outcome, with a plan whose arrays hold its lines where nothing is refused
-pub record PlanAnswers (o : Outcome Planned) (r : StepPlan) : Type 0 where
-  pub outcome-is : planOutcome r ≡ o
-  pub sound : r .refusal ≡ 0 → Holds (r .plan) (facts (r .plan))
-
--- a refusal, whatever the plan
-pub record RefusedPlan (n line : ℕ) (r : StepPlan) : Type 0 where
-  pub refusal-is : r .refusal ≡ n
-  pub line-is : r .line ≡ line

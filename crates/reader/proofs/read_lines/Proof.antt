@@ -1,4 +1,4 @@
--- `program::reader::read_lines` meets its contract. The loop's invariant: some state of the definition has been reached, and the arrays,
+-- `reader::read_lines` meets its contract. The loop's invariant: some state of the definition has been reached, and the arrays,
 -- the open step's plan and what is kept beside them stand for it.
 -- Assumes nothing.
 use Prim.Native.Nat.{ℕ, _-_, _≤_, _<_}
@@ -12,12 +12,12 @@ use Rattle.register.specs.Outcome.{refused}
 use Rattle.rules.specs.Text.{advance}
 use Rattle.rules.specs.Check.{openRules}
 use Rattle.reader_state.specs.State.{advanceOf}
-use Rattle.program.proofs.Arms.{Behind, open-sound, open-keyed, open-more, open-same}
-use Rattle.program.proofs.Reading.{Read, Passes, passes, stopped, small, again, arm-step, arm-loop, arm-none, arm-end-steps, arm-end, arm-done-steps, arm-done, arm-steps, arm-rules, arm-short, arm-rule, answer-refused, answer-read, begun}
+use Rattle.reader.proofs.Arms.{Behind, open-sound, open-keyed, open-more, open-same}
+use Rattle.reader.proofs.Reading.{Read, Passes, passes, stopped, small, again, arm-step, arm-loop, arm-none, arm-end-steps, arm-end, arm-done-steps, arm-done, arm-steps, arm-rules, arm-short, arm-rule, answer-refused, answer-read, begun}
 use Rattle.reader_state.proofs.Refusals.{or-first, or-none}
 use borrow.Author.Needs.{needs}
-use Rattle.program.proofs.reader.read_lines.Statement.{statement}
-use Rattle.program.proofs.reader.read_lines.Tie as tie
+use Rattle.reader.proofs.read_lines.Statement.{statement}
+use Rattle.reader.proofs.read_lines.Tie as tie
 
 abbrev Inv-loop : tie.InvT-loop
 Inv-loop text sizes slots₀ frames₀ state₀ plan₀ full₀ at₀ line₀ refusal₀ slots frames state plan full at line refusal =

@@ -11,7 +11,7 @@ use Rattle.actions.specs.declared.rule.Slot.{Slot}
 use Rattle.rules.specs.Program.{Step, stepPlan, hasRemote}
 use Rattle.rules.specs.Text.{closeLoop}
 use Rattle.step_plan.specs.Stored.{ruleOf, rulesIn}
-use Rattle.program.specs.Kept.{stepsIn, Framed}
+use Rattle.reader.specs.Kept.{stepsIn, Framed}
 use Rattle.reader_state.specs.State.{lastFrame}
 use Rattle.reader_state.specs.declared.state.Frame.{Frame}
 

@@ -3,7 +3,7 @@ ghost use Prim.Native.Nat.{_≤_};
 ghost use lib.ListN.{length};
 ghost use Rattle.register.specs.Shape.{Limits};
 ghost use Rattle.rules.specs.Text.{lines, start as startOf, readFrom};
-ghost use Rattle.program.specs.Kept.{Answers};
+ghost use Rattle.reader.specs.Kept.{Answers};
 use actions::rule::Rule;
 use actions::rule::Slot;
 use actions::rule::Test;

@@ -46,7 +46,7 @@ use Rattle.rules.proofs.Checked.{Clean, rule-fine}
 use Rattle.rules.proofs.Loops.{openLoop}
 use Rattle.rules.proofs.Passing.{Reached}
 use Rattle.step_plan.specs.Stored.{termOf, testOf, actionOf, ruleOf, rulesIn}
-use Rattle.program.specs.Kept.{stepsIn, Framed}
+use Rattle.reader.specs.Kept.{stepsIn, Framed}
 use Rattle.step_plan.specs.Readings.{chainIn, testChains, ruleChains, slotChains, pairWords, words, Short, Sound, PlannedWith, allSettled}
 use Rattle.reader_state.specs.State.{noRules, moreRules, withRemote, withRule, frameOf, lastFrame, standing, advanceOf}
 use Rattle.reader_state.specs.declared.tally.Tally.{Tally}
@@ -55,7 +55,7 @@ use Rattle.reader_state.specs.declared.state.State as S
 use Rattle.step_plan.proofs.Plans.{readings-full, all-same, slot-plan}
 use Rattle.step_plan.proofs.Slots.{rule-of}
 use Rattle.reader_state.proofs.Standing.{Stands}
-use Rattle.program.proofs.Keeping.{store-steps, store-rule, more-frames, framed-more, close-frames, framed-close}
+use Rattle.reader.proofs.Keeping.{store-steps, store-rule, more-frames, framed-more, close-frames, framed-close}
 
 -- what the arrays hold of the lines so far
 pub record Kept (slots : List Slot) (frames : List Frame) (x : S.State) (st : State) : Type 0 where
