@@ -1,22 +1,20 @@
 -- What the readers of a rule and its parts answer, and a rule's test as a program holds it.
-use Prim.Native.Nat.{ℕ, _+_}
+use Prim.Native.Nat.{ℕ}
 use mathlib.Core.Path.{_≡_}
 use mathlib.Core.Bool.{Bool, true, false, not, _&&_}
-use mathlib.Core.List.{List, [], _∷_}
+use mathlib.Core.List.{List}
 use mathlib.Core.Option.{Option, none, some}
 use lib.ListN.{take}
 use Rattle.register.specs.declared.Sizes.{Sizes}
 use Rattle.chain.specs.Word.{pack}
-use Rattle.chain.specs.Text.{names, fieldOf, wordOf, isReferenceLetter, Form, formed, unformed}
-use Rattle.chain.specs.Scan.{chainEnd}
-use Rattle.chain.specs.declared.letters.Letters.{Letters}
+use Rattle.chain.specs.Text.{names, fieldOf, wordOf, isReferenceLetter}
 use Rattle.syntax.specs.Written as W
 use Rattle.syntax.specs.Token.{Token, token, other, then, word, or, finished}
 use Rattle.syntax.specs.Term.{termForm}
 use Rattle.syntax.specs.Line.{made}
 use Rattle.syntax.specs.Bytes.{bytes}
-use Rattle.syntax.specs.Parts.{everyTerm, termNamed, termKinded, termShort, termInRange, actionTerms, target, actionKinds, isReferenceTerm}
-use Rattle.terms.specs.Read.{termOf, partsOf, termChecks, chainParts}
+use Rattle.syntax.specs.Parts.{everyTerm, termNamed, termKinded, termShort, termInRange, actionTerms, target, actionKinds}
+use Rattle.terms.specs.Read.{termOf, partsOf}
 use Rattle.terms.specs.declared.term.Checks.{Checks}
 use Rattle.terms.specs.declared.term.TermParts.{TermParts}
 use Rattle.actions.specs.declared.rule.Rule.{Rule}
@@ -31,9 +29,6 @@ use Rattle.actions.specs.declared.action.LastRead.{LastRead}
 use Rattle.actions.specs.declared.action.LastRead.the-variants.{Term, NoForm as NoTerm}
 use Rattle.actions.specs.declared.action.ActionRead.{ActionRead}
 use Rattle.actions.specs.declared.action.ActionRead.the-variants.{Action, NoForm}
-use Rattle.actions.specs.declared.remote.Target.{Target}
-use Rattle.actions.specs.declared.remote.TargetRead.{TargetRead}
-use Rattle.actions.specs.declared.remote.TargetRead.the-variants.{At, NoForm as NoTarget}
 
 -- what 9 to 12 ask of two parts
 unfoldable pub bothChecks : Checks → Checks → Checks
@@ -66,7 +61,7 @@ unfoldable pub measured : ℕ → Bool → Bool
 measured f reference = not (isReferenceLetter f) && not reference
 
 -- a chain of at most 16 hops as a program holds it; of a longer one the first 16
-abbrev packed : List ℕ → ℕ
+abbrev pub packed : List ℕ → ℕ
 packed ls = pack (wordOf (take 16 ls))
 
 -- a rule as a program holds it
@@ -116,32 +111,6 @@ ForTerm s p answer r = (w : W.Term) → p ≡ partsOf s w → r ≡ answer w
 -- an answer that is right for every two terms with these parts
 abbrev pub ForTerms : Sizes → TermParts → TermParts → (W.Term → W.Term → ActionRead) → ActionRead → Type 0
 ForTerms s p q answer r = (v w : W.Term) → p ≡ partsOf s v → q ≡ partsOf s w → r ≡ answer v w
-
--- ` += X` behind `remote F[C]`
-abbrev pub totalForm : ℕ → List ℕ → List ℕ → Option W.Action
-totalForm f c t = made (W.total f c) (bytes " += ") t
-
--- a target by its letter and the letters of C
-unfoldable pub targetOf : Sizes → ℕ → List ℕ → Target
-targetOf s f c = record { letter = f; chain = packed c; reference = isReferenceTerm (W.chain c); checks = termChecks s (W.chain c) }
-
--- a target by its letter, what is known of the letters of C, and the first byte of their text
-unfoldable pub targetFrom : ℕ → Letters → ℕ → Target
-targetFrom f x b = record { letter = f; chain = x .packed; reference = chainParts x b .reference; checks = chainParts x b .checks }
-
--- what 9 to 12 ask of a remote rule, by its target, its term, and whether F and the term are of the right kinds
-unfoldable pub remoteChecks : Sizes → Target → TermParts → Bool → Checks
-remoteChecks s g x kinds = ruleChecks (names s (g .letter)) (g .reference && kinds) (bothChecks (g .checks) (x .checks))
-
--- the answer for a target whose C begins at `at`
-unfoldable pub targetRead : Sizes → ℕ → Form → TargetRead
-targetRead s at unformed = NoTarget
-targetRead s at (formed [] r) = NoTarget
-targetRead s at (formed (f ∷ c) r) = At (targetOf s f c) (chainEnd at c + 1)
-
--- an answer that is right for every target with these parts
-abbrev pub ForTarget : Sizes → Target → (ℕ → List ℕ → ActionRead) → ActionRead → Type 0
-ForTarget s p answer r = (f : ℕ) (c : List ℕ) → p ≡ targetOf s f c → r ≡ answer f c
 
 -- a comparison of the code as it is written
 unfoldable pub written : Comparison → W.Comparison

@@ -1,4 +1,3 @@
-// The rules of a program, and the readers of a rule without its test.
+// The rules of a program, and the readers of a local rule without its test.
 pub mod action;
-pub mod remote;
 pub mod rule;

@@ -9,12 +9,12 @@ ghost use Rattle.lines.specs.LineRead.{alwaysParts, whenParts, ruleRead,
 use actions::action;
 use actions::action::ActionRead;
 use actions::action::Letter;
-use actions::remote;
 use actions::rule::Comparison;
 use actions::rule::Slot;
 use actions::rule::Test;
 use chain::letters;
 use register::Sizes;
+use remotes::remote;
 use terms::term;
 use terms::term::Checks;
 use terms::term::TermParts;

@@ -1,4 +1,4 @@
--- `actions::remote::read_closed` meets its contract.
+-- `remotes::remote::read_closed` meets its contract.
 -- Assumes nothing.
 use Prim.Native.Nat.{_+_}
 use mathlib.Core.Path.{_≡_, sym, ap, _∙_}
@@ -12,13 +12,13 @@ use Rattle.chain.specs.Text.{form}
 use Rattle.chain.specs.Scan.{startsWith, scanned}
 use Rattle.chain.specs.declared.text.Scanned.the-variants.{Chain}
 use Rattle.chain.proofs.Scanning.{first-at, starts-inside}
-use Rattle.actions.specs.ActionRead.{targetFrom}
-use Rattle.actions.specs.declared.remote.Target.{Target}
-use Rattle.actions.specs.declared.remote.TargetRead.the-variants.{At}
+use Rattle.remotes.specs.RemoteRead.{targetFrom}
+use Rattle.remotes.specs.declared.remote.Target.{Target}
+use Rattle.remotes.specs.declared.remote.TargetRead.the-variants.{At}
 use Rattle.terms.proofs.Answers.{scan-text}
-use Rattle.actions.proofs.Remotes.{closed-no-chain, closed-open, closed-chain}
-use Rattle.actions.proofs.remote.read_closed.Statement.{statement}
-use Rattle.actions.proofs.remote.read_closed.Tie as tie
+use Rattle.remotes.proofs.Remotes.{closed-no-chain, closed-open, closed-chain}
+use Rattle.remotes.proofs.remote.read_closed.Statement.{statement}
+use Rattle.remotes.proofs.remote.read_closed.Tie as tie
 
 -- the chain and the bracket that were read on the way
 chain-read : (c : tie.After-inner) → let a = c .before .before .before .before .args in

@@ -1,14 +1,14 @@
--- `actions::remote::read_action` meets its contract.
+-- `remotes::remote::read_action` meets its contract.
 -- Assumes nothing.
 use mathlib.Core.Path.{sym, ap, _∙_}
 use borrow.Author.Needs.{needs}
 use denote.Ref.{now}
 use Rattle.syntax.specs.Bytes.{bytes}
 use Rattle.actions.specs.ActionRead.{actionRead}
 use Rattle.terms.proofs.Words.{literal-taken, literal-refused, Taken}
-use Rattle.actions.proofs.Remotes.{target-taken, target-refused, action-local, action-no-target, action-sent, Targeted}
-use Rattle.actions.proofs.remote.read_action.Statement.{statement}
-use Rattle.actions.proofs.remote.read_action.Tie as tie
+use Rattle.remotes.proofs.Remotes.{target-taken, target-refused, action-local, action-no-target, action-sent, Targeted}
+use Rattle.remotes.proofs.remote.read_action.Statement.{statement}
+use Rattle.remotes.proofs.remote.read_action.Tie as tie
 
 -- the word and the target that were read on the way
 word-read : (c : tie.After-start) → let a = c .before .before .before .before .before .args in Taken (now (a .line)) (bytes "remote ") (a .at) (c .start .given .0 .0)

@@ -1,4 +1,4 @@
--- `actions::remote::read_target` meets its contract.
+-- `remotes::remote::read_target` meets its contract.
 -- Assumes nothing.
 use Prim.Native.Nat.{_+_, _<_}
 use mathlib.Core.Path.{_≡_, sym, _∙_}
@@ -10,9 +10,9 @@ use lib.ListN.{length, drop}
 use denote.Ref.{now}
 use Rattle.chain.specs.Scan.{opens}
 use Rattle.chain.proofs.Scanning.{opens-inside}
-use Rattle.actions.proofs.Remotes.{target-none, target-opens}
-use Rattle.actions.proofs.remote.read_target.Statement.{statement}
-use Rattle.actions.proofs.remote.read_target.Tie as tie
+use Rattle.remotes.proofs.Remotes.{target-none, target-opens}
+use Rattle.remotes.proofs.remote.read_target.Statement.{statement}
+use Rattle.remotes.proofs.remote.read_target.Tie as tie
 
 -- a letter and a bracket stand there
 opened : (c : tie.Else1) → let a = c .before .before .before .args in opens (drop (a .at) (now (a .line))) ≡ true

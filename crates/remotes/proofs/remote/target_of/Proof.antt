@@ -1,9 +1,9 @@
--- `actions::remote::target_of` meets its contract.
+-- `remotes::remote::target_of` meets its contract.
 -- Assumes nothing.
 use borrow.Author.Needs.{needs}
-use Rattle.actions.specs.ActionRead.{targetFrom}
-use Rattle.actions.proofs.remote.target_of.Statement.{statement}
-use Rattle.actions.proofs.remote.target_of.Tie as tie
+use Rattle.remotes.specs.RemoteRead.{targetFrom}
+use Rattle.remotes.proofs.remote.target_of.Statement.{statement}
+use Rattle.remotes.proofs.remote.target_of.Tie as tie
 
 chain-parts-requires : tie.Need-chain-parts-requires
 chain-parts-requires c κs = search needs

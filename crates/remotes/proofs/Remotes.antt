@@ -21,16 +21,17 @@ use Rattle.syntax.specs.Token.{capital, then, or, begins}
 use Rattle.syntax.specs.Line.{sent, remoteForm, localForm, actionForm}
 use Rattle.syntax.specs.Parts.{same, target, actionKinds, areMeasures, actionTerms}
 use Rattle.terms.specs.Read.{partsOf, chainParts}
-use Rattle.actions.specs.ActionRead.{lastTerm, lastRead, totalForm, actionChecks, measured, ruleOfAction, actionRead, targetOf, targetFrom, targetRead, remoteChecks}
+use Rattle.actions.specs.ActionRead.{lastTerm, lastRead, actionChecks, measured, ruleOfAction, actionRead}
+use Rattle.remotes.specs.RemoteRead.{totalForm, targetOf, targetFrom, targetRead, remoteChecks}
 use Rattle.actions.specs.declared.action.LastRead.the-variants.{Term, NoForm as NoTerm}
 use Rattle.actions.specs.declared.action.ActionRead.the-variants.{Action, NoForm}
-use Rattle.actions.specs.declared.remote.Target.{Target}
-use Rattle.actions.specs.declared.remote.TargetRead.the-variants.{At, NoForm as NoTarget}
+use Rattle.remotes.specs.declared.remote.Target.{Target}
+use Rattle.remotes.specs.declared.remote.TargetRead.the-variants.{At, NoForm as NoTarget}
 use Rattle.actions.specs.declared.rule.Rule.the-variants.{Least, Total}
 use Rattle.terms.specs.declared.term.TermParts.{TermParts}
 use Rattle.terms.proofs.Words.{Taken, begins-text}
 use Rattle.terms.proofs.Answers.{chain-parts, reference-first}
 use Rattle.actions.proofs.Actions.{Last, made-none, made-some, checks-two, word-refused, or-word}
 
 -- the answers for remote rules, by the parts of their target and term
 module _ (s : Sizes) (g : Target) (f : ℕ) (c : List ℕ) (e : g ≡ targetOf s f c) (p : TermParts) (x : W.Term) (h : p ≡ partsOf s x) where

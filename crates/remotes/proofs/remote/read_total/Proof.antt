@@ -1,14 +1,13 @@
--- `actions::remote::read_sent` meets its contract.
+-- `remotes::remote::read_total` meets its contract.
 -- Assumes nothing.
 use mathlib.Core.Path.{sym, ap, _∙_}
 use borrow.Author.Needs.{needs}
-use Rattle.chain.specs.Text.{isReferenceLetter}
 use Rattle.chain.proofs.Steps.{capital-low}
 use Rattle.actions.specs.ActionRead.{actionRead}
 use Rattle.actions.proofs.Actions.{last-taken}
-use Rattle.actions.proofs.Remotes.{sent-none, sent-some, least-read}
-use Rattle.actions.proofs.remote.read_sent.Statement.{statement}
-use Rattle.actions.proofs.remote.read_sent.Tie as tie
+use Rattle.remotes.proofs.Remotes.{total-none, total-some, total-read}
+use Rattle.remotes.proofs.remote.read_total.Statement.{statement}
+use Rattle.remotes.proofs.remote.read_total.Tie as tie
 
 slice-aggregate-read-last : tie.Need-slice-aggregate-read-last
 slice-aggregate-read-last c = search needs
@@ -22,45 +21,37 @@ enum-known-x c = search needs
 enum-told : tie.Need-enum-told
 enum-told c = search needs
 
-read-total-requires : tie.Need-read-total-requires
-read-total-requires c κs = search needs
-
 returns : tie.Need-returns
-returns c =
-    let a = c .before .before .before .before .before .before .args in
-    let none-read = sym (c .before .before .before .read-last .ensures) ∙ c .before .enum-told .given .1 in
-    λ f w e. c .read-total .ensures f w e ∙ sym (ap (actionRead (a .sizes)) (sent-none (a .sizes) f w _ none-read))
+returns c = λ f w e. sym (total-none _ f w _ (sym (c .before .before .read-last .ensures) ∙ c .enum-told .given .1))
 
 field-of-requires : tie.Need-field-of-requires
 field-of-requires c κs = capital-low _ (c .before .before .before .before .before .before .pre .2)
 
-same-requires : tie.Need-same-requires
-same-requires c κs = search needs
+measures-requires : tie.Need-measures-requires
+measures-requires c κs = search needs
 
 remote-rule-requires : tie.Need-remote-rule-requires
 remote-rule-requires c κs = search needs
 
 returns-2 : tie.Need-returns-2
-unfolding isReferenceLetter
 returns-2 c =
     let a = c .before .before .before .before .before .before .before .before .before .args in
     let l = last-taken _ _ _ (sym (c .before .before .before .before .before .before .read-last .ensures) ∙ c .before .before .before .before .x .given .1) in
     λ f w e.
     c .remote-rule .ensures
-    ∙ rw (c .before .before .field-of .ensures, c .before .same .ensures)
-    (least-read (a .sizes) (a .target) f w e _ (l .written) (l .parts) ∙ sym (ap (actionRead (a .sizes)) (sent-some (a .sizes) f w _ l)))
+    ∙ rw (c .before .before .field-of .ensures, c .before .measures .ensures)
+    (total-read (a .sizes) (a .target) f w e _ (l .written) (l .parts) ∙ sym (ap (actionRead (a .sizes)) (total-some (a .sizes) f w _ l)))
 
-pub read-sent-spec : {M : Type 1} → statement M
-read-sent-spec =
+pub read-total-spec : {M : Type 1} → statement M
+read-total-spec =
     tie.close
     (tie.spec
     slice-aggregate-read-last
     read-last-requires
     enum-known-x
     enum-told
-    read-total-requires
     returns
     field-of-requires
-    same-requires
+    measures-requires
     remote-rule-requires
     returns-2)

@@ -1,10 +1,10 @@
--- `actions::remote::remote_rule` meets its contract.
+-- `remotes::remote::remote_rule` meets its contract.
 -- Assumes nothing.
 use mathlib.Core.Path.{_∙_}
 use borrow.Author.Needs.{needs}
-use Rattle.actions.specs.ActionRead.{remoteChecks}
-use Rattle.actions.proofs.remote.remote_rule.Statement.{statement}
-use Rattle.actions.proofs.remote.remote_rule.Tie as tie
+use Rattle.remotes.specs.RemoteRead.{remoteChecks}
+use Rattle.remotes.proofs.remote.remote_rule.Statement.{statement}
+use Rattle.remotes.proofs.remote.remote_rule.Tie as tie
 
 both-requires : tie.Need-both-requires
 both-requires c κs = search needs

@@ -1,0 +1,2 @@
+-- What the readers of a remote rule answer.
+pub mod RemoteRead

@@ -1,0 +1,2 @@
+// The readers of a remote rule without its test.
+pub mod remote;
