@@ -1,3 +1,2 @@
--- The first line of a text, and what the line reader answers.
+-- What the line reader answers.
 pub mod LineRead
-pub mod Front

@@ -14,13 +14,12 @@ use Rattle.syntax.specs.Token.{capital, then, word, or, finished, begins}
 use Rattle.syntax.specs.Term.{termForm}
 use Rattle.syntax.specs.Line.{actionForm, ruleOf, testedForm}
 use Rattle.syntax.specs.Parts.{same, conditionTerms, conditionKinds, named, kinded, short, numbersInRange}
-use Rattle.terms.specs.Read.{termOf, partsOf}
+use Rattle.terms.specs.Read.{partsOf}
 use Rattle.actions.specs.ActionRead.{bothChecks, termsChecks, ruleChecks, ruleOfAction, written, testOf}
 use Rattle.terms.specs.declared.term.Checks.{Checks}
 use Rattle.terms.specs.declared.term.TermParts.{TermParts}
 use Rattle.actions.specs.declared.rule.Comparison.{Comparison}
 use Rattle.actions.specs.declared.rule.Comparison.the-variants.{Less, Equal, Unequal}
-use Rattle.actions.specs.declared.rule.Test.{Test}
 use Rattle.actions.specs.declared.rule.Test.the-variants.{Always, When}
 use Rattle.actions.specs.declared.action.ActionRead.{ActionRead}
 use Rattle.actions.specs.declared.action.ActionRead.the-variants.{Action, NoForm}

@@ -1,3 +1,2 @@
-// The lines of a rules text: where each ends, and the line reader.
+// The line reader.
 pub mod line;
-pub mod text;

@@ -33,18 +33,19 @@ use Rattle.rules.specs.Check.{State, isOutside, isOpen, openRules, lineRefusal}
 use Rattle.rules.specs.Text.{lines, advance, lineOutcome, closed, readFrom, start}
 use Rattle.rules.proofs.Checked.{Clean, refusal-none, rule-passes}
 use Rattle.rules.proofs.Passing.{Reached, start-reached, advance-reached}
-use Rattle.lines.specs.Front.{front, firstForm}
+use Rattle.first_line.specs.Front.{front, firstForm}
 use Rattle.step_plan.specs.Stored.{ruleOf, rulesIn}
 use Rattle.reader.specs.Kept.{stepsIn, programOf, outcomeOf, Answers}
 use Rattle.step_plan.specs.Readings.{slotChains, words, Short}
-use Rattle.reader_state.specs.State.{noRules, startState, refusalOf, lastRefusal, frameOf, lastFrame, advanceOf}
+use Rattle.reader_state.specs.State.{noRules, startState, frameOf, lastFrame, advanceOf}
+use Rattle.refusals.specs.Refusal.{refusalOf, lastRefusal}
 use Rattle.reader.specs.declared.Program as C
 use Rattle.reader_state.specs.declared.state.Frame.{Frame}
 use Rattle.reader_state.specs.declared.state.State as S
 use Rattle.reader.proofs.Arms.{Behind, step-line, loop-line, end-line, done-line, rule-line, no-line, at-step, at-loop, at-rule, at-end, at-done, slot-short, rule-is, rule-steps, rule-rules, end-steps, end-count, done-steps}
-use Rattle.lines.proofs.Fronts.{lines-first}
+use Rattle.first_line.proofs.Fronts.{lines-first}
 use Rattle.reader_state.proofs.Standing.{Stands, start-stands, advance-stands}
-use Rattle.reader_state.proofs.Refusals.{number, refusal-is, last-is}
+use Rattle.refusals.proofs.Refusals.{number, refusal-is, last-is}
 
 -- the state of the definition before line k, which begins at `at`, and what the code has of it
 pub record Read (s : Sizes) (t : List ℕ) (plan : Plan) (full : Bool) (slots : List Slot) (frames : List Frame) (x : S.State) (at k : ℕ) : Type 0 where

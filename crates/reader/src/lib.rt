@@ -8,7 +8,6 @@ use actions::rule::Rule;
 use actions::rule::Slot;
 use actions::rule::Test;
 use lines::line::LineRead;
-use lines::text;
 use plan::Added;
 use plan::Plan;
 use reader_state::state;
@@ -66,9 +65,9 @@ pub fn read_lines(text: &[u8], sizes: Sizes) -> Checked
     let mut line = 1;
     let mut refusal = 0;
     while at < text.len() {
-        let end = text::line_end(text, at);
-        let read = text::read_first(text, at, end, sizes);
-        refusal = state::refusal(state, full, read);
+        let end = first_line::line_end(text, at);
+        let read = first_line::read_first(text, at, end, sizes);
+        refusal = refusals::refusal(state, full, read);
         if refusal != 0 {
             break;
         }
@@ -101,7 +100,7 @@ pub fn read_lines(text: &[u8], sizes: Sizes) -> Checked
         line += 1;
     }
     Checked {
-        refusal: state::refusal_or_last(refusal, state),
+        refusal: refusals::refusal_or_last(refusal, state),
         line,
         program: Program {
             slots,

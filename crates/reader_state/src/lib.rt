@@ -1,3 +1,3 @@
-// What the text reader keeps of the lines so far, why it refuses a line, and how it goes on behind one.
+// What the text reader keeps of the lines so far, and how it goes on behind one.
 pub mod state;
 pub mod tally;

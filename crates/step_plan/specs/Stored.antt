@@ -1,6 +1,6 @@
 -- The rules of a program as the array holds them.
 use Prim.Native.Nat.{ℕ}
-use mathlib.Core.List.{List, [], _∷_, map}
+use mathlib.Core.List.{List, map}
 use lib.ListN.{take}
 use Rattle.chain.specs.Word.{unpack}
 use Rattle.actions.specs.ActionRead.{written}

@@ -14,7 +14,7 @@ use Rattle.rules.specs.Check.{openRules}
 use Rattle.reader_state.specs.State.{advanceOf}
 use Rattle.reader.proofs.Arms.{Behind, open-sound, open-keyed, open-more, open-same}
 use Rattle.reader.proofs.Reading.{Read, Passes, passes, stopped, small, again, arm-step, arm-loop, arm-none, arm-end-steps, arm-end, arm-done-steps, arm-done, arm-steps, arm-rules, arm-short, arm-rule, answer-refused, answer-read, begun}
-use Rattle.reader_state.proofs.Refusals.{or-first, or-none}
+use Rattle.refusals.proofs.Refusals.{or-first, or-none}
 use borrow.Author.Needs.{needs}
 use Rattle.reader.proofs.read_lines.Statement.{statement}
 use Rattle.reader.proofs.read_lines.Tie as tie

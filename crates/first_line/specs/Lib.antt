@@ -1,0 +1,2 @@
+-- The first line of a text.
+pub mod Front

@@ -1,0 +1,2 @@
+-- Why a line is refused.
+pub mod Refusal
