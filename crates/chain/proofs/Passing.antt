@@ -11,7 +11,7 @@ use lib.ListN.{length, take, length-append}
 use lib.Seq.{take-all}
 use Rattle.register.specs.Shape.{Limits}
 use Rattle.register.specs.declared.Sizes.{Sizes}
-use Rattle.integers.proofs.Bools.{and-both, and-true}
+use Rattle.integers.proofs.Bools.{and-both, and-true, or-left, or-right}
 use Rattle.chain.specs.Word.{hasField, readable, Passes, pack, unpack}
 use Rattle.chain.specs.Text.{fieldOf, names, every, isReferenceLetter, innerReferences, lettersRefusal, wordOf}
 use Rattle.chain.proofs.Packing.{Kinded, none, last, more, unpack-pack}
@@ -29,13 +29,6 @@ measure-field s l n r =
     let low : 77 ≤ l = ltb-false l 77 r in
     let high : l < 77 + s .measures = ltb-true l (77 + s .measures) (sym (ap (λ (t : Bool). cond t (leb 65 l && ltb l (65 + s .references)) (ltb l (77 + s .measures))) r) ∙ n) in
     rw r (omega arith, omega arith)
-
-or-left : {a : Bool} (b : Bool) → a ≡ true → a || b ≡ true
-or-left b h = rw h
-
-or-right : (a : Bool) {b : Bool} → b ≡ true → a || b ≡ true
-or-right true h = refl
-or-right false h = h
 
 pub named-field : (s : Sizes) (l : ℕ) → names s l ≡ true → hasField s (fieldOf l) ≡ true
 unfolding hasField

@@ -2,7 +2,7 @@
 use Prim.Native.Nat.{ℕ, zero, suc, _+_, _-_, _*_, _^_, _≤_, _<_}
 use mathlib.Core.Path.{_≡_, refl, sym, ap, ap₂, _∙_}
 use mathlib.Core.Logic.{_≢_}
-use mathlib.Core.Bool.{Bool, true, false, cond, _&&_, _||_}
+use mathlib.Core.Bool.{Bool, true, false, cond, _&&_, _||_, or-true, or-false}
 use mathlib.Core.List.{List, [], _∷_, _++_, append-assoc, append-nil}
 use native.Mathlib.Omega.{arith}
 use native.Mathlib.Nat.{pow-le-pow-right}
@@ -16,14 +16,6 @@ use Rattle.chain.specs.Text.{isCapital, fieldOf, names, every, isReferen
 use Rattle.chain.specs.Scan.{summary, step, steps}
 use Rattle.chain.specs.declared.letters.Letters.{Letters}
 use Rattle.chain.proofs.Packing.{push-positive}
-
-or-true : (a : Bool) → a || true ≡ true
-or-true true = refl
-or-true false = refl
-
-or-false : (a : Bool) → a || false ≡ a
-or-false true = refl
-or-false false = refl
 
 -- the two kinds of step, as the code makes them
 module _ (s : Sizes) (k : ℕ) (x : Letters) (l : ℕ) (n : Bool) (named : n ≡ names s l) where

@@ -10,7 +10,7 @@ use register::cells;
 use register::cells::Cell;
 
 // Where a field stands in a record.
-fn column(sizes: Sizes, field: usize) -> usize
+pub fn column(sizes: Sizes, field: usize) -> usize
     requires { ⌜ (sizes .references ≤ 8) × (field < 16) ⌝ }
     ensures { λ r. ⌜ r ≡ columnOf sizes field ⌝ }
 {

@@ -83,7 +83,7 @@ mag-subℕ a b = go (ltb a b)
     go true = omega arith
     go false = omega arith
 
-mag-sum : (a b : ℤ) → mag (a +ℤ b) ≤ suc (mag a + mag b)
+pub mag-sum : (a b : ℤ) → mag (a +ℤ b) ≤ suc (mag a + mag b)
 mag-sum (pos a) (pos b) = omega arith
 mag-sum (pos a) (negsuc b) = omega (arith, mag-subℕ a (suc b))
 mag-sum (negsuc a) (pos b) = omega (arith, mag-subℕ b (suc a))

@@ -5,9 +5,9 @@ ghost use lib.Dec.{T};
 ghost use lib.IntN.{ℤ, pos, natAbs, _+ℤ_, _-ℤ_};
 ghost use lib.ListN.{length};
 ghost use lib.Seq.{sets};
-ghost use lib.Signed.{ltZ, nonNeg};
+ghost use lib.Signed.{mag, ltZ, nonNeg};
 ghost use mir.Syntax.{w32};
-ghost use mir.Val.{toZ, ofZ};
+ghost use mir.Val.{SFits, toZ, ofZ};
 ghost use Rattle.integers.specs.Bytes.{word as wordOf, wordAt, wordBytes, valueAt, valueBytes};
 ghost use Rattle.integers.specs.Range.{sumOf, eqZ, isIndex};
 
@@ -134,4 +134,26 @@ pub fn widen(value: i32) -> i64
     ensures { λ r. ⌜ r ≡ value ⌝ }
 {
     value as i64
+}
+
+// A value of 32 bits that is held in 64.
+pub fn narrow(value: i64) -> i32
+    requires { ⌜ SFits w32 value ⌝ }
+    ensures { λ r. ⌜ r ≡ value ⌝ }
+{
+    value as i32
+}
+
+// An amount added to a total that is far from the ends of 64 bits.
+pub fn increase(total: i64, amount: i32) -> i64
+    requires { ⌜ mag total < 4611686018427387904 ⌝ }
+    ensures { λ r. ⌜ r ≡ total +ℤ amount ⌝ }
+{
+    total + amount as i64
+}
+
+pub fn is_below(amount: i32, total: i64) -> bool
+    ensures { λ r. ⌜ r ≡ ltZ amount total ⌝ }
+{
+    (amount as i64) < total
 }

@@ -301,7 +301,7 @@ module _ (s : Sizes) (lim : Limits s) {slots : List Slot} {frames : List Frame} 
             frames-length = length-set frames (x .steps) f ∙ b .kept .frames-length;
             steps-are = new;
             rules-are = refl;
-            framed = rw (h .steps-are) (framed-more frames (st .steps) f (record { rules = openRules st; setting = settingIn (st .around) }) (b .kept .framed) (omega (arith, end-steps, b .kept .frames-length, h .steps-are)) (h .tally-is .remote-is) end-holds);
+            framed = rw (h .steps-are) (framed-more frames (st .steps) f (record { rules = openRules st; setting = settingIn (st .around) }) (b .kept .framed) (omega (arith, end-steps, b .kept .frames-length, h .steps-are)) (omega (arith, r .rules .few, h .tally-is .rules-are)) (h .tally-is .remote-is) end-holds);
           };
           planned = rw same (extended-same e);
         }

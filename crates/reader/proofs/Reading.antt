@@ -260,6 +260,7 @@ module _ {s : Sizes} {t : List ℕ} {plan : Plan} {full : Bool} {slots : List Sl
       record {
         outcome-is = rw (ended, last-is (q .stands), program-is) (go (not (isOpen (q .state)) && isOutside (q .state .around)));
         complete = λ z. record {
+          slots-length = q .behind .kept .slots-length;
           framed = rw program-is (q .behind .kept .framed);
           steps-are = rw program-is (q .stands .steps-are);
           lines-are = rw program-is (q .stands .lines-are);

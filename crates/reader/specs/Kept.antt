@@ -1,4 +1,5 @@
 -- What the reader's arrays hold of a program, and its answer.
+use Prim.Native.Nat.{_≤_}
 use mathlib.Core.Path.{_≡_}
 use mathlib.Core.List.{List, [], _∷_}
 use lib.ListN.{length, take, drop}
@@ -20,14 +21,15 @@ stepsIn slots (f ∷ fs) = record { rules = rulesIn (f .rules) (take 32 slots); 
 unfoldable pub programOf : R.Program → Program
 programOf p = stepsIn (p .slots) (take (p .steps) (p .frames))
 
--- each step's frame has its plan, and whether one of its rules is remote
+-- each step's frame has at most 32 rules, the step's plan, and whether one of its rules is remote
 abbrev pub Framed : List Frame → List Step → Type 0
 Framed fs [] = Unit {0}
 Framed [] (x ∷ xs) = ⊥
-Framed (f ∷ fs) (x ∷ xs) = (f .remote ≡ hasRemote (x .rules)) × Holds (f .plan) (stepPlan (x .rules)) × Framed fs xs
+Framed (f ∷ fs) (x ∷ xs) = (f .rules ≤ 32) × (f .remote ≡ hasRemote (x .rules)) × Holds (f .plan) (stepPlan (x .rules)) × Framed fs xs
 
--- its frames, its number of steps and its most lines are those of the program that its array holds
+-- 32 places for each of 32 steps; its frames, its number of steps and its most lines are those of the program that its array holds
 pub record Complete (p : R.Program) : Type 0 where
+  pub slots-length : length (p .slots) ≡ 1024
   pub framed : Framed (p .frames) (programOf p)
   pub steps-are : p .steps ≡ length (programOf p)
   pub lines-are : p .lines ≡ mostLines (programOf p)

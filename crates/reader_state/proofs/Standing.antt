@@ -1,7 +1,7 @@
 -- What the reader keeps of the lines so far stands for the state of the definition.
 use Prim.Native.Nat.{ℕ, zero, suc, _+_, _≤_, _<_, max}
 use mathlib.Core.Path.{_≡_, refl, sym, ap, _∙_}
-use mathlib.Core.Bool.{Bool, true, false, _&&_, _||_}
+use mathlib.Core.Bool.{Bool, true, false, _&&_, _||_, or-true, or-false}
 use mathlib.Core.List.{List, [], _∷_, _++_}
 use mathlib.Core.Option.{some}
 use native.Mathlib.Omega.{arith}
@@ -26,14 +26,10 @@ use Rattle.rules.specs.Check.{isOpen, openRules, isLeast, isTotal, someAction}
 use Rattle.rules.specs.Check as C
 use Rattle.rules.specs.Text.{testOf, actionOf, closeLoop, withStep, advance, start}
 use Rattle.rules.proofs.Checked.{Clean, letter-field}
-use Rattle.rules.proofs.Sorts.{or-false, some-append}
+use Rattle.rules.proofs.Sorts.{some-append}
 use Rattle.reader_state.specs.State.{noRules, moreRules, withRemote, withRule, startState, standing, advanceOf}
 use Rattle.reader_state.specs.declared.tally.Tally.{Tally}
 use Rattle.reader_state.specs.declared.state.State.{State}
-
-or-true : (b : Bool) → b || true ≡ true
-or-true true = refl
-or-true false = refl
 
 -- what is kept of the rules of the open step
 pub record Counts (x : Tally) (rs : List Rule) : Type 0 where

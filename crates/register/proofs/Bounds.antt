@@ -1,9 +1,9 @@
 -- The limits of the sizes, and where the cells of a record stand.
-use Prim.Native.Nat.{ℕ, _≤_, _<_}
+use Prim.Native.Nat.{ℕ, zero, suc, _*_, _/_, _%_, _≤_, _<_}
 use mathlib.Core.Path.{_≡_}
 use mathlib.Core.Bool.{Bool, true, _&&_}
 use native.Mathlib.Omega.{arith}
-use native.Mathlib.Nat.{mul-le-mul-right, mul-le-mul-left}
+use native.Mathlib.Nat.{mul-le-mul-right, mul-le-mul-left, div-add-mod', div-lt-iff-lt-mul, mod-lt}
 use borrow.Author.Tests.{leb-true, le-leb}
 use Rattle.integers.proofs.Bools.{and-both}
 use Rattle.register.specs.File.{width, cellCount, cellIndex}
@@ -41,3 +41,24 @@ cellIndex-below s u f hu hf = omega (arith, mul-le-mul-right (width s) hu)
 pub width-references : (s : Sizes) {f : ℕ} → f < s .references → f < width s
 unfolding width
 width-references s h = omega arith
+
+-- the record and the column of place j
+module _ (s : Sizes) (j : ℕ) (h : j < cellCount s) where
+  pub place-width : 0 < width s
+  unfolding cellCount
+  place-width = go (width s) h
+    where
+      go : (w : ℕ) → j < s .records * w → 0 < w
+      go zero h = absurd (omega arith)
+      go (suc w) h = omega arith
+
+  pub place-row : j / width s < s .records
+  unfolding cellCount
+  place-row = div-lt-iff-lt-mul place-width .1 h
+
+  pub place-column : j % width s < width s
+  place-column = mod-lt j place-width
+
+  pub place-is : cellIndex s (j / width s) (j % width s) ≡ j
+  unfolding cellIndex
+  place-is = div-add-mod' j (width s)

@@ -4,7 +4,6 @@ use mathlib.Core.Path.{_≡_, refl, sym, ap, subst, _∙_}
 use mathlib.Core.Bool.{Bool, true, false}
 use mathlib.Core.List.{List}
 use native.Mathlib.Omega.{arith}
-use native.Mathlib.Nat.{div-add-mod', div-lt-iff-lt-mul, mod-lt}
 use borrow.Author.Tests.{lt-ltb}
 use lib.IntN.{ℤ, pos}
 use lib.ListN.{getD}
@@ -19,6 +18,7 @@ use Rattle.register.specs.declared.Sizes.{Sizes}
 use Rattle.register.specs.declared.cells.Cell.{Cell}
 use Rattle.register.specs.declared.cells.Cell.the-variants.{Missing, Value}
 use Rattle.register.proofs.First.{first-each}
+use Rattle.register.proofs.Bounds.{place-row, place-column, place-is}
 use Rattle.register.proofs.Refusals.{refused-mark, missing-zero, refused-missing, filled-measure, filled-reference, refused-reference}
 use Rattle.register.proofs.Arrays.{Canonical}
 
@@ -43,18 +43,6 @@ sound-reference n z (suc zero) h = go (isIndex n z) refl
     go false e = absurd (omega (arith, refused-reference n true z 1 (omega arith) (omega arith) refl e))
 sound-reference n z (suc (suc k)) h = absurd (omega (arith, refused-mark n true z (suc (suc k)) (omega arith)))
 
--- the record and the field of place j
-module _ (n w j : ℕ) (h : j < n * w) where
-  wide : 0 < w
-  wide = go w h
-    where
-      go : (w : ℕ) → j < n * w → 0 < w
-      go zero h = absurd (omega arith)
-      go (suc w) h = omega arith
-
-  row : j / w < n
-  row = div-lt-iff-lt-mul wide .1 h
-
 module _ (s : Sizes) (values marks : List ℕ) (none : cellsRefusal s values marks ≡ 0) where
   sound-at : (u f : ℕ) → u < s .records → f < width s → refusalAt s values marks u f ≡ 0
   unfolding cellsRefusal recordRefusal
@@ -62,11 +50,10 @@ module _ (s : Sizes) (values marks : List ℕ) (none : cellsRefusal s values mar
 
   -- each place holds a value and a mark that a file may hold
   pub sound-place : (j : ℕ) → j < cellCount s → Canonical (valueAt values (4 * j)) (getD marks j 0)
-  unfolding cellCount cellIndex refusalAt
+  unfolding refusalAt
   sound-place j h =
-      let w = width s in
-      subst (λ (k : ℕ). Canonical (valueAt values (4 * k)) (getD marks k 0)) (div-add-mod' j w)
-      (sound-cell _ _ _ _ (sound-at (j / w) (j % w) (row (s .records) w j h) (mod-lt j (wide (s .records) w j h))))
+      subst (λ (k : ℕ). Canonical (valueAt values (4 * k)) (getD marks k 0)) (place-is s j h)
+      (sound-cell _ _ _ _ (sound-at (j / width s) (j % width s) (place-row s j h) (place-column s j h)))
 
   -- each reference is to a record
   pub sound-refers : (u f : ℕ) → u < s .records → f < s .references → refersWithin (s .records) (cellAt values marks (cellIndex s u f)) ≡ true

@@ -1,7 +1,7 @@
 -- One more rule of a step that passes 14: still no field takes both sorts of remote write.
 use Prim.Native.Nat.{ℕ}
 use mathlib.Core.Path.{_≡_, refl, sym, ap, _∙_}
-use mathlib.Core.Bool.{Bool, true, false, _||_}
+use mathlib.Core.Bool.{Bool, true, false, _||_, or-false}
 use mathlib.Core.List.{List, [], _∷_, _++_}
 use borrow.Author.Tests.{not-true, eqb-true, ne-eqb}
 use lib.Dec.{eqb}
@@ -11,10 +11,6 @@ use Rattle.syntax.specs.Written as W
 use Rattle.rules.specs.Program.{Test, Action, Rule}
 use Rattle.rules.specs.Check.{isLeast, isTotal, someAction, oneSort}
 use Rattle.rules.specs.Text.{actionOf}
-
-pub or-false : (a : Bool) → a || false ≡ a
-or-false true = refl
-or-false false = refl
 
 pub some-append : (p : Action → Bool) (rs : List Rule) (r : Rule) → someAction p (rs ++ (r ∷ [])) ≡ someAction p rs || p (r .action)
 unfolding someAction

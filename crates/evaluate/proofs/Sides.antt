@@ -1,0 +1,36 @@
+-- Two cells, one of which may be missing.
+use Prim.Native.Nat.{_<_}
+use mathlib.Core.Path.{_≡_, refl, sym, ap, ap₂, _∙_}
+use mathlib.Core.Bool.{Bool}
+use lib.IntN.{ℤ}
+use lib.Signed.{mag}
+use mir.Syntax.{w32}
+use mir.Val.{toZ, ofZ, SFits}
+use mir.Facts.{toZ-ofZ}
+use Rattle.integers.proofs.Complement.{kept}
+use Rattle.register.specs.declared.cells.Cell.{Cell}
+use Rattle.register.specs.declared.cells.Cell.the-variants.{Missing, Value}
+use Rattle.actions.specs.ActionRead.{written}
+use Rattle.actions.specs.declared.rule.Comparison.{Comparison}
+use Rattle.machine.specs.Value.{both, compare}
+
+module _ {A : Type 0} (else : A) (f : ℤ → ℤ → A) where
+  pub first-missing : (x y : Cell) → x ≡ Missing → else ≡ both else f x y
+  unfolding both
+  first-missing x y e = sym (ap (λ (x : Cell). both else f x y) e)
+
+  pub second-missing : (x y : Cell) → y ≡ Missing → else ≡ both else f x y
+  unfolding both
+  second-missing Missing y e = refl
+  second-missing (Value a) y e = sym (ap (both else f (Value a)) e)
+
+  -- both values, as the code holds them
+  pub both-values : (x y : Cell) {a b : ℤ} → x ≡ Value a → y ≡ Value b → mag a < 2147483648 → mag b < 2147483648
+      → f (toZ w32 (ofZ w32 a)) (toZ w32 (ofZ w32 b)) ≡ both else f x y
+  unfolding both
+  both-values x y {a} {b} ex ey ha hb = ap₂ f (kept a ha) (kept b hb) ∙ sym (ap₂ (both else f) ex ey)
+
+-- two values compared as the code holds them, for the comparison that it matched
+pub compare-kept : {k l : Comparison} {a b : ℤ} {t : Bool} → SFits w32 a → SFits w32 b → k ≡ l → t ≡ compare (written l) (toZ w32 (ofZ w32 a)) (toZ w32 (ofZ w32 b))
+    → t ≡ compare (written k) a b
+compare-kept {l} ha hb e q = q ∙ ap₂ (compare (written l)) (toZ-ofZ ha) (toZ-ofZ hb) ∙ rw e

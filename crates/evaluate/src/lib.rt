@@ -1,0 +1,4 @@
+// What one record makes of one rule: the values of its terms, whether its test holds, what it stores and what it sends.
+pub mod places;
+pub mod rule;
+pub mod term;

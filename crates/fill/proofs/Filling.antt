@@ -1,0 +1,128 @@
+-- Places that are filled: one more record of a line, and one more line of a plan.
+use Prim.Native.Nat.{ℕ, _+_, _*_, _≤_, _<_}
+use mathlib.Core.Path.{_≡_, refl, ap₂, sym, _∙_}
+use mathlib.Core.List.{List}
+use mathlib.Core.Logic.{_≢_, ⊎-elim}
+use native.Mathlib.Nat.{mul-le-mul-right}
+use native.Mathlib.Omega.{arith}
+use lib.IntN.{ℤ, pos}
+use lib.ListN.{length, getD, set, length-set}
+use lib.Seq.{getD-set-same, getD-set-other}
+use mir.Syntax.{w32}
+use mir.Val.{SFits}
+use Rattle.register.specs.Cells.{valueOf, markOf, cellOf}
+use Rattle.register.specs.declared.Sizes.{Sizes}
+use Rattle.register.specs.declared.cells.Cell.{Cell}
+use Rattle.chain.specs.Word.{valueAtRecord}
+use Rattle.plan.specs.Plan.{Fact, back, read, word, line}
+use Rattle.plan.specs.Held.{fact-of, kind, facts-in, Keyed}
+use Rattle.plan.specs.declared.key.Kind.{Kind}
+use Rattle.plan.specs.declared.key.Kind.the-variants.{Back, Read}
+use Rattle.plan.proofs.Search.{facts-line}
+use Rattle.plan.specs.Cases.{lt-or-le}
+use Rattle.evaluate.specs.Places.{placeAt}
+use Rattle.evaluate.proofs.Placed.{placeAt-set}
+use Rattle.fill.specs.Filled.{ReadAt, Kept, LineFilled, Filled}
+
+kept-same : {j : ℕ} {values : List ℤ} {marks : List ℕ} → Kept j values marks values marks
+kept-same = record { value-is = refl; mark-is = refl }
+
+kept-again : {j : ℕ} {values values′ values″ : List ℤ} {marks marks′ marks″ : List ℕ} → Kept j values marks values′ marks′ → Kept j values′ marks′ values″ marks″
+    → Kept j values marks values″ marks″
+kept-again a b = record { value-is = b .value-is ∙ a .value-is; mark-is = b .mark-is ∙ a .mark-is }
+
+-- a store keeps every other place
+kept-other : (values : List ℤ) (marks : List ℕ) (i : ℕ) (z : ℤ) (m j : ℕ) → j ≢ i → Kept j values marks (set values i z) (set marks i m)
+kept-other values marks i z m j h = record { value-is = getD-set-other values i j z (pos 0) h; mark-is = getD-set-other marks i j m 0 h }
+
+-- the fact of a kind and a word
+abbrev pub factOf : Kind → List ℕ → Fact
+factOf Back w = back w
+factOf Read w = read w
+
+fact-by-kind : (f : Fact) → f ≡ factOf (kind f) (word f)
+fact-by-kind (back w) = refl
+fact-by-kind (read w) = refl
+
+-- line i by the kind and the word of its key
+pub line-by-key : {k : Kind} {w : List ℕ} (keys : List ℕ) (count i : ℕ) → Keyed keys count → i < count → k ≡ kind (fact-of (getD keys i 0)) → w ≡ word (fact-of (getD keys i 0))
+    → line (facts-in keys count) i ≡ factOf k w
+line-by-key keys count i keyed h e q =
+    facts-line keys count (omega (arith, keyed .places, keyed .taken≤)) i h ∙ fact-by-kind (fact-of (getD keys i 0)) ∙ sym (ap₂ factOf e q)
+
+module _ (s : Sizes) (cells : List Cell) where
+  -- a reading stays where its place is kept
+  read-kept : {w : List ℕ} {i u : ℕ} {values values′ : List ℤ} {marks marks′ : List ℕ} → ReadAt s cells w i u values marks
+      → Kept (i * s .records + u) values marks values′ marks′ → ReadAt s cells w i u values′ marks′
+  unfolding placeAt
+  read-kept r k = record { place-is = ap₂ cellOf (k .value-is) (k .mark-is) ∙ r .place-is; fits = rw (k .value-is) (r .fits) }
+
+  module _ (i : ℕ) (w : List ℕ) (values : List ℤ) (marks : List ℕ) where
+    pub line-none : LineFilled s cells i w 0 values marks values marks
+    line-none =
+        record {
+          values-length = refl;
+          marks-length = refl;
+          reads = λ u h. absurd (omega arith);
+          before = λ j h. kept-same;
+          behind = λ j h. kept-same;
+        }
+
+    -- the reading of record k, stored at its place
+    pub line-next : {values′ : List ℤ} {marks′ : List ℕ} (k : ℕ) (c : Cell) → k < s .records → i * s .records + s .records ≤ length values → i * s .records + s .records ≤ length marks
+        → LineFilled s cells i w k values marks values′ marks′ → c ≡ valueAtRecord s cells w k → SFits w32 (valueOf c)
+        → LineFilled s cells i w (k + 1) values marks (set values′ (i * s .records + k) (valueOf c)) (set marks′ (i * s .records + k) (markOf c))
+    line-next {values′} {marks′} k c h room room′ l e fits =
+        let j = i * s .records + k in
+        let other : (j′ : ℕ) → j′ ≢ j → Kept j′ values′ marks′ (set values′ j (valueOf c)) (set marks′ j (markOf c)) = kept-other values′ marks′ j (valueOf c) (markOf c) in
+        let here : j < length values′ = omega (arith, l .values-length) in
+        let here′ : j < length marks′ = omega (arith, l .marks-length) in
+        record {
+          values-length = length-set values′ j (valueOf c) ∙ l .values-length;
+          marks-length = length-set marks′ j (markOf c) ∙ l .marks-length;
+          reads = λ u p.
+              ⊎-elim
+              (λ (b : u < k). read-kept (l .reads u b) (other _ (λ q. omega arith)))
+              (λ (b : k ≤ u).
+              let q : u ≡ k = omega arith in
+              rw q (record { place-is = placeAt-set values′ marks′ j c here here′ ∙ e; fits = rw (getD-set-same values′ j (valueOf c) (pos 0) here) fits }))
+              (lt-or-le u k);
+          before = λ j′ p. kept-again (l .before j′ p) (other _ (λ q. omega arith));
+          behind = λ j′ p. kept-again (l .behind j′ p) (other _ (λ q. omega arith));
+        }
+
+  module _ (l : List Fact) (values : List ℤ) (marks : List ℕ) where
+    pub plan-none : Filled s cells l 0 values marks values marks
+    plan-none = record { values-length = refl; marks-length = refl; reads = λ i u w h. absurd (omega arith); behind = λ j h. kept-same }
+
+    module _ {values′ : List ℤ} {marks′ : List ℕ} (k : ℕ) (f : Filled s cells l k values marks values′ marks′) where
+      -- a Back line has no reading
+      pub plan-back : {w : List ℕ} → line l k ≡ back w → Filled s cells l (k + 1) values marks values′ marks′
+      plan-back e =
+          record {
+            values-length = f .values-length;
+            marks-length = f .marks-length;
+            reads = λ i u v h p q.
+                ⊎-elim
+                (λ (b : i < k). f .reads i u v b p q)
+                (λ (b : k ≤ i). let same : i ≡ k = omega arith in let z : _≡_ {A = ℕ} 0 1 = cc in absurd (omega arith))
+                (lt-or-le i k);
+            behind = λ j h. f .behind j (omega arith);
+          }
+
+      pub plan-read : {w : List ℕ} {values″ : List ℤ} {marks″ : List ℕ} → line l k ≡ read w → LineFilled s cells k w (s .records) values′ marks′ values″ marks″
+          → Filled s cells l (k + 1) values marks values″ marks″
+      plan-read {w} {values″} {marks″} e g =
+          record {
+            values-length = g .values-length ∙ f .values-length;
+            marks-length = g .marks-length ∙ f .marks-length;
+            reads = λ i u v h p q.
+                ⊎-elim
+                (λ (b : i < k). read-kept (f .reads i u v b p q) (g .before (i * s .records + u) (omega (arith, mul-le-mul-right (s .records) b))))
+                (λ (b : k ≤ i).
+                let same : i ≡ k = omega arith in
+                let word-is : v ≡ w = cc in
+                rw (same, word-is) (g .reads u p))
+                (lt-or-le i k);
+            behind = λ j h. kept-again (f .behind j (omega arith)) (g .behind j (omega arith));
+          }

@@ -1,0 +1,3 @@
+-- Laws for the proofs of the functions, and of the lines that can be filled.
+pub mod Filling
+pub mod Readings

@@ -1,0 +1,2 @@
+-- Plan lines filled by following references.
+pub mod Filled

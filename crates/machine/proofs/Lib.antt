@@ -1,0 +1,11 @@
+-- Laws of the machine, for the proofs of the crates above.
+pub mod Folding
+pub mod Stops
+pub mod Alike
+pub mod Readable
+pub mod Refers
+pub mod Keeping
+pub mod Direct
+pub mod Columns
+pub mod RunningPass
+pub mod Running

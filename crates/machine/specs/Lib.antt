@@ -1,0 +1,7 @@
+-- The machine of document 01, given what a record reads.
+pub mod Value
+pub mod Local
+pub mod Remote
+pub mod Step
+pub mod Alike
+pub mod Run

@@ -1,0 +1,2 @@
+-- The column of a loop's field as a pass began.
+pub mod Column

@@ -1,0 +1,131 @@
+// The passes of a loop: the column of its field as a pass began, kept in the scratch buffers from place `at` on, and the step
+// that comes next.
+ghost use mathlib.Core.Path.{_≡_};
+ghost use mathlib.Core.Bool.{true, cond};
+ghost use Prim.Native.Nat.{_<_};
+ghost use Rattle.register.specs.Cells.{cellsOf};
+ghost use Rattle.register.specs.Shape.{Parts};
+ghost use Rattle.chain.specs.Word.{hasField};
+ghost use Rattle.rules.specs.Passed.{SettingPasses};
+ghost use Rattle.machine.specs.Run.{sameCell as sameCellOf, begins};
+ghost use Rattle.pass.specs.Column.{Space, HasColumn, Column, HasPass, Entered, NextIs, SameAs};
+use chain::follow;
+use evaluate::places;
+use register::Sizes;
+use register::cells::Cell;
+use rules::around::Setting;
+
+// Keeps the column of a field.
+fn keep(
+    cells: &[u8],
+    filled: &[u8],
+    values: &mut [i64],
+    marks: &mut [u8],
+    sizes: Sizes,
+    at: usize,
+    field: u64,
+)
+    requires { ⌜ Parts sizes (now cells) (now filled) × (hasField sizes field ≡ true) × Space sizes at (now values) (now marks) ⌝ }
+    ensures { λ _. ⌜ Column sizes field (cellsOf (now (cells .entry)) (now (filled .entry))) at (now (values .exit)) (now (marks .exit)) ⌝ }
+{
+    for u in 0..sizes.records {
+        let cell = follow::cell_of(cells, filled, sizes, u, field as usize);
+        places::put_cell(values, marks, at + u, cell);
+    }
+}
+
+// "The same, values and marks".
+fn same_cell(x: Cell, y: Cell) -> bool
+    ensures { λ r. ⌜ r ≡ sameCellOf x y ⌝ }
+{
+    match x {
+        Cell::Missing => match y {
+            Cell::Missing => true,
+            Cell::Value(_) => false,
+        },
+        Cell::Value(a) => match y {
+            Cell::Missing => false,
+            Cell::Value(b) => integers::equal(a, b),
+        },
+    }
+}
+
+// Whether the column of a field is as it was kept.
+fn is_same(
+    cells: &[u8],
+    filled: &[u8],
+    values: &[i64],
+    marks: &[u8],
+    sizes: Sizes,
+    at: usize,
+    field: u64,
+) -> bool
+    requires { ⌜ Parts sizes (now cells) (now filled) × (hasField sizes field ≡ true) × Space sizes at (now values) (now marks) × HasColumn sizes at (now values) ⌝ }
+    ensures { λ r. ⌜ SameAs sizes field (cellsOf (now (cells .entry)) (now (filled .entry))) at (now (values .entry)) (now (marks .entry)) r ⌝ }
+{
+    for u in 0..sizes.records {
+        let before = places::cell_at(values, marks, at + u);
+        if !same_cell(
+            before,
+            follow::cell_of(cells, filled, sizes, u, field as usize),
+        ) {
+            return false;
+        }
+    }
+    true
+}
+
+// Before a step: the first of its loop begins a pass. The index of the pass's first step.
+pub fn enter(
+    cells: &[u8],
+    filled: &[u8],
+    values: &mut [i64],
+    marks: &mut [u8],
+    sizes: Sizes,
+    at: usize,
+    setting: Setting,
+    step: usize,
+    first: usize,
+) -> usize
+    requires { ⌜ Parts sizes (now cells) (now filled) × SettingPasses sizes setting × Space sizes at (now values) (now marks) ⌝ }
+    ensures { λ r. ⌜ (r ≡ cond (begins setting) step first) × Entered sizes setting (cellsOf (now (cells .entry)) (now (filled .entry))) at (now (values .entry)) (now (marks .entry)) (now (values .exit)) (now (marks .exit)) ⌝ }
+{
+    match setting {
+        Setting::Single => first,
+        Setting::Looped(field, is_first, _) => {
+            if is_first {
+                keep(cells, filled, values, marks, sizes, at, field);
+                return step;
+            }
+            first
+        }
+    }
+}
+
+// Behind a step: the last of its loop leads back to the first until the column is the same. The index of the next step.
+pub fn next(
+    cells: &[u8],
+    filled: &[u8],
+    values: &[i64],
+    marks: &[u8],
+    sizes: Sizes,
+    at: usize,
+    setting: Setting,
+    step: usize,
+    first: usize,
+) -> usize
+    requires { ⌜ Parts sizes (now cells) (now filled) × SettingPasses sizes setting × Space sizes at (now values) (now marks) × HasPass sizes setting at (now values) × (step < 32) ⌝ }
+    ensures { λ r. ⌜ NextIs sizes setting (cellsOf (now (cells .entry)) (now (filled .entry))) at (now (values .entry)) (now (marks .entry)) step first r ⌝ }
+{
+    match setting {
+        Setting::Single => step + 1,
+        Setting::Looped(field, _, last) => {
+            if last {
+                if !is_same(cells, filled, values, marks, sizes, at, field) {
+                    return first;
+                }
+            }
+            step + 1
+        }
+    }
+}

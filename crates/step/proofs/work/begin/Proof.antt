@@ -1,0 +1,93 @@
+-- `step::work::begin` meets its contract. The loop's invariant: the places passed hold their cells, and nothing below `base` has changed.
+-- Assumes nothing.
+use Prim.Native.Nat.{ℕ, _+_, _-_, _<_}
+use mathlib.Core.Path.{_≡_, sym, _∙_}
+use native.Mathlib.Omega.{arith}
+use borrow.Author.Count.{below-none, below-more}
+use denote.Ref.{now}
+use lib.ListN.{length, getD}
+use Rattle.register.specs.Cells.{cellsOf}
+use Rattle.register.specs.declared.cells.Cell.the-variants.{Missing}
+use Rattle.register.proofs.Arrays.{cellsOf-length, cellsOf-at}
+use Rattle.evaluate.specs.Places.{placeAt}
+use Rattle.step.specs.Work.{Room, Same, Small}
+use Rattle.step.proofs.Working.{same-refl, same-then, room-same, put-stored, same-put, put-there, put-other, small-more}
+use Rattle.step.proofs.work.begin.Statement.{statement}
+use Rattle.step.proofs.work.begin.Tie as tie
+
+abbrev Inv-loop : tie.InvT-loop
+Inv-loop cells filled values₀ marks₀ base j₀ j-end values marks j =
+    Same base values₀ marks₀ values marks × ((i : ℕ) → i < j → placeAt values marks (base + i) ≡ getD (cellsOf cells filled) i Missing) × Small 2147483648 base j values
+
+abbrev μ-loop : tie.MeasureT-loop
+μ-loop cells filled values₀ marks₀ base j₀ j-end values marks j = j-end - j
+
+loop-holds : tie.Need-loop-holds Inv-loop μ-loop
+loop-holds c = (same-refl, below-none _, record { below = λ i h. absurd (omega arith) })
+
+-- there is room for the cells in each turn
+room : (c : tie.At-loop Inv-loop μ-loop) → let s = c .before .before .before .before in Room (s .args .base) (length (now (s .args .filled))) (c .loop .values) (c .loop .marks)
+room c = room-same (c .loop .inv .0) (c .before .before .before .before .pre .1)
+
+add-put-cell : tie.Need-add-put-cell Inv-loop μ-loop
+add-put-cell c = omega (arith, c .before .before .before .before .before .before .before .pre .1 .values-room)
+
+cell-at-requires : tie.Need-cell-at-requires Inv-loop μ-loop
+cell-at-requires c κs = omega arith
+
+put-cell-requires : tie.Need-put-cell-requires Inv-loop μ-loop
+put-cell-requires c κs =
+    let r = room (c .before .before .before .before) in
+    (omega (arith, r .values-room), omega (arith, r .marks-room))
+
+add-j : tie.Need-add-j Inv-loop μ-loop
+add-j c = omega arith
+
+loop-less : tie.Need-loop-less Inv-loop μ-loop
+loop-less c = omega arith
+
+loop-again : tie.Need-loop-again Inv-loop μ-loop
+loop-again c =
+    let p = c .before .before .before in
+    let l = p .before .before .before .before .before in
+    let a = l .before .before .before .before .args in
+    let r = room l in
+    let e = p .put-cell .ensures in
+    let q = put-stored (e .0) (e .1) (e .2) in (
+      same-then (l .loop .inv .0) (same-put (a .base) (l .loop .j) q),
+      below-more _ (l .loop .j)
+          (λ i h. put-other (a .base) (l .loop .j) q (a .base + i) (λ q. omega arith) ∙ l .loop .inv .1 i h)
+          (put-there (a .base) (l .loop .j) q (omega (arith, r .values-room)) (omega (arith, r .marks-room))
+          ∙ p .before .cell-at .ensures
+          ∙ sym (cellsOf-at (now (a .cells)) (now (a .filled)) (l .loop .j) (omega arith))),
+      small-more (a .base) (l .loop .j) q (omega (arith, r .values-room)) (e .2 .sfits) (omega arith) (l .loop .inv .2),
+    )
+
+same-length : tie.Need-same-length Inv-loop μ-loop
+same-length c = c .before .loop .inv .0 .values-length
+
+same-length-2 : tie.Need-same-length-2 Inv-loop μ-loop
+same-length-2 c = c .before .loop .inv .0 .marks-length
+
+returns : tie.Need-returns Inv-loop μ-loop
+returns c =
+    let l = c .before in
+    let a = l .before .before .before .before .args in
+    (record { place-is = λ i h. l .loop .inv .1 i (omega (arith, cellsOf-length (now (a .cells)) (now (a .filled)))) }, l .loop .inv .0, record { below = λ i h. l .loop .inv .2 .below i (omega arith) })
+
+pub begin-spec : {M : Type 1} → statement M
+begin-spec =
+    tie.close
+    (tie.spec
+    Inv-loop
+    μ-loop
+    loop-holds
+    add-put-cell
+    cell-at-requires
+    put-cell-requires
+    add-j
+    loop-less
+    loop-again
+    same-length
+    same-length-2
+    returns)

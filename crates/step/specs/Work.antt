@@ -1,0 +1,41 @@
+-- The working cells in the scratch buffers, from place `base` on; below it stand the places of the plan's lines.
+use mathlib.Core.Path.{_≡_}
+use mathlib.Core.List.{List}
+use Prim.Native.Nat.{ℕ, _+_, _≤_, _<_}
+use lib.IntN.{ℤ, pos}
+use lib.ListN.{length, getD, take, set}
+use lib.Signed.{mag}
+use Rattle.register.specs.Cells.{cellOf}
+use Rattle.register.specs.declared.cells.Cell.{Cell}
+use Rattle.register.specs.declared.cells.Cell.the-variants.{Missing}
+use Rattle.evaluate.specs.Places.{placeAt}
+
+-- the buffers have room for k cells from `base` on; before them stand at most 64 lines of 4,096 places and a column
+pub record Room (base k : ℕ) (values : List ℤ) (marks : List ℕ) : Type 0 where
+  pub base≤ : base ≤ 266240
+  pub values-room : base + k ≤ length values
+  pub marks-room : base + k ≤ length marks
+
+-- the buffers hold these cells from `base` on
+pub record Holds (base : ℕ) (cells : List Cell) (values : List ℤ) (marks : List ℕ) : Type 0 where
+  pub place-is : (j : ℕ) → j < length cells → placeAt values marks (base + j) ≡ getD cells j Missing
+
+-- the buffers keep their lengths and what stands below `base`
+pub record Same (base : ℕ) (values : List ℤ) (marks : List ℕ) (values′ : List ℤ) (marks′ : List ℕ) : Type 0 where
+  pub values-length : length values′ ≡ length values
+  pub marks-length : length marks′ ≡ length marks
+  pub values-same : take base values′ ≡ take base values
+  pub marks-same : take base marks′ ≡ take base marks
+
+-- place j now holds cell c, whose value is larger than the one before by an amount of 32 bits at most
+pub record Put (j : ℕ) (c : Cell) (values : List ℤ) (marks : List ℕ) (values′ : List ℤ) (marks′ : List ℕ) : Type 0 where
+  pub value : ℤ
+  pub mark : ℕ
+  pub values-are : values′ ≡ set values j value
+  pub marks-are : marks′ ≡ set marks j mark
+  pub cell-is : cellOf value mark ≡ c
+  pub small : mag value < mag (getD values j (pos 0)) + 2147483649
+
+-- the values of the k working cells are below b
+pub record Small (b base k : ℕ) (values : List ℤ) : Type 0 where
+  pub below : (j : ℕ) → j < k → mag (getD values (base + j) (pos 0)) < b

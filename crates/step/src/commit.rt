@@ -1,0 +1,51 @@
+// The working cells become the register's, where all are in range.
+ghost use Prim.Native.Nat.{_+_, _*_, _≤_, _<_};
+ghost use lib.ListN.{length};
+ghost use mathlib.Core.Path.{_≡_};
+ghost use Rattle.register.specs.File.{cellCount};
+ghost use Rattle.register.specs.Shape.{Limits};
+ghost use Rattle.step.specs.Work.{Room};
+ghost use Rattle.step.specs.Committed.{OneCommitted, Committed};
+use crate::local::Stop;
+use integers::Sum;
+use register::Sizes;
+use register::cells;
+use register::cells::Cell;
+
+// Cell j; whether it is in range.
+fn commit_cell(
+    out: &mut [u8],
+    values: &[i64],
+    marks: &[u8],
+    sizes: Sizes,
+    base: usize,
+    j: usize,
+) -> bool
+    requires { ⌜ Limits sizes × (length (now out) ≡ 12 + 5 * cellCount sizes) × Room base (cellCount sizes) (now values) (now marks) × (j < cellCount sizes) ⌝ }
+    ensures { λ r. ⌜ OneCommitted sizes base j (now (values .entry)) (now (marks .entry)) (now (out .entry)) (now (out .exit)) r ⌝ }
+{
+    if marks[base + j] == 0 {
+        cells::put_cell(out, sizes, j, Cell::Missing);
+        return true;
+    }
+    match integers::in_range(values[base + j]) {
+        Sum::InRange(value) => {
+            cells::put_cell(out, sizes, j, Cell::Value(value));
+            true
+        }
+        Sum::OutOfRange => false,
+    }
+}
+
+pub fn commit(out: &mut [u8], values: &[i64], marks: &[u8], sizes: Sizes, base: usize) -> Stop
+    requires { ⌜ Limits sizes × (length (now out) ≡ 12 + 5 * cellCount sizes) × Room base (cellCount sizes) (now values) (now marks) ⌝ }
+    ensures { λ r. ⌜ Committed sizes base (now (values .entry)) (now (marks .entry)) (now (out .entry)) (now (out .exit)) r ⌝ }
+{
+    let width = sizes.references + sizes.measures;
+    for j in 0..register::cell_count(sizes) {
+        if !commit_cell(out, values, marks, sizes, base, j) {
+            return Stop::At(j / width, j % width);
+        }
+    }
+    Stop::Nowhere
+}

@@ -1,0 +1,74 @@
+// The working cells: a part of the scratch buffers from place `base` on, behind the places of the plan's lines.
+ghost use Prim.Native.Nat.{_+_, _*_, _≤_, _<_};
+ghost use mathlib.Core.Path.{_≡_};
+ghost use mathlib.Core.Bool.{true};
+ghost use lib.IntN.{pos};
+ghost use lib.ListN.{length, getD};
+ghost use lib.Signed.{mag};
+ghost use Rattle.register.specs.Cells.{cellAt, cellsOf};
+ghost use Rattle.register.specs.File.{cellIndex};
+ghost use Rattle.register.specs.Shape.{Limits};
+ghost use Rattle.chain.specs.Word.{hasField, column as columnOf};
+ghost use Rattle.evaluate.specs.Places.{placeAt};
+ghost use Rattle.machine.specs.Remote.{merged};
+ghost use Rattle.machine.specs.declared.message.Sort.the-variants.{Least, Total};
+ghost use Rattle.step.specs.Work.{Room, Holds, Put, Same, Small};
+use chain::follow;
+use evaluate::places;
+use machine::message::Sort;
+use register::Sizes;
+use register::cells;
+use register::cells::Cell;
+
+// They begin as the register's cells.
+pub fn begin(cells: &[u8], filled: &[u8], values: &mut [i64], marks: &mut [u8], base: usize)
+    requires { ⌜ (length (now cells) ≡ 4 * length (now filled)) × Room base (length (now filled)) (now values) (now marks) ⌝ }
+    ensures { λ _. ⌜ Holds base (cellsOf (now (cells .entry)) (now (filled .entry))) (now (values .exit)) (now (marks .exit)) × Same base (now (values .entry)) (now (marks .entry)) (now (values .exit)) (now (marks .exit)) × Small 2147483648 base (length (now (filled .entry))) (now (values .exit)) ⌝ }
+{
+    for j in 0..filled.len() {
+        places::put_cell(values, marks, base + j, cells::cell_at(cells, filled, j));
+    }
+}
+
+// The place of the working cell of record u and a field.
+pub fn place(sizes: Sizes, base: usize, u: usize, field: u64) -> usize
+    requires { ⌜ Limits sizes × (u < sizes .records) × (hasField sizes field ≡ true) × (base ≤ 266240) ⌝ }
+    ensures { λ r. ⌜ r ≡ base + cellIndex sizes u (columnOf sizes field) ⌝ }
+{
+    base + register::cell_index(sizes, u, follow::column(sizes, field as usize))
+}
+
+// `<?=` keeps the smaller, and fills a missing cell.
+fn keep_least(values: &mut [i64], marks: &mut [u8], j: usize, amount: i32)
+    requires { ⌜ (j < length (now values)) × (j < length (now marks)) ⌝ }
+    ensures { λ _. ⌜ Put j (merged Least (placeAt (now (values .entry)) (now (marks .entry)) j) amount) (now (values .entry)) (now (marks .entry)) (now (values .exit)) (now (marks .exit)) ⌝ }
+{
+    if marks[j] != 0 {
+        if !integers::is_below(amount, values[j]) {
+            return;
+        }
+    }
+    places::put_cell(values, marks, j, Cell::Value(amount));
+}
+
+// `+=` adds to a cell that has a value; a missing cell stays missing.
+fn add_total(values: &mut [i64], marks: &mut [u8], j: usize, amount: i32)
+    requires { ⌜ (j < length (now values)) × (j < length (now marks)) × (mag (getD (now values) j (pos 0)) < 4611686018427387904) ⌝ }
+    ensures { λ _. ⌜ Put j (merged Total (placeAt (now (values .entry)) (now (marks .entry)) j) amount) (now (values .entry)) (now (marks .entry)) (now (values .exit)) (now (marks .exit)) ⌝ }
+{
+    if marks[j] == 0 {
+        return;
+    }
+    values[j] = integers::increase(values[j], amount);
+}
+
+// One remote write.
+pub fn deliver(values: &mut [i64], marks: &mut [u8], j: usize, sort: Sort, amount: i32)
+    requires { ⌜ (j < length (now values)) × (j < length (now marks)) × (mag (getD (now values) j (pos 0)) < 4611686018427387904) ⌝ }
+    ensures { λ _. ⌜ Put j (merged sort (placeAt (now (values .entry)) (now (marks .entry)) j) amount) (now (values .entry)) (now (marks .entry)) (now (values .exit)) (now (marks .exit)) ⌝ }
+{
+    match sort {
+        Sort::Least => keep_least(values, marks, j, amount),
+        Sort::Total => add_total(values, marks, j, amount),
+    }
+}
