@@ -76,7 +76,8 @@ fn load_sized(file: &[u8], sizes: Sizes) -> LoadAnswer
     }
 }
 
-fn sizes_of(file: &[u8]) -> Sizes
+// The sizes that a file begins with.
+pub fn sizes_of(file: &[u8]) -> Sizes
     requires { ⌜ 12 ≤ length (now file) ⌝ }
     ensures { λ r. ⌜ r ≡ sizesOf (now (file .entry)) ⌝ }
 {

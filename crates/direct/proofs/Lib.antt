@@ -1,0 +1,4 @@
+-- Laws for the proofs of the functions.
+pub mod Arrays
+pub mod Standing
+pub mod Stepping

@@ -1,0 +1,2 @@
+-- What the run of a program answers.
+pub mod Answer

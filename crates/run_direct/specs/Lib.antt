@@ -1,0 +1,3 @@
+-- The direct run as an operation.
+pub mod Direct
+pub mod Answer
