@@ -1,3 +1,4 @@
 -- The C interface: what the exported functions answer.
 pub mod Answer
 pub mod PlanAnswer
+pub mod RunAnswer

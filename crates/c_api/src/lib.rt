@@ -1,4 +1,5 @@
 // The exported functions, for programs in other languages.
 pub mod check;
 pub mod read;
+pub mod run;
 pub mod step;

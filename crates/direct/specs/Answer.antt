@@ -33,10 +33,10 @@ pub record Offence (s : Sizes) (rs : List Rule) (cells : List Cell) (u c : ℕ) 
   pub col : c < width s
   pub offends : offendsAt s (direct s rs cells) rs cells u c ≡ true
 
--- the refusal; where there is none the file holds the cells at the end
+-- the refusal, and no place but for 21; where there is none the file holds the cells at the end
 abbrev pub EndsBy : Sizes → Ending → List Cell → List ℕ → Ran → Type 0
-EndsBy s complete cells file r = (r .refusal ≡ 0) × (file ≡ fileOf s cells)
-EndsBy s spent cells file r = r .refusal ≡ 20
+EndsBy s complete cells file r = (r ≡ endedWith 0 (r .finished)) × (file ≡ fileOf s cells)
+EndsBy s spent cells file r = r ≡ endedWith 20 (r .finished)
 EndsBy s (offended rs before) cells file r = (r .refusal ≡ 21) × Offence s rs before (r .row) (r .column)
 
 -- the run of a program from the register in a file on

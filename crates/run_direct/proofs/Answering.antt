@@ -81,13 +81,13 @@ told r = record { refusal = r .refusal; line = 0; finished = r .finished; row = 
 
 module _ (s : Sizes) (cells : List Cell) (file out : List ℕ) (r : Ran) where
   ended-complete : (x : Ending) → EndsBy s x cells out r → r .refusal ≡ 0 → Ended s x cells file out (told r)
-  ended-complete complete h z = h
-  ended-complete spent h z = absurd (omega arith)
+  ended-complete complete h z = (ap told (h .0), h .1)
+  ended-complete spent h z = absurd (omega (arith, ap (λ (x : Ran). x .refusal) h))
   ended-complete (offended rs before) h z = absurd (omega (arith, h .0))
 
   ended-refused : (x : Ending) → EndsBy s x cells out r → r .refusal ≢ 0 → Ended s x cells file file (told r)
-  ended-refused complete h z = absurd (z (h .0))
-  ended-refused spent h z = (h, refl)
+  ended-refused complete h z = absurd (z (ap (λ (x : Ran). x .refusal) (h .0)))
+  ended-refused spent h z = (ap told h, refl)
   ended-refused (offended rs before) h z = (h .0, refl, h .1)
 
 module _ {s : Sizes} {p : Program} {budget : ℕ} {file out : List ℕ} {r : Ran} (e : Ends s p budget file out r) where

@@ -20,10 +20,14 @@ lengths out values marks = record { out = length out; values = length values; ma
 abbrev pub refusedWith : ℕ → ℕ → RunAnswer
 refusedWith refusal line = record { refusal = refusal; line = line; finished = 0; row = 0; column = 0 }
 
+-- a run that names no place
+abbrev pub endedAt : ℕ → ℕ → RunAnswer
+endedAt refusal finished = record { refusal = refusal; line = 0; finished = finished; row = 0; column = 0 }
+
 -- how a run ended: "The file holds the cells at the end; after 20 or 21 it is the register as loaded."
 abbrev pub Ended : Sizes → Ending → List Cell → List ℕ → List ℕ → RunAnswer → Type 0
-Ended s complete cells file out r = (r .refusal ≡ 0) × (out ≡ fileOf s cells)
-Ended s spent cells file out r = (r .refusal ≡ 20) × (out ≡ file)
+Ended s complete cells file out r = (r ≡ endedAt 0 (r .finished)) × (out ≡ fileOf s cells)
+Ended s spent cells file out r = (r ≡ endedAt 20 (r .finished)) × (out ≡ file)
 Ended s (offended rs before) cells file out r = (r .refusal ≡ 21) × (out ≡ file) × Offence s rs before (r .row) (r .column)
 
 -- a run: its finished steps, how it ended, and the output; the scratch buffers keep their lengths

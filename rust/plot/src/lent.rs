@@ -6,6 +6,12 @@ pub type Answer = [u64; 8];
 
 /// The place of the line, for refusals 6 to 15.
 pub const LINE: usize = 0;
+/// The place of a run's finished steps.
+pub const FINISHED: usize = 1;
+/// The place of the record that refusal 21 names.
+pub const RECORD: usize = 4;
+/// The place of the field that refusal 21 names, from 0, references first.
+pub const FIELD: usize = 5;
 /// The place that says whether a reading is filled: 1 filled, 0 unfilled.
 pub const FILLED: usize = 6;
 /// The place of a checked text's number of steps.
@@ -79,6 +85,33 @@ unsafe extern "C" {
         rounds: *mut [u8; MAX_LINES],
         answer: *mut Answer,
     ) -> u32;
+
+    fn plot_run_direct(
+        register: *const u8,
+        register_length: usize,
+        text: *const u8,
+        text_length: usize,
+        budget: u16,
+        output: *mut u8,
+        output_length: usize,
+        values: *mut i64,
+        values_length: usize,
+        marks: *mut u8,
+        marks_length: usize,
+        answer: *mut Answer,
+    ) -> u32;
+}
+
+/// What a run is lent: an output as long as the register file, and the two
+/// scratch buffers.
+#[derive(Clone, Debug, PartialEq, Eq)]
+pub struct RunBuffers {
+    /// The register file at the end.
+    pub output: Vec<u8>,
+    /// Scratch values.
+    pub values: Vec<i64>,
+    /// Scratch marks.
+    pub marks: Vec<u8>,
 }
 
 /// Reads a chain at a record: `value` becomes the cell's value, 0 where it is
@@ -144,6 +177,36 @@ pub fn plan(
             &mut lines.kinds,
             &mut lines.chains,
             &mut lines.rounds,
+            answer,
+        )
+    }
+}
+
+/// Runs a text over a register by the direct machine. On refusals 1 to 19 the
+/// buffers stay as they are.
+pub fn run_direct(
+    register: &[u8],
+    text: &[u8],
+    budget: u16,
+    buffers: &mut RunBuffers,
+    answer: &mut Answer,
+) -> u32 {
+    // SAFETY: each pointer comes from a reference that outlives the call, is not
+    // null, and goes with its slice's length; the library writes to the three
+    // buffers and `answer` only, and keeps no pointer.
+    unsafe {
+        plot_run_direct(
+            register.as_ptr(),
+            register.len(),
+            text.as_ptr(),
+            text.len(),
+            budget,
+            buffers.output.as_mut_ptr(),
+            buffers.output.len(),
+            buffers.values.as_mut_ptr(),
+            buffers.values.len(),
+            buffers.marks.as_mut_ptr(),
+            buffers.marks.len(),
             answer,
         )
     }
