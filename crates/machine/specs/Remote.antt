@@ -20,6 +20,7 @@ use Rattle.machine.specs.Value.{both, termValue, holds}
 unfoldable pub sentTo : Sort → ℕ → Cell → Cell → List Message
 sentTo k f c x = both [] (λ v a. record { sort = k; target = natAbs v; field = f; amount = a } ∷ []) c x
 
+-- the message of a rule without its test: a local rule sends none
 unfoldable pub actionMessages : (List ℕ → Cell) → Action → List Message
 actionMessages read (set f x) = []
 actionMessages read (sum f x y) = []
@@ -27,6 +28,7 @@ actionMessages read (difference f x y) = []
 actionMessages read (least f c x) = sentTo Least f (read c) (termValue read x)
 actionMessages read (total f c x) = sentTo Total f (read c) (termValue read x)
 
+-- "A remote write whose test, if any, holds and whose C and X are filled is one letter; any other sends none."
 unfoldable pub ruleMessages : (List ℕ → Cell) → Rule → List Message
 ruleMessages read r = cond (holds read (r .test)) (actionMessages read (r .action)) []
 
@@ -50,10 +52,12 @@ unfoldable pub increased : Cell → ℤ → Cell
 increased Missing a = Missing
 increased (Value z) a = Value (z +ℤ a)
 
+-- what a write makes of the cell that it reaches
 unfoldable pub merged : Sort → Cell → ℤ → Cell
 merged Least c a = smaller c a
 merged Total c a = increased c a
 
+-- one message, and all of them in turn: "Then remote writes are applied to the result."
 unfoldable pub deliver : Sizes → List Cell → Message → List Cell
 deliver s cells m =
     let j = cellIndex s (m .target) (column s (m .field)) in

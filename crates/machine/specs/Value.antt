@@ -21,6 +21,7 @@ unfoldable pub termValue : (List ℕ → Cell) → Term → Cell
 termValue read (reading w) = read w
 termValue read (constant z) = Value z
 
+-- `<`, `==`, `!=`, on references by record number
 unfoldable pub compare : Comparison → ℤ → ℤ → Bool
 compare less a b = ltZ a b
 compare equal a b = eqZ a b

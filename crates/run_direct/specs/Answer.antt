@@ -13,6 +13,7 @@ use Rattle.direct.specs.Answer.{Offence}
 use Rattle.run_direct.specs.Direct.{Lengths}
 use Rattle.run_direct.specs.declared.RunAnswer.{RunAnswer}
 
+-- the lengths of the lent buffers
 abbrev pub lengths : List ℕ → List ℤ → List ℕ → Lengths
 lengths out values marks = record { out = length out; values = length values; marks = length marks }
 
@@ -45,6 +46,7 @@ pub record RefusalAnswered (n k : ℕ) (out : List ℕ) (values : List ℤ) (mar
   pub values-same : values′ ≡ values
   pub marks-same : marks′ ≡ marks
 
+-- an outcome as the caller sees it: the answer, and what its buffers hold then
 abbrev pub Answered : Outcome Run → List ℕ → List ℕ → List ℤ → List ℕ → List ℕ → List ℤ → List ℕ → RunAnswer → Type 0
 Answered (done x) file out values marks out′ values′ marks′ r = RunAnswered x file out′ values marks values′ marks′ r
 Answered (refused n k) file out values marks out′ values′ marks′ r = RefusalAnswered n k out values marks out′ values′ marks′ r
