@@ -2,3 +2,4 @@
 pub mod Answer
 pub mod PlanAnswer
 pub mod RunAnswer
+pub mod InspectAnswer

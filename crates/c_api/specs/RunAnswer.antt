@@ -5,12 +5,17 @@ use Prim.Native.Nat.{ℕ}
 use lib.IntN.{ℤ}
 use Rattle.register.specs.Outcome.{Outcome}
 use Rattle.machine.specs.Run.{Run}
-use Rattle.run_direct.specs.Answer.{Answered}
-use Rattle.run_direct.specs.declared.RunAnswer.{RunAnswer}
+use Rattle.message_machine.specs.declared.Machine.{Machine}
+use Rattle.runs.specs.Answer.{Answered}
+use Rattle.run_program.specs.declared.RunAnswer.{RunAnswer}
 
--- what `plot_run_direct` answers: its result and its answer array are those of the answer of this outcome
-pub record RunCalled (o : Outcome Run) (file out : List ℕ) (values : List ℤ) (marks : List ℕ) (out′ : List ℕ) (values′ : List ℤ) (marks′ : List ℕ) (result : ℕ) (answer : List ℕ) : Type 0 where
+-- the places of the answer array
+abbrev pub numbersOf : RunAnswer → List ℕ
+numbersOf r = r .line ∷ r .finished ∷ r .counts .exchanges ∷ r .counts .messages ∷ r .row ∷ r .column ∷ 0 ∷ 0 ∷ []
+
+-- what a run by a machine answers: its result and its answer array are those of the answer of this outcome
+pub record RunCalled (m : Machine) (o : Outcome Run) (file out : List ℕ) (values : List ℤ) (marks : List ℕ) (out′ : List ℕ) (values′ : List ℤ) (marks′ : List ℕ) (result : ℕ) (answer : List ℕ) : Type 0 where
   pub ran : RunAnswer
-  pub answered : Answered o file out values marks out′ values′ marks′ ran
+  pub answered : Answered m o file out values marks out′ values′ marks′ ran
   pub result-is : result ≡ ran .refusal
-  pub answer-is : answer ≡ ran .line ∷ ran .finished ∷ 0 ∷ 0 ∷ ran .row ∷ ran .column ∷ 0 ∷ 0 ∷ []
+  pub answer-is : answer ≡ numbersOf ran

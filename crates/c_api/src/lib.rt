@@ -1,5 +1,6 @@
 // The exported functions, for programs in other languages.
 pub mod check;
+pub mod inspection;
 pub mod read;
 pub mod run;
 pub mod step;

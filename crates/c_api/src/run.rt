@@ -1,9 +1,29 @@
-// The direct run.
-ghost use Rattle.run_direct.specs.Direct.{directRun};
-ghost use Rattle.run_direct.specs.Answer.{lengths};
-ghost use Rattle.c_api.specs.RunAnswer.{RunCalled};
+// The two runs.
+ghost use mathlib.Core.Path.{_≡_};
+ghost use Rattle.message_machine.specs.declared.Machine.the-variants.{Direct, Messages};
+ghost use Rattle.runs.specs.Direct.{directRun};
+ghost use Rattle.runs.specs.Answer.{lengths};
+ghost use Rattle.c_api.specs.RunAnswer.{numbersOf, RunCalled};
+use run_program::RunAnswer;
 
-// Runs a text over a register: the refusal number, 0 for none.
+// A run's answer by its numbers.
+fn numbers(ran: RunAnswer) -> [u64; 8]
+    ensures { λ r. ⌜ r ≡ numbersOf ran ⌝ }
+{
+    let counts = ran.counts;
+    [
+        ran.line as u64,
+        ran.finished as u64,
+        counts.exchanges as u64,
+        counts.messages as u64,
+        ran.row as u64,
+        ran.column as u64,
+        0,
+        0,
+    ]
+}
+
+// Runs a text over a register, every reading by following references: the refusal number, 0 for none.
 #[no_mangle]
 pub extern "C" fn plot_run_direct(
     file: &[u8],
@@ -14,18 +34,27 @@ pub extern "C" fn plot_run_direct(
     marks: &mut [u8],
     answer: &mut [u64; 8],
 ) -> u32
-    ensures { λ r. ⌜ RunCalled (directRun (now (file .entry)) (now (text .entry)) budget (lengths (now (out .entry)) (now (values .entry)) (now (marks .entry)))) (now (file .entry)) (now (out .entry)) (now (values .entry)) (now (marks .entry)) (now (out .exit)) (now (values .exit)) (now (marks .exit)) r (now (answer .exit)) ⌝ }
+    ensures { λ r. ⌜ RunCalled Direct (directRun (now (file .entry)) (now (text .entry)) budget (lengths (now (out .entry)) (now (values .entry)) (now (marks .entry)))) (now (file .entry)) (now (out .entry)) (now (values .entry)) (now (marks .entry)) (now (out .exit)) (now (values .exit)) (now (marks .exit)) r (now (answer .exit)) ⌝ }
 {
-    let ran = run_direct::run_direct(file, text, budget, out, values, marks);
-    *answer = [
-        ran.line as u64,
-        ran.finished as u64,
-        0,
-        0,
-        ran.row as u64,
-        ran.column as u64,
-        0,
-        0,
-    ];
+    let ran = runs::run_direct(file, text, budget, out, values, marks);
+    *answer = numbers(ran);
+    ran.refusal
+}
+
+// The same by messages.
+#[no_mangle]
+pub extern "C" fn plot_run_messages(
+    file: &[u8],
+    text: &[u8],
+    budget: u16,
+    out: &mut [u8],
+    values: &mut [i64],
+    marks: &mut [u8],
+    answer: &mut [u64; 8],
+) -> u32
+    ensures { λ r. ⌜ RunCalled Messages (directRun (now (file .entry)) (now (text .entry)) budget (lengths (now (out .entry)) (now (values .entry)) (now (marks .entry)))) (now (file .entry)) (now (out .entry)) (now (values .entry)) (now (marks .entry)) (now (out .exit)) (now (values .exit)) (now (marks .exit)) r (now (answer .exit)) ⌝ }
+{
+    let ran = runs::run_messages(file, text, budget, out, values, marks);
+    *answer = numbers(ran);
     ran.refusal
 }

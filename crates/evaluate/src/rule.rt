@@ -4,12 +4,14 @@ ghost use Prim.Native.Nat.{_<_};
 ghost use lib.IntN.{_+ℤ_, _-ℤ_};
 ghost use Rattle.register.specs.Cells.{cellsOf};
 ghost use Rattle.register.specs.Shape.{Parts};
+ghost use Rattle.rules.specs.Program.{isRemote};
 ghost use Rattle.step_plan.specs.Stored.{ruleOf, actionOf};
 ghost use Rattle.machine.specs.Local.{sumCell};
 ghost use Rattle.machine.specs.Remote.{sentTo, ruleMessages};
 ghost use Rattle.evaluate.specs.Located.{located, SlotReaches, Names, Points};
 ghost use Rattle.evaluate.specs.Answers.{sumAnswer, sumWrite, writeOf, messagesIn};
 use crate::term;
+use crate::term::Pair;
 use actions::rule::Rule;
 use actions::rule::Slot;
 use integers::Sum;
@@ -31,6 +33,19 @@ pub enum Sent {
     One(Message),
 }
 
+// Whether it is a remote write.
+fn is_remote(rule: Rule) -> bool
+    ensures { λ r. ⌜ r ≡ isRemote (actionOf rule) ⌝ }
+{
+    match rule {
+        Rule::Set(_, _) => false,
+        Rule::Sum(_, _, _) => false,
+        Rule::Difference(_, _, _) => false,
+        Rule::Least(_, _, _) => true,
+        Rule::Total(_, _, _) => true,
+    }
+}
+
 fn write_sum(field: u64, sum: Sum) -> Write
     ensures { λ r. ⌜ r ≡ sumAnswer field sum ⌝ }
 {
@@ -43,10 +58,7 @@ fn write_sum(field: u64, sum: Sum) -> Write
 fn add(field: u64, x: Cell, y: Cell) -> Write
     ensures { λ r. ⌜ r ≡ sumWrite field (sumCell _+ℤ_ x y) ⌝ }
 {
-    let Cell::Value(a) = x else {
-        return Write::Store(field, Cell::Missing);
-    };
-    let Cell::Value(b) = y else {
+    let Pair::Values(a, b) = term::both(x, y) else {
         return Write::Store(field, Cell::Missing);
     };
     write_sum(field, integers::add(a, b))
@@ -55,10 +67,7 @@ fn add(field: u64, x: Cell, y: Cell) -> Write
 fn subtract(field: u64, x: Cell, y: Cell) -> Write
     ensures { λ r. ⌜ r ≡ sumWrite field (sumCell _-ℤ_ x y) ⌝ }
 {
-    let Cell::Value(a) = x else {
-        return Write::Store(field, Cell::Missing);
-    };
-    let Cell::Value(b) = y else {
+    let Pair::Values(a, b) = term::both(x, y) else {
         return Write::Store(field, Cell::Missing);
     };
     write_sum(field, integers::subtract(a, b))
@@ -77,11 +86,14 @@ pub fn local_write(
     requires { ⌜ Parts sizes (now cells) (now filled) × (u < sizes .records) × SlotReaches sizes (now values) (now marks) u slot ⌝ }
     ensures { λ r. ⌜ r ≡ writeOf (located sizes (cellsOf (now (cells .entry)) (now (filled .entry))) (now (values .entry)) (now (marks .entry)) u) (ruleOf slot) ⌝ }
 {
+    let rule = slot.rule;
+    if is_remote(rule) {
+        return Write::Nothing;
+    }
     let test = slot.test;
     if !term::holds(cells, filled, values, marks, sizes, u, test) {
         return Write::Nothing;
     }
-    let rule = slot.rule;
     match rule {
         Rule::Set(field, x) => Write::Store(
             field,
@@ -107,10 +119,7 @@ fn send(sort: Sort, field: u64, target: Cell, amount: Cell) -> Sent
     requires { ⌜ Names target ⌝ }
     ensures { λ r. ⌜ messagesIn r ≡ sentTo sort field target amount ⌝ }
 {
-    let Cell::Value(v) = target else {
-        return Sent::Nothing;
-    };
-    let Cell::Value(a) = amount else {
+    let Pair::Values(v, a) = term::both(target, amount) else {
         return Sent::Nothing;
     };
     Sent::One(Message {
@@ -134,11 +143,14 @@ pub fn message_of(
     requires { ⌜ Parts sizes (now cells) (now filled) × (u < sizes .records) × SlotReaches sizes (now values) (now marks) u slot × Points (located sizes (cellsOf (now cells) (now filled)) (now values) (now marks) u) (actionOf (slot .rule)) ⌝ }
     ensures { λ r. ⌜ messagesIn r ≡ ruleMessages (located sizes (cellsOf (now (cells .entry)) (now (filled .entry))) (now (values .entry)) (now (marks .entry)) u) (ruleOf slot) ⌝ }
 {
+    let rule = slot.rule;
+    if !is_remote(rule) {
+        return Sent::Nothing;
+    }
     let test = slot.test;
     if !term::holds(cells, filled, values, marks, sizes, u, test) {
         return Sent::Nothing;
     }
-    let rule = slot.rule;
     match rule {
         Rule::Set(_, _) => Sent::Nothing,
         Rule::Sum(_, _, _) => Sent::Nothing,

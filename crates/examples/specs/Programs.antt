@@ -1,4 +1,5 @@
 -- (P) The texts of the printed run and of the "Edges", each with the program that it describes: A is field 0, M field 8.
+use Prim.Native.Nat.{ℕ}
 use Prim.Native.String.{String}
 use mathlib.Core.Path.{_≡_, refl}
 use mathlib.Core.List.{List, [], _∷_, map}
@@ -18,12 +19,11 @@ use Rattle.rules.specs.Check.{lineRefusal, planFits, sortsAgree, oneSort, someA
 use Rattle.rules.specs.Program.{reading, constant, always, Action, set, sum, total, Rule, Step, Program, stepPlan, readings, ruleReadings, actionReadings, testReadings, termReadings}
 use Rattle.rules.specs.Text.{textProgram, readFrom, start, closed, lineOutcome, advance, settingIn, withStep, actionOf, testOf, termOf, pieceForm, lines, onto}
 use Rattle.rules.specs.declared.around.Setting.the-variants.{Single}
-use Rattle.examples.specs.Printed.{printedSizes}
 
--- the program of a text over a register with the fields A and M
-unfoldable pub programOf : String → Outcome Program
-unfolding printedSizes textProgram readFrom start closed lineOutcome advance settingIn withStep actionOf testOf termOf pieceForm lines onto after unless lineRefusal planFits sortsAgree oneSort someAction isTotal isLeast hasRoom inPlace openRules isOpen isUsed isOutside numbersInRange termInRange short termShort kinded kindsAgree actionKinds areMeasures conditionKinds same isReferenceTerm termKinded named fieldNamed termNamed target everyTerm terms actionTerms conditionTerms lineForm testedForm compared ruleOf actionForm remoteForm sent localForm assigned termForm ofChain ofNumber capital then word or finished isDigit digits decimal isNumeral signedForm numberForm numberValue signedValue inRange startsWith C.isCapital C.closed C.form C.fieldOf C.isReferenceLetter C.names C.every C.innerReferences C.wordOf stepPlan readings ruleReadings actionReadings testReadings termReadings plan add-readings add planLines listed place sameFact same-word tree tree-within half doubled front rest
-programOf t = textProgram printedSizes (bytes t)
+-- the program of a text over a register of n records with the fields A and M
+unfoldable pub programOf : ℕ → String → Outcome Program
+unfolding textProgram readFrom start closed lineOutcome advance settingIn withStep actionOf testOf termOf pieceForm lines onto after unless lineRefusal planFits sortsAgree oneSort someAction isTotal isLeast hasRoom inPlace openRules isOpen isUsed isOutside numbersInRange termInRange short termShort kinded kindsAgree actionKinds areMeasures conditionKinds same isReferenceTerm termKinded named fieldNamed termNamed target everyTerm terms actionTerms conditionTerms lineForm testedForm compared ruleOf actionForm remoteForm sent localForm assigned termForm ofChain ofNumber capital then word or finished isDigit digits decimal isNumeral signedForm numberForm numberValue signedValue inRange startsWith C.isCapital C.closed C.form C.fieldOf C.isReferenceLetter C.names C.every C.innerReferences C.wordOf stepPlan readings ruleReadings actionReadings testReadings termReadings plan add-readings add planLines listed place sameFact same-word tree tree-within half doubled front rest
+programOf n t = textProgram (record { records = n; references = 1; measures = 1 }) (bytes t)
 
 -- a rule without a test, and a step of such rules outside loops
 abbrev pub untested : Action → Rule
@@ -36,47 +36,47 @@ stepOf actions = record { rules = map untested actions; setting = Single }
 abbrev pub printedStep : Step
 printedStep = stepOf (set 8 (reading (0 ∷ 0 ∷ 8 ∷ [])) ∷ [])
 
-pub printed-text : programOf "step\nM[u] := M[A[A[u]]]\nend\n" ≡ done (printedStep ∷ [])
+pub printed-text : (n : ℕ) → programOf n "step\nM[u] := M[A[A[u]]]\nend\n" ≡ done (printedStep ∷ [])
 unfolding programOf
-printed-text = refl
+printed-text n = refl
 
 -- "`A[u] := u`"
 abbrev pub ownStep : Step
 ownStep = stepOf (set 0 (reading []) ∷ [])
 
-pub own-text : programOf "step\nA[u] := u\nend\n" ≡ done (ownStep ∷ [])
+pub own-text : (n : ℕ) → programOf n "step\nA[u] := u\nend\n" ≡ done (ownStep ∷ [])
 unfolding programOf
-own-text = refl
+own-text n = refl
 
 -- "2147483647 + 1"
 abbrev pub aboveStep : Step
 aboveStep = stepOf (sum 8 (constant (pos 2147483647)) (constant (pos 1)) ∷ [])
 
-pub above-text : programOf "step\nM[u] := 2147483647 + 1\nend\n" ≡ done (aboveStep ∷ [])
+pub above-text : (n : ℕ) → programOf n "step\nM[u] := 2147483647 + 1\nend\n" ≡ done (aboveStep ∷ [])
 unfolding programOf
-above-text = refl
+above-text n = refl
 
 -- "2147483647 + 0"
 abbrev pub mostStep : Step
 mostStep = stepOf (sum 8 (constant (pos 2147483647)) (constant (pos 0)) ∷ [])
 
-pub most-text : programOf "step\nM[u] := 2147483647 + 0\nend\n" ≡ done (mostStep ∷ [])
+pub most-text : (n : ℕ) → programOf n "step\nM[u] := 2147483647 + 0\nend\n" ≡ done (mostStep ∷ [])
 unfolding programOf
-most-text = refl
+most-text n = refl
 
 -- "two remote amounts 1 and −1", each record's to itself
 abbrev pub amountsStep : Step
 amountsStep = stepOf (total 8 [] (constant (pos 1)) ∷ total 8 [] (constant (negsuc 0)) ∷ [])
 
-pub amounts-text : programOf "step\nremote M[u] += 1\nremote M[u] += -1\nend\n" ≡ done (amountsStep ∷ [])
+pub amounts-text : (n : ℕ) → programOf n "step\nremote M[u] += 1\nremote M[u] += -1\nend\n" ≡ done (amountsStep ∷ [])
 unfolding programOf
-amounts-text = refl
+amounts-text n = refl
 
 -- "Empty text", and "one step"
-pub empty-text : programOf "" ≡ done []
+pub empty-text : (n : ℕ) → programOf n "" ≡ done []
 unfolding programOf
-empty-text = refl
+empty-text n = refl
 
-pub one-step-text : programOf "step\nend\n" ≡ done (stepOf [] ∷ [])
+pub one-step-text : (n : ℕ) → programOf n "step\nend\n" ≡ done (stepOf [] ∷ [])
 unfolding programOf
-one-step-text = refl
+one-step-text n = refl

@@ -34,12 +34,14 @@ abbrev pub most : Cell
 most = Value (pos 2147483647)
 
 -- "1 steps"; "0 1 180", "1 2 -", "2 - -"
-pub printed-values : printedRun (printedStep ∷ [])
-    ≡ record {
-      cells = Value (pos 1) ∷ Value (pos 180) ∷ Value (pos 2) ∷ Missing ∷ Missing ∷ Missing ∷ [];
-      trace = (printedStep, printedCells) ∷ [];
-      ending = complete;
-    }
+abbrev pub printedResult : Run
+printedResult = record {
+  cells = Value (pos 1) ∷ Value (pos 180) ∷ Value (pos 2) ∷ Missing ∷ Missing ∷ Missing ∷ [];
+  trace = (printedStep, printedCells) ∷ [];
+  ending = complete;
+}
+
+pub printed-values : printedRun (printedStep ∷ []) ≡ printedResult
 unfolding printedRun
 printed-values = refl
 

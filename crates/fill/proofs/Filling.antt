@@ -7,10 +7,10 @@ use native.Mathlib.Nat.{mul-le-mul-right}
 use native.Mathlib.Omega.{arith}
 use lib.IntN.{ℤ, pos}
 use lib.ListN.{length, getD, set, length-set}
-use lib.Seq.{getD-set-same, getD-set-other}
+use lib.Seq.{getD-set-same}
 use mir.Syntax.{w32}
 use mir.Val.{SFits}
-use Rattle.register.specs.Cells.{valueOf, markOf, cellOf}
+use Rattle.register.specs.Cells.{valueOf, markOf}
 use Rattle.register.specs.declared.Sizes.{Sizes}
 use Rattle.register.specs.declared.cells.Cell.{Cell}
 use Rattle.chain.specs.Word.{valueAtRecord}
@@ -20,20 +20,9 @@ use Rattle.plan.specs.declared.key.Kind.{Kind}
 use Rattle.plan.specs.declared.key.Kind.the-variants.{Back, Read}
 use Rattle.plan.proofs.Search.{facts-line}
 use Rattle.plan.specs.Cases.{lt-or-le}
-use Rattle.evaluate.specs.Places.{placeAt}
-use Rattle.evaluate.proofs.Placed.{placeAt-set}
-use Rattle.fill.specs.Filled.{ReadAt, Kept, LineFilled, Filled}
-
-kept-same : {j : ℕ} {values : List ℤ} {marks : List ℕ} → Kept j values marks values marks
-kept-same = record { value-is = refl; mark-is = refl }
-
-kept-again : {j : ℕ} {values values′ values″ : List ℤ} {marks marks′ marks″ : List ℕ} → Kept j values marks values′ marks′ → Kept j values′ marks′ values″ marks″
-    → Kept j values marks values″ marks″
-kept-again a b = record { value-is = b .value-is ∙ a .value-is; mark-is = b .mark-is ∙ a .mark-is }
-
--- a store keeps every other place
-kept-other : (values : List ℤ) (marks : List ℕ) (i : ℕ) (z : ℤ) (m j : ℕ) → j ≢ i → Kept j values marks (set values i z) (set marks i m)
-kept-other values marks i z m j h = record { value-is = getD-set-other values i j z (pos 0) h; mark-is = getD-set-other marks i j m 0 h }
+use Rattle.evaluate.specs.Places.{Kept}
+use Rattle.evaluate.proofs.Placed.{placeAt-set, kept-same, kept-again, kept-other, placeAt-kept}
+use Rattle.fill.specs.Filled.{ReadAt, LineFilled, Filled}
 
 -- the fact of a kind and a word
 abbrev pub factOf : Kind → List ℕ → Fact
@@ -54,8 +43,7 @@ module _ (s : Sizes) (cells : List Cell) where
   -- a reading stays where its place is kept
   read-kept : {w : List ℕ} {i u : ℕ} {values values′ : List ℤ} {marks marks′ : List ℕ} → ReadAt s cells w i u values marks
       → Kept (i * s .records + u) values marks values′ marks′ → ReadAt s cells w i u values′ marks′
-  unfolding placeAt
-  read-kept r k = record { place-is = ap₂ cellOf (k .value-is) (k .mark-is) ∙ r .place-is; fits = rw (k .value-is) (r .fits) }
+  read-kept r k = record { place-is = placeAt-kept k ∙ r .place-is; fits = rw (k .value-is) (r .fits) }
 
   module _ (i : ℕ) (w : List ℕ) (values : List ℤ) (marks : List ℕ) where
     pub line-none : LineFilled s cells i w 0 values marks values marks

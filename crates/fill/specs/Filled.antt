@@ -11,7 +11,7 @@ use Rattle.register.specs.declared.Sizes.{Sizes}
 use Rattle.register.specs.declared.cells.Cell.{Cell}
 use Rattle.chain.specs.Word.{readable, valueAtRecord}
 use Rattle.plan.specs.Plan.{Fact, read, line}
-use Rattle.evaluate.specs.Places.{placeAt}
+use Rattle.evaluate.specs.Places.{placeAt, Kept}
 
 -- every Read line can be followed
 pub record FollowLines (s : Sizes) (l : List Fact) : Type 0 where
@@ -21,11 +21,6 @@ pub record FollowLines (s : Sizes) (l : List Fact) : Type 0 where
 pub record ReadAt (s : Sizes) (cells : List Cell) (w : List ℕ) (i u : ℕ) (values : List ℤ) (marks : List ℕ) : Type 0 where
   pub place-is : placeAt values marks (i * s .records + u) ≡ valueAtRecord s cells w u
   pub fits : SFits w32 (getD values (i * s .records + u) (pos 0))
-
--- place j is as it was
-pub record Kept (j : ℕ) (values : List ℤ) (marks : List ℕ) (values′ : List ℤ) (marks′ : List ℕ) : Type 0 where
-  pub value-is : getD values′ j (pos 0) ≡ getD values j (pos 0)
-  pub mark-is : getD marks′ j 0 ≡ getD marks j 0
 
 -- line i is filled for the first k records
 pub record LineFilled (s : Sizes) (cells : List Cell) (i : ℕ) (w : List ℕ) (k : ℕ) (values : List ℤ) (marks : List ℕ) (values′ : List ℤ) (marks′ : List ℕ) : Type 0 where

@@ -21,8 +21,8 @@ use Rattle.rules.specs.Program as P
 use Rattle.rules.specs.Program.{termReadings, testReadings, actionReadings, ruleReadings, readings, stepPlan}
 use Rattle.rules.specs.Passed.{Each, RulePasses, RulesPass}
 use Rattle.rules.proofs.Checked.{each-front, each-back}
+use Rattle.machine.proofs.Readings.{each-of, rule-pass}
 use Rattle.step_plan.specs.Stored.{termOf, testOf, actionOf, ruleOf, rulesIn}
-use Rattle.fill.proofs.Readings.{each-of, rule-pass}
 use Rattle.locate.specs.Locate.{locatedChain, TermEach, TestEach, RuleEach, SlotEach, Short, SlotShort}
 use Rattle.locate.proofs.Numbers.{chain-stays, chain-line}
 

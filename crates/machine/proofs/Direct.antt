@@ -35,7 +35,7 @@ refers-fits n Missing l h = record { sfits = omega arith }
 refers-fits n (Value z) l h = let i = index-is n z h in rw (i .0) (record { sfits = omega arith })
 
 -- a record's own number
-own-refers : (n u : ℕ) → u < n → refersWithin n (Value (pos u)) ≡ true
+pub own-refers : (n u : ℕ) → u < n → refersWithin n (Value (pos u)) ≡ true
 unfolding refersWithin isIndex
 own-refers n u h = simp (le-leb 0 u (omega arith), lt-ltb u n h)
 
@@ -46,7 +46,7 @@ record Read (s : Sizes) (reference : Bool) (c : Cell) : Type 0 where
 
 module _ {s : Sizes} {cells : List Cell} (v : Valid s cells) where
   -- one hop from a record, to a record by a reference field
-  hop-refers : (c : Cell) (f : ℕ) → f < s .references → refersWithin (s .records) c ≡ true → refersWithin (s .records) (hop s cells c f) ≡ true
+  pub hop-refers : (c : Cell) (f : ℕ) → f < s .references → refersWithin (s .records) c ≡ true → refersWithin (s .records) (hop s cells c f) ≡ true
   unfolding hop refersWithin cell column isReference
   hop-refers Missing f l h = refl
   hop-refers (Value z) f l h = rw (lt-ltb f 8 (omega (arith, v .limits .references≤))) (v .references (natAbs z) f (index-is (s .records) z h .1) l)

@@ -55,14 +55,16 @@ actionMessages-local read (difference f x y) e = refl
 actionMessages-local read (least f c x) e = true-false refl e
 actionMessages-local read (total f c x) e = true-false refl e
 
+pub ruleMessages-local : (read : List ℕ → Cell) (r : Rule) → isRemote (r .action) ≡ false → ruleMessages read r ≡ []
+unfolding ruleMessages
+ruleMessages-local read r e = cond-both (λ ms. ms ≡ []) (holds read (r .test)) _ _ (actionMessages-local read (r .action) e) refl
+
 messages-local : (read : List ℕ → Cell) (rs : List Rule) → hasRemote rs ≡ false → messages read rs ≡ []
-unfolding messages ruleMessages hasRemote
+unfolding messages hasRemote
 messages-local read [] e = refl
 messages-local read (r ∷ rs) e =
     let none = or-neither (isRemote (r .action)) (hasRemote rs) e in
-    ap₂ _++_
-    (cond-both (λ ms. ms ≡ []) (holds read (r .test)) _ _ (actionMessages-local read (r .action) (none .0)) refl)
-    (messages-local read rs (none .1))
+    ap₂ _++_ (ruleMessages-local read r (none .0)) (messages-local read rs (none .1))
 
 pub recordMessages-local : (read : ℕ → List ℕ → Cell) (rs : List Rule) (n : ℕ) → hasRemote rs ≡ false → recordMessages read rs n ≡ []
 unfolding recordMessages

@@ -3,6 +3,7 @@ pub mod Folding
 pub mod Stops
 pub mod Alike
 pub mod Readable
+pub mod Readings
 pub mod Refers
 pub mod Keeping
 pub mod Direct

@@ -50,7 +50,7 @@ module _ (s : Sizes) where
       let (a, b) = and-both (ltb f (s .references)) (referring s w) h in
       rw (a, referring-take k w b) refl
 
-  referring-readable : (w : List ℕ) → referring s w ≡ true → readable s w ≡ true
+  pub referring-readable : (w : List ℕ) → referring s w ≡ true → readable s w ≡ true
   unfolding readable every hasField
   referring-readable [] h = refl
   referring-readable (f ∷ []) h = rw (and-both (ltb f (s .references)) true h .0) refl
@@ -59,12 +59,12 @@ module _ (s : Sizes) where
       rw (a, referring-readable (g ∷ w) b) refl
 
   -- the two needs of a line
-  back-follows : (f : Fact) → 2 ≤ hops f → Follows s f → Follows s (back-need f)
+  pub back-follows : (f : Fact) → 2 ≤ hops f → Follows s f → Follows s (back-need f)
   unfolding front
   back-follows (back w) l h = referring-take (half (length w)) w h
   back-follows (read w) l h = readable-take (half (length w)) w h (half-below (length w) l)
 
-  read-follows : (f : Fact) → Follows s f → Follows s (read-need f)
+  pub read-follows : (f : Fact) → Follows s f → Follows s (read-need f)
   unfolding rest
   read-follows (back w) h = readable-drop (half (length w)) w (referring-readable w h)
   read-follows (read w) h = readable-drop (half (length w)) w h

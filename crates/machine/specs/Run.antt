@@ -1,8 +1,9 @@
 -- A run: steps until none is left, the budget (document 01's allowance) is spent, or a step stops.
 use mathlib.Core.Bool.{Bool, true, false, cond, not, _&&_, _||_}
 use mathlib.Core.List.{List, [], _∷_}
-use Prim.Native.Nat.{ℕ, zero, suc}
+use Prim.Native.Nat.{ℕ, zero, suc, _+_, _*_}
 use Rattle.integers.specs.Range.{eqZ}
+use Rattle.register.specs.File.{width}
 use Rattle.register.specs.declared.Sizes.{Sizes}
 use Rattle.register.specs.declared.cells.Cell.{Cell}
 use Rattle.register.specs.declared.cells.Cell.the-variants.{Missing, Value}
@@ -94,3 +95,7 @@ runFrom s reader (suc budget) steps p cells = stepFirst s reader (runFrom s read
 -- the run of a program over the cells of a register
 unfoldable pub run : Sizes → Reader → Program → ℕ → List Cell → Run
 run s reader program budget cells = runFrom s reader budget program (record { steps = []; before = [] }) cells
+
+-- the places that a scratch buffer (document 01's working array) has at least, for plans of this many lines: "n × (L + r + m + 1)"
+unfoldable pub scratch : Sizes → ℕ → ℕ
+scratch s lines = s .records * (lines + width s + 1)

@@ -1,13 +1,13 @@
--- The column of a field in the scratch buffers: as it is stored record by record, and as it is compared.
+-- The column of a field in the scratch buffers: as it is stored record by record, what stands behind it, and as it is compared.
 use Prim.Native.Nat.{ℕ, _+_, _<_}
-use mathlib.Core.Path.{_≡_, ap₂, sym, _∙_}
+use mathlib.Core.Path.{_≡_, refl, ap₂, sym, _∙_}
 use mathlib.Core.Logic.{_≢_}
 use mathlib.Core.Bool.{Bool}
 use mathlib.Core.List.{List}
 use native.Mathlib.Omega.{arith}
 use borrow.Author.Count.{below-more}
 use lib.IntN.{ℤ, pos}
-use lib.ListN.{length, getD, set}
+use lib.ListN.{length, getD, set, length-set}
 use lib.Seq.{getD-set-same, getD-set-other}
 use mir.Syntax.{w32}
 use mir.Val.{SFits}
@@ -18,8 +18,20 @@ use Rattle.chain.specs.Word.{cell}
 use Rattle.machine.specs.Run.{sameCell}
 use Rattle.machine.proofs.Columns.{sameAt}
 use Rattle.evaluate.specs.Places.{placeAt}
-use Rattle.evaluate.proofs.Placed.{placeAt-set, placeAt-other}
-use Rattle.pass.specs.Column.{Column}
+use Rattle.evaluate.proofs.Placed.{placeAt-set, placeAt-other, kept-same, kept-again, kept-other}
+use Rattle.pass.specs.Column.{Column, Behind}
+
+-- places behind a column: nothing is stored yet, and the cell of one record more
+pub behind-same : {s : Sizes} {at : ℕ} {values : List ℤ} {marks : List ℕ} → Behind s at values marks values marks
+behind-same = record { values-length = refl; marks-length = refl; kept = λ j h. kept-same }
+
+pub behind-next : {s : Sizes} {at : ℕ} {values values′ : List ℤ} {marks marks′ : List ℕ} (n : ℕ) (z : ℤ) (m : ℕ) → n < s .records → Behind s at values marks values′ marks′
+    → Behind s at values marks (set values′ (at + n) z) (set marks′ (at + n) m)
+behind-next {at = at} {values′ = values′} {marks′ = marks′} n z m h b = record {
+  values-length = length-set values′ (at + n) z ∙ b .values-length;
+  marks-length = length-set marks′ (at + n) m ∙ b .marks-length;
+  kept = λ j q. kept-again (b .kept j q) (kept-other values′ marks′ (at + n) z m j (λ e. omega arith));
+}
 
 module _ (s : Sizes) (f : ℕ) (cells : List Cell) (at : ℕ) where
   -- the cell of a record stands at its place

@@ -13,7 +13,7 @@ use Rattle.chain.specs.Word.{cell}
 use Rattle.rules.specs.declared.around.Setting.{Setting}
 use Rattle.rules.specs.declared.around.Setting.the-variants.{Single, Looped}
 use Rattle.machine.specs.Run.{sameColumn, begins, goesOn}
-use Rattle.evaluate.specs.Places.{placeAt}
+use Rattle.evaluate.specs.Places.{placeAt, Kept}
 
 -- there is room for a column from `at` on
 pub record Space (s : Sizes) (at : ℕ) (values : List ℤ) (marks : List ℕ) : Type 0 where
@@ -43,9 +43,16 @@ abbrev pub HasPass : Sizes → Setting → ℕ → List ℤ → Type 0
 HasPass s Single at values = Unit {0}
 HasPass s (Looped f first last) at values = HasColumn s at values
 
+-- the buffers keep their lengths and every place behind the column
+pub record Behind (s : Sizes) (at : ℕ) (values : List ℤ) (marks : List ℕ) (values′ : List ℤ) (marks′ : List ℕ) : Type 0 where
+  pub values-length : length values′ ≡ length values
+  pub marks-length : length marks′ ≡ length marks
+  pub kept : (j : ℕ) → at + s .records ≤ j → Kept j values marks values′ marks′
+
 -- before a step: its pass began over these cells, or before, over those that are kept
 pub record Entered (s : Sizes) (g : Setting) (cells : List Cell) (at : ℕ) (values : List ℤ) (marks : List ℕ) (values′ : List ℤ) (marks′ : List ℕ) : Type 0 where
   pub in-pass : (before : List Cell) → (begins g ≡ false → InPass s g before at values marks) → InPass s g (cond (begins g) cells before) at values′ marks′
+  pub behind : Behind s at values marks values′ marks′
 
 -- behind a step: the one that comes next
 pub record NextIs (s : Sizes) (g : Setting) (after : List Cell) (at : ℕ) (values : List ℤ) (marks : List ℕ) (step first next : ℕ) : Type 0 where

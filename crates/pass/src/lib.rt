@@ -2,16 +2,19 @@
 // that comes next.
 ghost use mathlib.Core.Path.{_≡_};
 ghost use mathlib.Core.Bool.{true, cond};
-ghost use Prim.Native.Nat.{_<_};
+ghost use Prim.Native.Nat.{_+_, _*_, _<_};
+ghost use lib.ListN.{length};
 ghost use Rattle.register.specs.Cells.{cellsOf};
-ghost use Rattle.register.specs.Shape.{Parts};
+ghost use Rattle.register.specs.File.{cellCount, cellsOfFile};
+ghost use Rattle.register.specs.Shape.{Limits, Parts};
 ghost use Rattle.chain.specs.Word.{hasField};
 ghost use Rattle.rules.specs.Passed.{SettingPasses};
 ghost use Rattle.machine.specs.Run.{sameCell as sameCellOf, begins};
-ghost use Rattle.pass.specs.Column.{Space, HasColumn, Column, HasPass, Entered, NextIs, SameAs};
+ghost use Rattle.pass.specs.Column.{Space, HasColumn, Column, SameAs, HasPass, Behind, Entered, NextIs};
 use chain::follow;
 use evaluate::places;
 use register::Sizes;
+use register::cells;
 use register::cells::Cell;
 use rules::around::Setting;
 
@@ -26,7 +29,7 @@ fn keep(
     field: u64,
 )
     requires { ⌜ Parts sizes (now cells) (now filled) × (hasField sizes field ≡ true) × Space sizes at (now values) (now marks) ⌝ }
-    ensures { λ _. ⌜ Column sizes field (cellsOf (now (cells .entry)) (now (filled .entry))) at (now (values .exit)) (now (marks .exit)) ⌝ }
+    ensures { λ _. ⌜ Column sizes field (cellsOf (now (cells .entry)) (now (filled .entry))) at (now (values .exit)) (now (marks .exit)) × Behind sizes at (now (values .entry)) (now (marks .entry)) (now (values .exit)) (now (marks .exit)) ⌝ }
 {
     for u in 0..sizes.records {
         let cell = follow::cell_of(cells, filled, sizes, u, field as usize);
@@ -75,10 +78,9 @@ fn is_same(
     true
 }
 
-// Before a step: the first of its loop begins a pass. The index of the pass's first step.
+// Before a step over the register in `file`: the first of its loop begins a pass. The index of the pass's first step.
 pub fn enter(
-    cells: &[u8],
-    filled: &[u8],
+    file: &[u8],
     values: &mut [i64],
     marks: &mut [u8],
     sizes: Sizes,
@@ -87,13 +89,15 @@ pub fn enter(
     step: usize,
     first: usize,
 ) -> usize
-    requires { ⌜ Parts sizes (now cells) (now filled) × SettingPasses sizes setting × Space sizes at (now values) (now marks) ⌝ }
-    ensures { λ r. ⌜ (r ≡ cond (begins setting) step first) × Entered sizes setting (cellsOf (now (cells .entry)) (now (filled .entry))) at (now (values .entry)) (now (marks .entry)) (now (values .exit)) (now (marks .exit)) ⌝ }
+    requires { ⌜ Limits sizes × (length (now file) ≡ 12 + 5 * cellCount sizes) × SettingPasses sizes setting × Space sizes at (now values) (now marks) ⌝ }
+    ensures { λ r. ⌜ (r ≡ cond (begins setting) step first) × Entered sizes setting (cellsOfFile sizes (now (file .entry))) at (now (values .entry)) (now (marks .entry)) (now (values .exit)) (now (marks .exit)) ⌝ }
 {
     match setting {
         Setting::Single => first,
         Setting::Looped(field, is_first, _) => {
             if is_first {
+                let cells = cells::values_part(file, sizes);
+                let filled = cells::marks_part(file, sizes);
                 keep(cells, filled, values, marks, sizes, at, field);
                 return step;
             }
@@ -104,8 +108,7 @@ pub fn enter(
 
 // Behind a step: the last of its loop leads back to the first until the column is the same. The index of the next step.
 pub fn next(
-    cells: &[u8],
-    filled: &[u8],
+    file: &[u8],
     values: &[i64],
     marks: &[u8],
     sizes: Sizes,
@@ -114,13 +117,15 @@ pub fn next(
     step: usize,
     first: usize,
 ) -> usize
-    requires { ⌜ Parts sizes (now cells) (now filled) × SettingPasses sizes setting × Space sizes at (now values) (now marks) × HasPass sizes setting at (now values) × (step < 32) ⌝ }
-    ensures { λ r. ⌜ NextIs sizes setting (cellsOf (now (cells .entry)) (now (filled .entry))) at (now (values .entry)) (now (marks .entry)) step first r ⌝ }
+    requires { ⌜ Limits sizes × (length (now file) ≡ 12 + 5 * cellCount sizes) × SettingPasses sizes setting × Space sizes at (now values) (now marks) × HasPass sizes setting at (now values) × (step < 32) ⌝ }
+    ensures { λ r. ⌜ NextIs sizes setting (cellsOfFile sizes (now (file .entry))) at (now (values .entry)) (now (marks .entry)) step first r ⌝ }
 {
     match setting {
         Setting::Single => step + 1,
         Setting::Looped(field, _, last) => {
             if last {
+                let cells = cells::values_part(file, sizes);
+                let filled = cells::marks_part(file, sizes);
                 if !is_same(cells, filled, values, marks, sizes, at, field) {
                     return first;
                 }

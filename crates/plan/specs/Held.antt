@@ -6,7 +6,7 @@ use Prim.Native.Nat.{ℕ, _/_, _%_, _≤_, _<_}
 use lib.Dec.{eqb, ltb}
 use lib.ListN.{length, getD, take}
 use Rattle.chain.specs.Word.{unpack}
-use Rattle.plan.specs.Plan.{Fact, back, read, hops, line-from, front as frontOf, rest as restOf, back-need, read-need, round, place, listed, line}
+use Rattle.plan.specs.Plan.{Fact, back, read, hops, line-from, front as frontOf, rest as restOf, back-need, read-need, round, place, listed, last-round, line}
 use Rattle.plan.specs.Lines.{Next}
 use Rattle.plan.specs.Kept.{Ordered}
 use Rattle.plan.specs.declared.Plan.{Plan}
@@ -79,6 +79,10 @@ pub record Keyed (keys : List ℕ) (n : ℕ) : Type 0 where
 pub record Column (xs : List ℕ) (l : List Fact) (g : Fact → ℕ) : Type 0 where
   pub places : length xs ≡ 64
   pub entry : (i : ℕ) → i < length l → getD xs i 0 ≡ g (line l i)
+
+-- r is the last round of any n lines with these rounds
+pub record LastOf (rounds : List ℕ) (n r : ℕ) : Type 0 where
+  pub last-is : (l : List Fact) → length l ≡ n → Column rounds l round → r ≡ last-round l
 
 -- the plan p holds the lines l
 pub record Holds (p : Plan) (l : List Fact) : Type 0 where

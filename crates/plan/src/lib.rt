@@ -4,8 +4,8 @@ ghost use mathlib.Core.List.{[]};
 ghost use Prim.Native.Nat.{_≤_, _<_};
 ghost use lib.ListN.{length};
 ghost use Rattle.chain.specs.Word.{unpack};
-ghost use Rattle.plan.specs.Plan.{read, last-round};
-ghost use Rattle.plan.specs.Held.{facts-in, facts, settled, found, line-at as lineAt, Keyed, Holds};
+ghost use Rattle.plan.specs.Plan.{read};
+ghost use Rattle.plan.specs.Held.{facts-in, settled, found, line-at as lineAt, Keyed, LastOf, Holds};
 
 pub mod key;
 pub mod lines;
@@ -64,19 +64,18 @@ impl Plan {
             read: self.reads[i],
         }
     }
+}
 
-    // The last round, 0 where there is no line.
-    pub fn last_round(self) -> u8
-        requires { ⌜ Holds self (facts self) ⌝ }
-        ensures { λ r. ⌜ r ≡ last-round (facts self) ⌝ }
-    {
-        let count = self.count;
-        let mut latest = 0;
-        for i in 0..count {
-            latest = lines::later(latest, self.rounds[i]);
-        }
-        latest
+// The last round of a plan of these rounds, 0 where there is no line.
+pub fn last_round(rounds: &[u8; 64], count: usize) -> u8
+    requires { ⌜ (length (now rounds) ≡ 64) × (count ≤ 64) ⌝ }
+    ensures { λ r. ⌜ LastOf (now (rounds .entry)) count r ⌝ }
+{
+    let mut latest = 0;
+    for i in 0..count {
+        latest = lines::later(latest, rounds[i]);
     }
+    latest
 }
 
 // Whether a reading adds no line to a plan of these keys. Unlike `add`, it copies no plan.

@@ -64,26 +64,26 @@ module _ {o : Outcome Program} {r : Checked} (a : Answers o r) where
   answered-program h = sym (a .outcome-is) ∙ rw h
 
 -- a step that is not there
-no-step : (xs : Program) → rulesAt xs 0 ≡ refused 17 0
+pub no-step : (xs : Program) → rulesAt xs 0 ≡ refused 17 0
 unfolding rulesAt
 no-step [] = refl
 no-step (x ∷ xs) = refl
 
-past-step : (xs : Program) (k : ℕ) → length xs < k → rulesAt xs k ≡ refused 17 0
+pub past-step : (xs : Program) (k : ℕ) → length xs < k → rulesAt xs k ≡ refused 17 0
 unfolding rulesAt
 past-step [] k h = refl
 past-step (x ∷ xs) zero h = absurd (omega arith)
 past-step (x ∷ xs) (suc zero) h = absurd (omega arith)
 past-step (x ∷ xs) (suc (suc k)) h = past-step xs (suc k) (omega arith)
 
--- a step's frame holds its plan
+-- the frame of step k holds its plan
 pub record FrameAt (xs : Program) (k : ℕ) (f : Frame) : Type 0 where
   pub rules : List Rule
-  pub there : rulesAt xs (suc k) ≡ O.done rules
+  pub there : rulesAt xs k ≡ O.done rules
   pub remote-is : f .remote ≡ hasRemote rules
   pub holds : Holds (f .plan) (stepPlan rules)
 
-frame-at : (fs : List Frame) (xs : Program) (k : ℕ) (d : Frame) → Framed fs xs → k < length xs → FrameAt xs k (getD fs k d)
+frame-at : (fs : List Frame) (xs : Program) (k : ℕ) (d : Frame) → Framed fs xs → k < length xs → FrameAt xs (suc k) (getD fs k d)
 unfolding rulesAt
 frame-at fs [] k d h b = absurd (omega arith)
 frame-at [] (x ∷ xs) k d h b = absurd h
@@ -91,6 +91,11 @@ frame-at (f ∷ fs) (x ∷ xs) zero d h b = record { rules = x .rules; there = r
 frame-at (f ∷ fs) (x ∷ xs) (suc k) d h b =
     let r = frame-at fs xs k d (h .3) (omega arith) in
     record { rules = r .rules; there = r .there; remote-is = r .remote-is; holds = r .holds }
+
+pub step-frame : (fs : List Frame) (xs : Program) (k : ℕ) (d : Frame) → Framed fs xs → 1 ≤ k → k ≤ length xs → FrameAt xs k (getD fs (k - 1) d)
+step-frame fs xs k d h p b =
+    let at : suc (k - 1) ≡ k = omega arith in
+    subst (λ (i : ℕ). FrameAt xs i (getD fs (k - 1) d)) at (frame-at fs xs (k - 1) d h (omega arith))
 
 -- the lines of a plan with their rounds
 zip-rounds : (l : List Fact) (ns : List ℕ) → length l ≤ length ns → ((i : ℕ) → i < length l → getD ns i 0 ≡ round (line l i)) → zip l ns ≡ map (λ f. (f, round f)) l
@@ -140,10 +145,8 @@ module _ (file t : List ℕ) (k : ℕ) where
         → PlanAnswers (planOfStep file t k) (record { refusal = 0; line = 0; plan = getD fs (k - 1) d .plan; remote = getD fs (k - 1) d .remote })
     unfolding planOfStep after planned planOutcome unless result stepPlan
     step-there fs d h p b =
-        let f = frame-at fs xs (k - 1) d h (omega arith) in
-        let at : suc (k - 1) ≡ k = omega arith in
-        let there : rulesAt xs k ≡ O.done (f .rules) = subst (λ (i : ℕ). rulesAt xs i ≡ O.done (f .rules)) at (f .there) in
+        let f = step-frame fs xs k d h p b in
         record {
-          outcome-is = rw (e, there, holds-lines (f .holds), f .remote-is);
+          outcome-is = rw (e, f .there, holds-lines (f .holds), f .remote-is);
           sound = λ z. holds-facts (f .holds);
         }

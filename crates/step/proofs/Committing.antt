@@ -1,5 +1,5 @@
 -- The working cells as they are written to the file, one by one, up to one that is out of range.
-use Prim.Native.Nat.{ℕ, zero, suc, _+_, _*_, _/_, _%_, _≤_, _<_}
+use Prim.Native.Nat.{ℕ, _+_, _/_, _%_, _≤_, _<_}
 use mathlib.Core.Path.{_≡_, refl, sym, ap, _∙_}
 use mathlib.Core.Bool.{Bool, true, false, cond}
 use mathlib.Core.List.{List}
@@ -11,7 +11,7 @@ use lib.Seq.{getD-set-same, getD-set-other, ext-getD}
 use Rattle.integers.specs.Range.{inRange, sumOf}
 use Rattle.integers.specs.declared.Sum.{Sum}
 use Rattle.integers.specs.declared.Sum.the-variants.{InRange, OutOfRange}
-use Rattle.register.specs.File.{width, cellCount, cellIndex, fileOf, putCell}
+use Rattle.register.specs.File.{width, cellCount, fileOf, putCell}
 use Rattle.register.specs.declared.Sizes.{Sizes}
 use Rattle.register.specs.declared.cells.Cell.{Cell}
 use Rattle.register.specs.declared.cells.Cell.the-variants.{Missing}

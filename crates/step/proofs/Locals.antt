@@ -1,7 +1,7 @@
 -- The local rules of a step, record by record and rule by rule: what the working cells hold so far.
-use Prim.Native.Nat.{ℕ, zero, suc, _+_, _≤_, _<_}
+use Prim.Native.Nat.{ℕ, zero, suc, _+_, _<_}
 use mathlib.Core.Path.{_≡_, refl, sym, ap, ap₂, subst, _∙_}
-use mathlib.Core.Bool.{Bool, true, false, _&&_, _||_, or-true}
+use mathlib.Core.Bool.{true, false, _&&_, or-true}
 use mathlib.Core.List.{List, [], _∷_, _++_, map, map-append}
 use native.Mathlib.Omega.{arith}
 use lib.Dec.{eqb}
@@ -13,11 +13,10 @@ use mir.Syntax.{w32}
 use mir.Val.{SFits}
 use borrow.Author.Tests.{eq-eqb}
 use Rattle.register.specs.Cells.{valueOf, markOf}
-use Rattle.register.specs.File.{width, cellCount, cellIndex}
+use Rattle.register.specs.File.{cellCount, cellIndex}
 use Rattle.register.specs.Shape.{Limits}
 use Rattle.register.specs.declared.Sizes.{Sizes}
 use Rattle.register.specs.declared.cells.Cell.{Cell}
-use Rattle.register.proofs.Arrays.{cellOf-kept}
 use Rattle.register.proofs.Bounds.{cellIndex-below}
 use Rattle.chain.specs.Word.{hasField, column}
 use Rattle.chain.proofs.Following.{column-below}
@@ -31,9 +30,9 @@ use Rattle.evaluate.specs.Located.{located}
 use Rattle.evaluate.specs.Answers.{writeOf}
 use Rattle.evaluate.specs.declared.rule.Write.the-variants.{Nothing, Store, OutOfRange}
 use Rattle.step.specs.Work.{Room, Holds, Same, Put, Small}
-use Rattle.step.specs.Ready.{reads, Ready, AllReady, RuleDone, RuleStops, LocalRule, LocalDone, LocalStops}
+use Rattle.step.specs.Ready.{reads, Ready, AllReady, LocalRule, LocalDone, LocalStops}
 use Rattle.step.specs.declared.local.Stop.the-variants.{Nowhere, At}
-use Rattle.step.proofs.Working.{same-refl, same-then, same-put, holds-put, small-put}
+use Rattle.step.proofs.Working.{same-refl, same-then, put-stored, same-put, holds-put, small-put}
 use Rattle.step.proofs.Writing.{told}
 
 -- one of many
@@ -71,14 +70,7 @@ module _ (s : Sizes) (cells : List Cell) (base u : ℕ) (r : Rule) (values : Lis
       let t = told read r e in
       let k = cellIndex s u (column s f) in
       let below : k < cellCount s = cellIndex-below s u (column s f) row (column-below s limits f (stores-field e field)) in
-      let p : Put (base + k) c values marks values′ marks′ = record {
-        value = valueOf c;
-        mark = markOf c;
-        values-are = v ∙ ap (λ (i : ℕ). set values i (valueOf c)) at;
-        marks-are = m ∙ ap (λ (i : ℕ). set marks i (markOf c)) at;
-        cell-is = cellOf-kept c;
-        small = omega (arith, fits .sfits);
-      } in (
+      let p : Put (base + k) c values marks values′ marks′ = subst (λ (i : ℕ). Put i c values marks values′ marks′) at (put-stored v m) in (
         same-put base k p,
         record {
           in-range = t .in-range;
@@ -120,7 +112,7 @@ pub record RecordDone (s : Sizes) (cells : List Cell) (base : ℕ) (slots : List
   pub same : Same base values marks values′ marks′
   pub in-range : (c : ℕ) → sumOffends s (reads s cells base values marks u) (rulesIn k slots) c ≡ false
   pub holds : (d : List Cell) → length d ≡ cellCount s → Holds base d values marks → Holds base (localRules s (reads s cells base values marks u) u (rulesIn k slots) d) values′ marks′
-  pub small : Small 2147483648 base (cellCount s) values → Small 2147483648 base (cellCount s) values′
+  pub small : Small 2147483648 base (cellCount s) values marks → Small 2147483648 base (cellCount s) values′ marks′
 
 -- nothing is done yet
 pub record-start : {s : Sizes} {cells : List Cell} {base : ℕ} {slots : List Slot} {u : ℕ} {values : List ℤ} {marks : List ℕ} → RecordDone s cells base slots u 0 values marks values marks

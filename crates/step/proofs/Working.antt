@@ -1,5 +1,5 @@
 -- The working cells as places are stored to: which cells the buffers then hold, and how large their values are.
-use Prim.Native.Nat.{ℕ, suc, _+_, _≤_, _<_}
+use Prim.Native.Nat.{ℕ, _+_, _≤_, _<_}
 use mathlib.Core.Path.{_≡_, refl, sym, ap, ap₂, _∙_}
 use mathlib.Core.Logic.{_≢_}
 use mathlib.Core.List.{List}
@@ -39,15 +39,14 @@ room-same a r = record {
 }
 
 -- the cell writer stores a cell
-abbrev pub put-stored : {j : ℕ} {c : Cell} {values values′ : List ℤ} {marks marks′ : List ℕ} → values′ ≡ set values j (valueOf c) → marks′ ≡ set marks j (markOf c) → SFits w32 (valueOf c)
+abbrev pub put-stored : {j : ℕ} {c : Cell} {values values′ : List ℤ} {marks marks′ : List ℕ} → values′ ≡ set values j (valueOf c) → marks′ ≡ set marks j (markOf c)
     → Put j c values marks values′ marks′
-put-stored {c} v m fits = record {
+put-stored {c} v m = record {
   value = valueOf c;
   mark = markOf c;
   values-are = v;
   marks-are = m;
   cell-is = cellOf-kept c;
-  small = omega (arith, fits .sfits);
 }
 
 -- a place keeps its cell
@@ -59,7 +58,6 @@ put-kept {j} {values} {marks} e = record {
   values-are = sym (set-getD values j (pos 0));
   marks-are = sym (set-getD marks j 0);
   cell-is = e;
-  small = omega arith;
 }
 
 -- one cell is stored
@@ -81,14 +79,11 @@ module _ (base j : ℕ) {c : Cell} {values values′ : List ℤ} {marks marks′
       (ap (λ (l : List ℕ). getD l (base + j) 0) (p .marks-are) ∙ getD-set-same marks (base + j) (p .mark) 0 hm)
       ∙ p .cell-is
 
-  value-other : (i : ℕ) → i ≢ base + j → getD values′ i (pos 0) ≡ getD values i (pos 0)
-  value-other i h = ap (λ (l : List ℤ). getD l i (pos 0)) (p .values-are) ∙ getD-set-other values (base + j) i (p .value) (pos 0) h
-
   pub put-other : (i : ℕ) → i ≢ base + j → placeAt values′ marks′ i ≡ placeAt values marks i
   unfolding placeAt
   put-other i h =
       ap₂ cellOf
-      (value-other i h)
+      (ap (λ (l : List ℤ). getD l i (pos 0)) (p .values-are) ∙ getD-set-other values (base + j) i (p .value) (pos 0) h)
       (ap (λ (l : List ℕ). getD l i 0) (p .marks-are) ∙ getD-set-other marks (base + j) i (p .mark) 0 h)
 
   -- the cells with another one at j
@@ -107,18 +102,14 @@ module _ (base j : ℕ) {c : Cell} {values values′ : List ℤ} {marks marks′
           ∙ sym (getD-set-other d j i c Missing q)
 
   -- the values, where the one that is stored is below b′
-  pub small-put : {b b′ k : ℕ} → Room base k values marks → j < k → mag (p .value) < b′ → b ≤ b′ → Small b base k values → Small b′ base k values′
+  pub small-put : {b b′ k : ℕ} → Room base k values marks → j < k → mag (valueOf c) < b′ → b ≤ b′ → Small b base k values marks → Small b′ base k values′ marks′
   small-put {b} {b′} {k} r h v l e = record { below = λ i i<. at i (ℕ-discrete i j) i< }
     where
-      at : (i : ℕ) → Dec (i ≡ j) → i < k → mag (getD values′ (base + i) (pos 0)) < b′
-      at i (yes q) i< =
-          rw (q, p .values-are, getD-set-same values (base + j) (p .value) (pos 0) (omega (arith, r .values-room))) v
-      at i (no q) i< = rw (value-other (base + i) (λ e. q (omega arith))) (omega (arith, e .below i i<))
+      at : (i : ℕ) → Dec (i ≡ j) → i < k → mag (valueOf (placeAt values′ marks′ (base + i))) < b′
+      at i (yes q) i< = rw (q, put-there (omega (arith, r .values-room)) (omega (arith, r .marks-room))) v
+      at i (no q) i< = rw (put-other (base + i) (λ e. q (omega arith))) (omega (arith, e .below i i<))
 
-  -- and those of one cell more
-  pub small-more : {b i : ℕ} → base + j < length values → mag (p .value) < b → i ≡ suc j → Small b base j values → Small b base i values′
-  small-more {b} {i} h v q e = record { below = λ k k<. at k (ℕ-discrete k j) (omega arith) }
-    where
-      at : (k : ℕ) → Dec (k ≡ j) → k < suc j → mag (getD values′ (base + k) (pos 0)) < b
-      at k (yes q) k< = rw (q, p .values-are, getD-set-same values (base + j) (p .value) (pos 0) h) v
-      at k (no q) k< = rw (value-other (base + k) (λ e. q (omega arith))) (e .below k (omega arith))
+-- cells of 32 bits
+pub small-held : {base k : ℕ} {d : List Cell} {values : List ℤ} {marks : List ℕ} → length d ≡ k → ((j : ℕ) → SFits w32 (valueOf (getD d j Missing))) → Holds base d values marks
+    → Small 2147483648 base k values marks
+small-held l fits h = record { below = λ j j<. rw (h .place-is j (omega arith)) (fits j .sfits) }

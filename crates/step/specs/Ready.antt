@@ -45,7 +45,7 @@ AllReady s cells values marks xs = Each (Ready s cells values marks) xs
 pub record RuleDone (s : Sizes) (cells : List Cell) (base u : ℕ) (r : Rule) (values : List ℤ) (marks : List ℕ) (values′ : List ℤ) (marks′ : List ℕ) : Type 0 where
   pub in-range : offends (reads s cells base values marks u) r ≡ false
   pub holds : (d : List Cell) → length d ≡ cellCount s → Holds base d values marks → Holds base (localRule s (reads s cells base values marks u) u r d) values′ marks′
-  pub small : Small 2147483648 base (cellCount s) values → Small 2147483648 base (cellCount s) values′
+  pub small : Small 2147483648 base (cellCount s) values marks → Small 2147483648 base (cellCount s) values′ marks′
 
 -- where it stops instead
 pub record RuleStops (s : Sizes) (cells : List Cell) (base u : ℕ) (r : Rule) (values : List ℤ) (marks : List ℕ) (v c : ℕ) : Type 0 where
@@ -61,7 +61,7 @@ LocalRule s cells base u r values marks values′ marks′ (At v c) = Same base 
 pub record LocalDone (s : Sizes) (cells : List Cell) (base : ℕ) (rs : List Rule) (n : ℕ) (values : List ℤ) (marks : List ℕ) (values′ : List ℤ) (marks′ : List ℕ) : Type 0 where
   pub in-range : (u c : ℕ) → u < n → sumOffends s (reads s cells base values marks u) rs c ≡ false
   pub holds : (d : List Cell) → length d ≡ cellCount s → Holds base d values marks → Holds base (localRecords s (reads s cells base values marks) rs n d) values′ marks′
-  pub small : Small 2147483648 base (cellCount s) values → Small 2147483648 base (cellCount s) values′
+  pub small : Small 2147483648 base (cellCount s) values marks → Small 2147483648 base (cellCount s) values′ marks′
 
 -- where they stop instead
 pub record LocalStops (s : Sizes) (cells : List Cell) (base : ℕ) (rs : List Rule) (values : List ℤ) (marks : List ℕ) (u c : ℕ) : Type 0 where

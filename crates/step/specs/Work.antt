@@ -2,10 +2,10 @@
 use mathlib.Core.Path.{_≡_}
 use mathlib.Core.List.{List}
 use Prim.Native.Nat.{ℕ, _+_, _≤_, _<_}
-use lib.IntN.{ℤ, pos}
+use lib.IntN.{ℤ}
 use lib.ListN.{length, getD, take, set}
 use lib.Signed.{mag}
-use Rattle.register.specs.Cells.{cellOf}
+use Rattle.register.specs.Cells.{valueOf, cellOf}
 use Rattle.register.specs.declared.cells.Cell.{Cell}
 use Rattle.register.specs.declared.cells.Cell.the-variants.{Missing}
 use Rattle.evaluate.specs.Places.{placeAt}
@@ -27,15 +27,14 @@ pub record Same (base : ℕ) (values : List ℤ) (marks : List ℕ) (values′ :
   pub values-same : take base values′ ≡ take base values
   pub marks-same : take base marks′ ≡ take base marks
 
--- place j now holds cell c, whose value is larger than the one before by an amount of 32 bits at most
+-- place j now holds cell c
 pub record Put (j : ℕ) (c : Cell) (values : List ℤ) (marks : List ℕ) (values′ : List ℤ) (marks′ : List ℕ) : Type 0 where
   pub value : ℤ
   pub mark : ℕ
   pub values-are : values′ ≡ set values j value
   pub marks-are : marks′ ≡ set marks j mark
   pub cell-is : cellOf value mark ≡ c
-  pub small : mag value < mag (getD values j (pos 0)) + 2147483649
 
--- the values of the k working cells are below b
-pub record Small (b base k : ℕ) (values : List ℤ) : Type 0 where
-  pub below : (j : ℕ) → j < k → mag (getD values (base + j) (pos 0)) < b
+-- the values of the k working cells are below b; a missing cell counts as 0
+pub record Small (b base k : ℕ) (values : List ℤ) (marks : List ℕ) : Type 0 where
+  pub below : (j : ℕ) → j < k → mag (valueOf (placeAt values marks (base + j))) < b

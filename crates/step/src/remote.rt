@@ -5,7 +5,6 @@ ghost use lib.ListN.{length, take};
 ghost use Rattle.register.specs.Cells.{cellsOf};
 ghost use Rattle.register.specs.Shape.{Parts};
 ghost use Rattle.step_plan.specs.Stored.{ruleOf, rulesIn};
-ghost use Rattle.rules.specs.Program.{hasRemote};
 ghost use Rattle.step.specs.Work.{Room, Small};
 ghost use Rattle.step.specs.Ready.{Ready, AllReady};
 ghost use Rattle.step.specs.Delivered.{RuleDelivered, Delivered};
@@ -15,7 +14,7 @@ use evaluate::rule;
 use evaluate::rule::Sent;
 use register::Sizes;
 
-// The message of one rule at record u, where it sends one.
+// The message of one rule at record u, where it sends one. The number of messages.
 fn apply_rule(
     cells: &[u8],
     filled: &[u8],
@@ -25,9 +24,9 @@ fn apply_rule(
     base: usize,
     u: usize,
     slot: Slot,
-)
-    requires { ⌜ Parts sizes (now cells) (now filled) × (u < sizes .records) × Room base (length (now filled)) (now values) (now marks) × Ready sizes (cellsOf (now cells) (now filled)) (take base (now values)) (take base (now marks)) slot × Small 4611686018427387904 base (length (now filled)) (now values) ⌝ }
-    ensures { λ _. ⌜ RuleDelivered sizes (cellsOf (now (cells .entry)) (now (filled .entry))) base u (ruleOf slot) (now (values .entry)) (now (marks .entry)) (now (values .exit)) (now (marks .exit)) ⌝ }
+) -> usize
+    requires { ⌜ Parts sizes (now cells) (now filled) × (u < sizes .records) × Room base (length (now filled)) (now values) (now marks) × Ready sizes (cellsOf (now cells) (now filled)) (take base (now values)) (take base (now marks)) slot × Small 4611686018427387904 base (length (now filled)) (now values) (now marks) ⌝ }
+    ensures { λ r. ⌜ RuleDelivered sizes (cellsOf (now (cells .entry)) (now (filled .entry))) base u (ruleOf slot) (now (values .entry)) (now (marks .entry)) (now (values .exit)) (now (marks .exit)) r ⌝ }
 {
     match rule::message_of(
         cells,
@@ -38,37 +37,17 @@ fn apply_rule(
         u,
         slot,
     ) {
-        Sent::Nothing => {}
+        Sent::Nothing => 0,
         Sent::One(message) => {
             let place = work::place(sizes, base, message.target, message.field);
             let sort = message.sort;
             work::deliver(values, marks, place, sort, message.amount);
+            1
         }
     }
 }
 
-// The messages of all rules at all records.
-fn apply_rules(
-    cells: &[u8],
-    filled: &[u8],
-    values: &mut [i64],
-    marks: &mut [u8],
-    sizes: Sizes,
-    base: usize,
-    slots: [Slot; 32],
-    rules: usize,
-)
-    requires { ⌜ Parts sizes (now cells) (now filled) × Room base (length (now filled)) (now values) (now marks) × (rules ≤ 32) × (length slots ≡ 32) × AllReady sizes (cellsOf (now cells) (now filled)) (take base (now values)) (take base (now marks)) (take rules slots) × Small 2147483648 base (length (now filled)) (now values) ⌝ }
-    ensures { λ _. ⌜ Delivered sizes (cellsOf (now (cells .entry)) (now (filled .entry))) base (rulesIn rules slots) (now (values .entry)) (now (marks .entry)) (now (values .exit)) (now (marks .exit)) ⌝ }
-{
-    for u in 0..sizes.records {
-        for k in 0..rules {
-            apply_rule(cells, filled, values, marks, sizes, base, u, slots[k]);
-        }
-    }
-}
-
-// Where no rule is remote there are none.
+// The messages of all rules at all records. Their number.
 pub fn apply(
     cells: &[u8],
     filled: &[u8],
@@ -78,12 +57,15 @@ pub fn apply(
     base: usize,
     slots: [Slot; 32],
     rules: usize,
-    sends: bool,
-)
-    requires { ⌜ Parts sizes (now cells) (now filled) × Room base (length (now filled)) (now values) (now marks) × (rules ≤ 32) × (length slots ≡ 32) × AllReady sizes (cellsOf (now cells) (now filled)) (take base (now values)) (take base (now marks)) (take rules slots) × Small 2147483648 base (length (now filled)) (now values) × (sends ≡ hasRemote (rulesIn rules slots)) ⌝ }
-    ensures { λ _. ⌜ Delivered sizes (cellsOf (now (cells .entry)) (now (filled .entry))) base (rulesIn rules slots) (now (values .entry)) (now (marks .entry)) (now (values .exit)) (now (marks .exit)) ⌝ }
+) -> usize
+    requires { ⌜ Parts sizes (now cells) (now filled) × Room base (length (now filled)) (now values) (now marks) × (rules ≤ 32) × (length slots ≡ 32) × AllReady sizes (cellsOf (now cells) (now filled)) (take base (now values)) (take base (now marks)) (take rules slots) × Small 2147483648 base (length (now filled)) (now values) (now marks) ⌝ }
+    ensures { λ r. ⌜ Delivered sizes (cellsOf (now (cells .entry)) (now (filled .entry))) base (rulesIn rules slots) (now (values .entry)) (now (marks .entry)) (now (values .exit)) (now (marks .exit)) r ⌝ }
 {
-    if sends {
-        apply_rules(cells, filled, values, marks, sizes, base, slots, rules);
+    let mut sent = 0;
+    for u in 0..sizes.records {
+        for k in 0..rules {
+            sent += apply_rule(cells, filled, values, marks, sizes, base, u, slots[k]);
+        }
     }
+    sent
 }

@@ -2,17 +2,16 @@
 ghost use Prim.Native.Nat.{_+_, _*_, _≤_, _<_};
 ghost use mathlib.Core.Path.{_≡_};
 ghost use mathlib.Core.Bool.{true};
-ghost use lib.IntN.{pos};
-ghost use lib.ListN.{length, getD};
+ghost use lib.ListN.{length};
 ghost use lib.Signed.{mag};
-ghost use Rattle.register.specs.Cells.{cellAt, cellsOf};
+ghost use Rattle.register.specs.Cells.{valueOf, cellsOf};
 ghost use Rattle.register.specs.File.{cellIndex};
 ghost use Rattle.register.specs.Shape.{Limits};
 ghost use Rattle.chain.specs.Word.{hasField, column as columnOf};
 ghost use Rattle.evaluate.specs.Places.{placeAt};
 ghost use Rattle.machine.specs.Remote.{merged};
 ghost use Rattle.machine.specs.declared.message.Sort.the-variants.{Least, Total};
-ghost use Rattle.step.specs.Work.{Room, Holds, Put, Same, Small};
+ghost use Rattle.step.specs.Work.{Room, Holds, Put, Same};
 use chain::follow;
 use evaluate::places;
 use machine::message::Sort;
@@ -23,7 +22,7 @@ use register::cells::Cell;
 // They begin as the register's cells.
 pub fn begin(cells: &[u8], filled: &[u8], values: &mut [i64], marks: &mut [u8], base: usize)
     requires { ⌜ (length (now cells) ≡ 4 * length (now filled)) × Room base (length (now filled)) (now values) (now marks) ⌝ }
-    ensures { λ _. ⌜ Holds base (cellsOf (now (cells .entry)) (now (filled .entry))) (now (values .exit)) (now (marks .exit)) × Same base (now (values .entry)) (now (marks .entry)) (now (values .exit)) (now (marks .exit)) × Small 2147483648 base (length (now (filled .entry))) (now (values .exit)) ⌝ }
+    ensures { λ _. ⌜ Holds base (cellsOf (now (cells .entry)) (now (filled .entry))) (now (values .exit)) (now (marks .exit)) × Same base (now (values .entry)) (now (marks .entry)) (now (values .exit)) (now (marks .exit)) ⌝ }
 {
     for j in 0..filled.len() {
         places::put_cell(values, marks, base + j, cells::cell_at(cells, filled, j));
@@ -53,18 +52,19 @@ fn keep_least(values: &mut [i64], marks: &mut [u8], j: usize, amount: i32)
 
 // `+=` adds to a cell that has a value; a missing cell stays missing.
 fn add_total(values: &mut [i64], marks: &mut [u8], j: usize, amount: i32)
-    requires { ⌜ (j < length (now values)) × (j < length (now marks)) × (mag (getD (now values) j (pos 0)) < 4611686018427387904) ⌝ }
+    requires { ⌜ (j < length (now values)) × (j < length (now marks)) × (mag (valueOf (placeAt (now values) (now marks) j)) < 4611686018427387904) ⌝ }
     ensures { λ _. ⌜ Put j (merged Total (placeAt (now (values .entry)) (now (marks .entry)) j) amount) (now (values .entry)) (now (marks .entry)) (now (values .exit)) (now (marks .exit)) ⌝ }
 {
     if marks[j] == 0 {
         return;
     }
     values[j] = integers::increase(values[j], amount);
+    marks[j] = 1;
 }
 
 // One remote write.
 pub fn deliver(values: &mut [i64], marks: &mut [u8], j: usize, sort: Sort, amount: i32)
-    requires { ⌜ (j < length (now values)) × (j < length (now marks)) × (mag (getD (now values) j (pos 0)) < 4611686018427387904) ⌝ }
+    requires { ⌜ (j < length (now values)) × (j < length (now marks)) × (mag (valueOf (placeAt (now values) (now marks) j)) < 4611686018427387904) ⌝ }
     ensures { λ _. ⌜ Put j (merged sort (placeAt (now (values .entry)) (now (marks .entry)) j) amount) (now (values .entry)) (now (marks .entry)) (now (values .exit)) (now (marks .exit)) ⌝ }
 {
     match sort {

@@ -1,12 +1,14 @@
 //! Cases for the tests and the benchmark, made from a seed: the same seed gives
 //! the same cases.
 
+pub mod cases;
 pub mod chains;
 pub mod damage;
 pub mod mutations;
 pub mod neighbours;
 pub mod padding;
 pub mod random;
+pub mod ranking;
 pub mod registers;
 mod rule_writer;
 pub mod scraps;

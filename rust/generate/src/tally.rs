@@ -12,9 +12,14 @@ pub struct Tally {
 impl Tally {
     /// Counts an answer.
     pub fn count(&mut self, answer: &str) {
+        self.add(answer, 1);
+    }
+
+    /// Counts an answer so many times.
+    pub fn add(&mut self, answer: &str, times: u64) {
         match self.counts.get_mut(answer) {
-            Some(count) => *count += 1,
-            None => drop(self.counts.insert(answer.to_owned(), 1)),
+            Some(count) => *count += times,
+            None => drop(self.counts.insert(answer.to_owned(), times)),
         }
     }
 

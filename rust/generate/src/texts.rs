@@ -55,6 +55,14 @@ pub fn plan_shape(random: &mut Random) -> Shape {
     }
 }
 
+/// A shape of either sort.
+pub fn any_shape(random: &mut Random) -> Shape {
+    match random.percent(50) {
+        true => shape(random),
+        false => plan_shape(random),
+    }
+}
+
 /// A text of a shape for a register of these sizes.
 pub fn text(random: &mut Random, sizes: Sizes, shape: Shape) -> Vec<u8> {
     let mut text = String::new();

@@ -1,47 +1,26 @@
 //! On generated registers and texts the reference's two machines agree, and its
 //! messages are the readings.
 
+use generate::cases::Case;
 use generate::random::Random;
 use generate::tally::Tally;
-use generate::{registers, texts};
 use reference::direct::run_direct;
 use reference::messages::{inspect, run_messages};
-use reference::program::Program;
 use reference::reading::follow;
-use reference::register::{Cell, Register, Sizes};
-use reference::run::{Scratch, scratch_length};
-use reference::text::read_text;
+use reference::register::{Cell, Register};
+use reference::run::Scratch;
 
 const RUNS: usize = 20_000;
 const BUDGETS: [u16; 8] = [0, 1, 2, 3, 10, 40, 300, 1000];
-
-/// A register that loads, and a text that passes for it.
-fn case(random: &mut Random, tally: &mut Tally) -> (Vec<u8>, Vec<u8>, Sizes, Program) {
-    loop {
-        let sizes = Sizes {
-            records: random.below(9),
-            ..registers::sizes(random)
-        };
-        let shape = texts::shape(random);
-        let text = texts::text(random, sizes, shape);
-        match read_text(&text, &sizes) {
-            Ok(program) => return (registers::file(random, sizes), text, sizes, program),
-            Err(refusal) => tally.count(&format!("refusal {}", refusal.reason.number())),
-        }
-    }
-}
 
 #[test]
 fn runs_agree() {
     let mut random = Random::new(4);
     let mut tally = Tally::default();
     for _ in 0..RUNS {
-        let (register, text, sizes, program) = case(&mut random, &mut tally);
-        let length = scratch_length(&sizes, &program);
-        let scratch = Scratch {
-            values: length,
-            marks: length,
-        };
+        let case = Case::small(&mut random);
+        let scratch = Scratch::both(case.scratch_length());
+        let Case { register, text, .. } = case;
         let budget = random.pick(&BUDGETS);
         let mut direct_output = vec![random.byte(); register.len()];
         let mut output = vec![random.byte(); register.len()];
@@ -71,21 +50,22 @@ fn messages_are_readings() {
     let mut random = Random::new(5);
     let mut tally = Tally::default();
     for _ in 0..2_000 {
-        let (register, text, sizes, program) = case(&mut random, &mut tally);
-        let cells = Register::load(&register).unwrap();
-        for (number, step) in (1..).zip(program.steps()) {
-            let length = scratch_length(&sizes, &program);
+        let case = Case::small(&mut random);
+        let (register, text) = (&case.register, &case.text);
+        let cells = Register::load(register).unwrap();
+        for (number, step) in (1..).zip(case.program.steps()) {
+            let length = case.scratch_length();
             let (mut values, mut marks) = (vec![-1; length], vec![7; length]);
             let t = random.between(0, 6);
-            inspect(&register, &text, number, t as u16, &mut values, &mut marks).unwrap();
+            inspect(register, text, number, t as u16, &mut values, &mut marks).unwrap();
             for (i, line) in step.plan.lines().iter().enumerate() {
-                for u in 0..sizes.records {
+                for u in 0..case.sizes.records {
                     let read = follow(&line.chain, u, |record, field| cells.cell(record, field));
                     let expected = match read {
                         Cell::Value(value) if line.round <= t => (i64::from(value), 1),
                         _ => (0, 0),
                     };
-                    let place = i * sizes.records + u;
+                    let place = i * case.sizes.records + u;
                     assert_eq!((values[place], marks[place]), expected);
                     tally.count(if expected.1 == 1 { "sent" } else { "not sent" });
                 }

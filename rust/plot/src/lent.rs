@@ -1,6 +1,10 @@
 //! The functions of the library as they are: the result is the refusal number,
 //! 0 for none, and every call fills the lent answer whole.
 
+mod runs;
+
+pub use runs::{RunBuffers, RunBy, run_direct, run_messages};
+
 /// The numbers that a call answers; unused places are 0.
 pub type Answer = [u64; 8];
 
@@ -8,6 +12,10 @@ pub type Answer = [u64; 8];
 pub const LINE: usize = 0;
 /// The place of a run's finished steps.
 pub const FINISHED: usize = 1;
+/// The place of the exchanges of a run by messages.
+pub const EXCHANGES: usize = 2;
+/// The place of the letters of a run by messages.
+pub const LETTERS: usize = 3;
 /// The place of the record that refusal 21 names.
 pub const RECORD: usize = 4;
 /// The place of the field that refusal 21 names, from 0, references first.
@@ -18,7 +26,7 @@ pub const FILLED: usize = 6;
 pub const STEPS: usize = 6;
 /// The place of the most lines of any step of a checked text.
 pub const MOST_LINES: usize = 7;
-/// The place of a plan's number of lines.
+/// The place of a step's number of plan lines.
 pub const LINES: usize = 6;
 /// The place that says whether a remote exchange follows a plan: 1 if so.
 pub const REMOTE: usize = 7;
@@ -86,32 +94,19 @@ unsafe extern "C" {
         answer: *mut Answer,
     ) -> u32;
 
-    fn plot_run_direct(
+    fn plot_inspect(
         register: *const u8,
         register_length: usize,
         text: *const u8,
         text_length: usize,
-        budget: u16,
-        output: *mut u8,
-        output_length: usize,
+        step: u64,
+        t: u16,
         values: *mut i64,
         values_length: usize,
         marks: *mut u8,
         marks_length: usize,
         answer: *mut Answer,
     ) -> u32;
-}
-
-/// What a run is lent: an output as long as the register file, and the two
-/// scratch buffers.
-#[derive(Clone, Debug, PartialEq, Eq)]
-pub struct RunBuffers {
-    /// The register file at the end.
-    pub output: Vec<u8>,
-    /// Scratch values.
-    pub values: Vec<i64>,
-    /// Scratch marks.
-    pub marks: Vec<u8>,
 }
 
 /// Reads a chain at a record: `value` becomes the cell's value, 0 where it is
@@ -182,31 +177,33 @@ pub fn plan(
     }
 }
 
-/// Runs a text over a register by the direct machine. On refusals 1 to 19 the
-/// buffers stay as they are.
-pub fn run_direct(
+/// Inspects a step of a rules text over the register as loaded, after round t:
+/// the letter of line i and origin u stands at place i × n + u. Places behind the
+/// step's last line stay as they are, and on a refusal all do.
+pub fn inspect(
     register: &[u8],
     text: &[u8],
-    budget: u16,
-    buffers: &mut RunBuffers,
+    step: u64,
+    t: u16,
+    values: &mut [i64],
+    marks: &mut [u8],
     answer: &mut Answer,
 ) -> u32 {
     // SAFETY: each pointer comes from a reference that outlives the call, is not
-    // null, and goes with its slice's length; the library writes to the three
-    // buffers and `answer` only, and keeps no pointer.
+    // null, and goes with its slice's length; the library writes to `values`,
+    // `marks` and `answer` only, and keeps no pointer.
     unsafe {
-        plot_run_direct(
+        plot_inspect(
             register.as_ptr(),
             register.len(),
             text.as_ptr(),
             text.len(),
-            budget,
-            buffers.output.as_mut_ptr(),
-            buffers.output.len(),
-            buffers.values.as_mut_ptr(),
-            buffers.values.len(),
-            buffers.marks.as_mut_ptr(),
-            buffers.marks.len(),
+            step,
+            t,
+            values.as_mut_ptr(),
+            values.len(),
+            marks.as_mut_ptr(),
+            marks.len(),
             answer,
         )
     }

@@ -6,8 +6,10 @@
 
 pub mod lent;
 mod plan;
+mod run;
 
 pub use plan::{Line, LineKind, Plan};
+pub use run::{End, Letters, Run, inspect, run_direct, run_messages};
 
 /// A numbered refusal of document 01.
 #[derive(Clone, Copy, Debug, PartialEq, Eq)]

@@ -1,5 +1,8 @@
 //! Single readings of the library and of the reference agree, case by case.
 
+mod common;
+
+use common::{any_answer, refusal_name, refused};
 use generate::random::Random;
 use generate::tally::Tally;
 use generate::{chains, damage, registers};
@@ -33,10 +36,7 @@ fn expected(answer: Result<Cell, Refusal>) -> Expected {
             expected.value = i64::from(value);
             expected.answer[lent::FILLED] = 1;
         }
-        Err(refusal) => {
-            expected.refusal = refusal.reason.number();
-            expected.answer[lent::LINE] = refusal.line as u64;
-        }
+        Err(refusal) => (expected.refusal, expected.answer) = refused(refusal),
     }
     expected
 }
@@ -47,14 +47,14 @@ fn name(chain: &[u8], answer: Result<Cell, Refusal>) -> String {
         Ok(Cell::Value(0)) => "filled zero".to_owned(),
         Ok(Cell::Value(_)) => "filled".to_owned(),
         Ok(Cell::Missing) => "unfilled".to_owned(),
-        Err(refusal) => format!("refusal {:>2}", refusal.reason.number()),
+        Err(refusal) => refusal_name(refusal.reason.number()),
     }
 }
 
 /// One case: the library, lent a value and an answer full of rubbish, sets both whole.
 fn compare(random: &mut Random, tally: &mut Tally, register: &[u8], chain: &[u8], record: u64) {
     let mut value = random.number() as i64;
-    let mut answer: Answer = std::array::from_fn(|_| random.number());
+    let mut answer = any_answer(random);
     let refusal = lent::read(register, chain, record, &mut value, &mut answer);
     let from_paper = reading(register, chain, record);
     assert_eq!(
@@ -115,8 +115,8 @@ fn readings_agree() {
     }
     tally.print("single readings");
     tally.require(LEAST, &["filled", "filled zero", "unfilled", "own number"]);
-    let refusals = [1, 2, 3, 4, 5, 7, 9, 10, 11, 16].map(|number| format!("refusal {number:>2}"));
-    tally.require(LEAST, &refusals.each_ref().map(String::as_str));
+    let refusals = [1, 2, 3, 4, 5, 7, 9, 10, 11, 16];
+    tally.require(LEAST, &refusals.map(refusal_name));
 }
 
 #[test]

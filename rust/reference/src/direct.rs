@@ -18,7 +18,8 @@ pub fn run_direct(
     run::<Direct>(register, text, budget, output, scratch)
 }
 
-struct Direct {
+/// The direct machine.
+pub struct Direct {
     fields: usize,
 }
 

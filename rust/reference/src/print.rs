@@ -18,11 +18,7 @@ pub fn print(register: &[u8], text: &[u8]) -> String {
         return "too large\n".to_owned();
     }
     let mut output = register.to_vec();
-    let scratch = Scratch {
-        values: PLACES,
-        marks: PLACES,
-    };
-    match run_messages(register, text, BUDGET, &mut output, scratch) {
+    match run_messages(register, text, BUDGET, &mut output, Scratch::both(PLACES)) {
         Err(refusal) => refused(refusal.reason.number(), refusal.line),
         Ok(run) => match run.end {
             End::Whole => listing(&run, &output),

@@ -17,6 +17,19 @@ pub struct Scratch {
     pub marks: usize,
 }
 
+impl Scratch {
+    /// Both buffers of one length.
+    pub fn both(length: usize) -> Scratch {
+        Scratch {
+            values: length,
+            marks: length,
+        }
+    }
+}
+
+/// A run by one of the machines: register, text, budget, output, scratch.
+pub type RunBy = fn(&[u8], &[u8], u16, &mut [u8], Scratch) -> Result<Run, Refusal>;
+
 /// How a run ended.
 #[derive(Clone, Debug, PartialEq, Eq)]
 pub enum End {
@@ -90,7 +103,7 @@ pub(crate) fn check_scratch(
 
 /// Runs a text by a machine. The output becomes the register file of the cells
 /// at the end; after 20 or 21 a copy of the register.
-pub(crate) fn run<M: Machine>(
+pub fn run<M: Machine>(
     register: &[u8],
     text: &[u8],
     budget: u16,

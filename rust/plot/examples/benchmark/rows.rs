@@ -24,7 +24,7 @@ fn load() -> Row {
     assert_eq!(plot::read(&register, b"u", 0), Ok(Some(0)));
     let same = register.clone();
     Row {
-        name: "load 327,692 bytes",
+        name: "load 327,692 bytes".to_owned(),
         at_most: 1.3,
         library: Box::new(move || {
             let _ = black_box(plot::read(black_box(&register), b"u", 0));
@@ -44,13 +44,13 @@ const TEXT_SIZES: Sizes = Sizes {
 };
 
 /// Checking a text that passes and is as long as may be.
-fn check_text(name: &'static str, text: Vec<u8>) -> Row {
+fn check_text(name: &str, text: Vec<u8>) -> Row {
     let register = registers::full_file(&mut Random::new(3), TEXT_SIZES);
     assert_eq!(text.len(), 8192);
     assert!(plot::check(&register, &text).is_ok());
     let (same_register, same_text) = (register.clone(), text.clone());
     Row {
-        name,
+        name: name.to_owned(),
         at_most: 1.5,
         library: Box::new(move || {
             let _ = black_box(plot::check(black_box(&register), black_box(&text)));

@@ -1,6 +1,7 @@
 //! One text by the library and by the reference. Everything lent to the library
 //! is full of rubbish, so that what it must set and what it must leave shows.
 
+use crate::common::{any_answer, refusal_name, refused};
 use generate::random::Random;
 use plot::lent::{self, Answer, CHAIN_BYTES, PlanBuffers};
 use reference::plan::LineKind;
@@ -29,7 +30,7 @@ pub fn compare(random: &mut Random, register: &[u8], text: &[u8]) -> Result<Prog
 
 /// The check by both.
 fn check(random: &mut Random, register: &[u8], text: &[u8]) -> Result<Program, Refusal> {
-    let mut answer: Answer = std::array::from_fn(|_| random.number());
+    let mut answer = any_answer(random);
     let number = lent::check(register, text, &mut answer);
     let program = text::check(register, text);
     let expected = match &program {
@@ -55,7 +56,7 @@ pub fn plan(
 ) {
     let rubbish = rubbish(random);
     let mut lines = rubbish.clone();
-    let mut answer: Answer = std::array::from_fn(|_| random.number());
+    let mut answer = any_answer(random);
     let number = lent::plan(register, text, step, &mut lines, &mut answer);
     let (expected, expected_lines) = match expected {
         Err(refusal) => (refused(refusal), rubbish),
@@ -67,12 +68,6 @@ pub fn plan(
     let context = || format!("plan of step {step} of {}", shown(text));
     assert_eq!((number, answer), expected, "{}", context());
     assert_eq!(lines, expected_lines, "{}", context());
-}
-
-fn refused(refusal: Refusal) -> (u32, Answer) {
-    let mut answer = Answer::default();
-    answer[lent::LINE] = refusal.line as u64;
-    (refusal.reason.number(), answer)
 }
 
 fn planned(step: &Step) -> (u32, Answer) {
@@ -117,9 +112,4 @@ pub fn outcome(program: &Result<Program, Refusal>) -> String {
         Ok(_) => "accepted".to_owned(),
         Err(refusal) => refusal_name(refusal.reason.number()),
     }
-}
-
-/// A refusal number, for counting.
-pub fn refusal_name(number: u32) -> String {
-    format!("refusal {number:>2}")
 }

@@ -1,7 +1,8 @@
 //! Texts of every shape, mutations of every accepted one, and texts of random
 //! bytes and lines.
 
-use crate::compare::{compare, outcome, refusal_name};
+use crate::common::refusal_name;
+use crate::compare::{compare, outcome};
 use crate::forms;
 use generate::mutations::{self, MUTATIONS};
 use generate::random::Random;

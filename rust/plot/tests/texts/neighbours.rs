@@ -1,16 +1,16 @@
 //! For each refusal number of a check: inputs that are refused by it, and beside
 //! each the nearest input that passes. Both are known by how they are made.
 
-use crate::compare::{compare, outcome, refusal_name};
+use crate::common::refusal_name;
+use crate::compare::{compare, outcome};
+use generate::cases::Case;
 use generate::neighbours::registers::register_pair;
 use generate::neighbours::{lower, pair};
 use generate::random::Random;
 use generate::tally::Tally;
-use generate::{registers, scraps, texts};
+use generate::{registers, scraps};
 use reference::program::Program;
 use reference::refusal::Refusal;
-use reference::register::Sizes;
-use reference::text::read_text;
 
 /// Pairs for each number.
 const PAIRS: usize = 600;
@@ -71,16 +71,6 @@ fn lower_number_of_a_line_comes_first() {
     tally.require(LEAST, &[7, 8, 9, 10, 11, 12].map(refusal_name));
 }
 
-fn accepted_text(random: &mut Random, sizes: Sizes) -> Vec<u8> {
-    loop {
-        let shape = texts::shape(random);
-        let text = texts::text(random, sizes, shape);
-        if read_text(&text, &sizes).is_ok() {
-            return text;
-        }
-    }
-}
-
 #[test]
 fn refused_registers_and_their_neighbours_agree() {
     let mut random = Random::new(14);
@@ -88,7 +78,7 @@ fn refused_registers_and_their_neighbours_agree() {
     for number in 1..=5 {
         for _ in 0..PAIRS {
             let pair = register_pair(&mut random, number);
-            let text = accepted_text(&mut random, pair.sizes);
+            let text = Case::new(&mut random, pair.sizes).text;
             let accepted = compare(&mut random, &pair.accepted, &text);
             count_accepted(&mut tally, number, &accepted);
             for text in [text, scraps::format_bytes(&mut random)] {

@@ -1,7 +1,8 @@
 //! Plans of generated steps: from no chain to 128, with shared beginnings and
 //! ends, on both sides of 64 lines.
 
-use crate::compare::{compare, plan, refusal_name};
+use crate::common::refusal_name;
+use crate::compare::{compare, plan};
 use generate::random::Random;
 use generate::tally::Tally;
 use generate::{neighbours, registers, texts};

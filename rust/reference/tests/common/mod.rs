@@ -2,9 +2,8 @@
 
 use reference::direct::run_direct;
 use reference::messages::run_messages;
-use reference::refusal::Refusal;
 use reference::register::{Cell, Register, Sizes, encode};
-use reference::run::{Run, Scratch};
+use reference::run::{Run, RunBy, Scratch};
 
 /// Enough for every small register.
 pub const AMPLE: Scratch = Scratch {
@@ -34,11 +33,9 @@ pub fn run(sizes: Sizes, cells: &[Cell], text: &str, budget: u16) -> Left {
     }
 }
 
-type Runs = fn(&[u8], &[u8], u16, &mut [u8], Scratch) -> Result<Run, Refusal>;
-
 /// A run with an output that holds rubbish at the start.
-fn output(runs: Runs, register: &[u8], text: &str, budget: u16) -> (Run, Vec<u8>) {
+fn output(run_by: RunBy, register: &[u8], text: &str, budget: u16) -> (Run, Vec<u8>) {
     let mut output = vec![0xa5; register.len()];
-    let run = runs(register, text.as_bytes(), budget, &mut output, AMPLE).unwrap();
+    let run = run_by(register, text.as_bytes(), budget, &mut output, AMPLE).unwrap();
     (run, output)
 }

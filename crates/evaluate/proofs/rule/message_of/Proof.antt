@@ -6,17 +6,24 @@ use Rattle.machine.specs.Remote.{sentTo, actionMessages}
 use Rattle.machine.specs.declared.message.Sort.the-variants.{Least, Total}
 use Rattle.evaluate.specs.Located.{Names}
 use Rattle.evaluate.specs.Answers.{messagesIn}
-use Rattle.evaluate.proofs.Answering.{send-nothing, send-done}
+use Rattle.evaluate.proofs.Answering.{send-local, send-nothing, send-done}
 use borrow.Author.Needs.{needs}
 use Rattle.evaluate.proofs.rule.message_of.Statement.{statement}
 use Rattle.evaluate.proofs.rule.message_of.Tie as tie
 
-holds-requires : tie.Need-holds-requires
-holds-requires c κs = search needs
+is-remote-requires : tie.Need-is-remote-requires
+is-remote-requires c κs = search needs
 
 returns : tie.Need-returns
 unfolding messagesIn
-returns c = send-nothing _ _ (c .before .holds .ensures) (c .if1 .taken)
+returns c = send-local _ _ (c .before .is-remote .ensures) (c .if1 .taken)
+
+holds-requires : tie.Need-holds-requires
+holds-requires c κs = search needs
+
+returns-2 : tie.Need-returns-2
+unfolding messagesIn
+returns-2 c = send-nothing _ _ (c .before .holds .ensures) (c .if2 .taken)
 
 enum-told : tie.Need-enum-told
 enum-told c = search needs
@@ -32,79 +39,81 @@ enum-known-rule c = search needs
 
 chain-value-requires : tie.Need-chain-value-requires
 chain-value-requires c κs =
-    let s = c .before .before .before .before .before .before .before .before in
+    let s = c .before .before .before .before .before .before .before .before .before .before in
     (s .pre .0, s .pre .1, (rw (c .before .rule .given .1) at (s .pre .2 .rule)) .0)
 
 term-value-requires : tie.Need-term-value-requires
 term-value-requires c κs =
-    let s = c .before .before .before .before .before .before .before .before .before in
+    let s = c .before .before .before .before .before .before .before .before .before .before .before in
     (s .pre .0, s .pre .1, (rw (c .before .before .rule .given .1) at (s .pre .2 .rule)) .1)
 
 send-requires : tie.Need-send-requires
 unfolding actionOf
 send-requires c κs =
     let r = c .before .before .before in
-    subst Names (sym (c .before .chain-value .ensures)) (rw (r .rule .given .1) at (r .before .before .before .before .before .before .before .pre .3))
+    subst Names (sym (c .before .chain-value .ensures)) (rw (r .rule .given .1) at (r .before .before .before .before .before .before .before .before .before .pre .3))
 
 enum-known-rule-2 : tie.Need-enum-known-rule-2
 enum-known-rule-2 c = search needs
 
 chain-value-requires-2 : tie.Need-chain-value-requires-2
 chain-value-requires-2 c κs =
-    let s = c .before .before .before .before .before .before .before .before in
+    let s = c .before .before .before .before .before .before .before .before .before .before in
     (s .pre .0, s .pre .1, (rw (c .before .rule2 .given .1) at (s .pre .2 .rule)) .0)
 
 term-value-requires-2 : tie.Need-term-value-requires-2
 term-value-requires-2 c κs =
-    let s = c .before .before .before .before .before .before .before .before .before in
+    let s = c .before .before .before .before .before .before .before .before .before .before .before in
     (s .pre .0, s .pre .1, (rw (c .before .before .rule2 .given .1) at (s .pre .2 .rule)) .1)
 
 send-requires-2 : tie.Need-send-requires-2
 unfolding actionOf
 send-requires-2 c κs =
     let r = c .before .before .before in
-    subst Names (sym (c .before .chain-value2 .ensures)) (rw (r .rule2 .given .1) at (r .before .before .before .before .before .before .before .pre .3))
-
-returns-2 : tie.Need-returns-2
-unfolding actionOf actionMessages messagesIn
-returns-2 c =
-    let e = c .before .before in
-    send-done _ _ (e .before .holds .ensures) (e .if1 .left) (c .enum-told .given .1)
+    subst Names (sym (c .before .chain-value2 .ensures)) (rw (r .rule2 .given .1) at (r .before .before .before .before .before .before .before .before .before .pre .3))
 
 returns-3 : tie.Need-returns-3
 unfolding actionOf actionMessages messagesIn
 returns-3 c =
     let e = c .before .before in
-    send-done _ _ (e .before .holds .ensures) (e .if1 .left) (c .enum-told2 .given .1)
+    send-done _ _ (e .before .holds .ensures) (e .if2 .left) (c .enum-told .given .1)
 
 returns-4 : tie.Need-returns-4
 unfolding actionOf actionMessages messagesIn
 returns-4 c =
     let e = c .before .before in
-    send-done _ _ (e .before .holds .ensures) (e .if1 .left) (c .enum-told3 .given .1)
+    send-done _ _ (e .before .holds .ensures) (e .if2 .left) (c .enum-told2 .given .1)
 
 returns-5 : tie.Need-returns-5
-unfolding actionOf actionMessages
+unfolding actionOf actionMessages messagesIn
 returns-5 c =
-    let r = c .before .before .before .before in
-    let e = r .before .before in
-    c .send .ensures ∙ ap₂ (sentTo Least _) (c .before .before .chain-value .ensures) (c .before .term-value .ensures)
-    ∙ send-done _ _ (e .before .holds .ensures) (e .if1 .left) (r .rule .given .1)
+    let e = c .before .before in
+    send-done _ _ (e .before .holds .ensures) (e .if2 .left) (c .enum-told3 .given .1)
 
 returns-6 : tie.Need-returns-6
 unfolding actionOf actionMessages
 returns-6 c =
     let r = c .before .before .before .before in
     let e = r .before .before in
+    c .send .ensures ∙ ap₂ (sentTo Least _) (c .before .before .chain-value .ensures) (c .before .term-value .ensures)
+    ∙ send-done _ _ (e .before .holds .ensures) (e .if2 .left) (r .rule .given .1)
+
+returns-7 : tie.Need-returns-7
+unfolding actionOf actionMessages
+returns-7 c =
+    let r = c .before .before .before .before in
+    let e = r .before .before in
     c .send2 .ensures ∙ ap₂ (sentTo Total _) (c .before .before .chain-value2 .ensures) (c .before .term-value2 .ensures)
-    ∙ send-done _ _ (e .before .holds .ensures) (e .if1 .left) (r .rule2 .given .1)
+    ∙ send-done _ _ (e .before .holds .ensures) (e .if2 .left) (r .rule2 .given .1)
 
 pub message-of-spec : {M : Type 1} → statement M
 message-of-spec =
     tie.close
     (tie.spec
-    holds-requires
+    is-remote-requires
     returns
+    holds-requires
+    returns-2
     enum-told
     enum-told-2
     enum-told-3
@@ -116,8 +125,8 @@ message-of-spec =
     chain-value-requires-2
     term-value-requires-2
     send-requires-2
-    returns-2
     returns-3
     returns-4
     returns-5
-    returns-6)
+    returns-6
+    returns-7)

@@ -1,56 +1,43 @@
 -- `evaluate::rule::send` meets its contract: without a target or an amount nothing is sent.
 -- Assumes nothing.
-use mathlib.Core.Path.{subst}
-use Rattle.integers.proofs.Complement.{kept}
+use mathlib.Core.Path.{sym, subst}
+use mathlib.Core.Bool.{true}
+use lib.Dec.{T}
+use lib.Signed.{nonNeg}
 use Rattle.machine.specs.Remote.{sentTo}
-use Rattle.evaluate.specs.Located.{Names}
 use Rattle.evaluate.specs.Answers.{messagesIn}
-use Rattle.evaluate.proofs.Sides.{first-missing, second-missing, both-values}
+use Rattle.evaluate.proofs.Sides.{both-missing, both-values, names-both}
 use borrow.Author.Needs.{needs}
 use Rattle.evaluate.proofs.rule.send.Statement.{statement}
 use Rattle.evaluate.proofs.rule.send.Tie as tie
 
-enum-known-target : tie.Need-enum-known-target
-enum-known-target c = search needs
+both-requires : tie.Need-both-requires
+both-requires c κs = search needs
+
+enum-known-v : tie.Need-enum-known-v
+enum-known-v c = search needs
 
 enum-told : tie.Need-enum-told
 enum-told c = search needs
 
 returns : tie.Need-returns
 unfolding sentTo messagesIn
-returns c = first-missing _ _ _ _ (c .enum-told .given .1)
-
-enum-known-amount : tie.Need-enum-known-amount
-enum-known-amount c = search needs
-
-enum-told-2 : tie.Need-enum-told-2
-enum-told-2 c = search needs
-
-returns-2 : tie.Need-returns-2
-unfolding sentTo messagesIn
-returns-2 c = second-missing _ _ _ _ (c .enum-told2 .given .1)
+returns c = both-missing _ _ _ _ (c .before .before .both .ensures) (c .enum-told .given .1)
 
 index-requires : tie.Need-index-requires
 index-requires c κs =
-    let t = c .before .before .before in
-    rw (kept _ (t .known-told .given .0 .1)) (subst Names (t .before .target .given .1) (t .before .before .before .pre))
+    let v = c .before in
+    let s = v .before .before .before in
+    subst T (sym (both-values true (λ a b. nonNeg a) _ _ (v .before .before .both .ensures) (v .v .given .1) (c .known-told .given .0 .1) (c .known-told .given .1 .0 .1)))
+    (names-both (s .args .target) (s .args .amount) (s .pre))
 
-returns-3 : tie.Need-returns-3
+returns-2 : tie.Need-returns-2
 unfolding sentTo messagesIn
-returns-3 c =
-    let t = c .before .before .before .before in
-    rw (c .index .ensures)
-    (both-values _ _ _ _ (t .before .target .given .1) (c .before .before .amount .given .1) (t .known-told .given .0 .1) (c .before .known-told2 .given .0 .1))
+returns-2 c =
+    let k = c .before in
+    let v = k .before in
+    rw (c .index .ensures) (both-values _ _ _ _ (v .before .before .both .ensures) (v .v .given .1) (k .known-told .given .0 .1) (k .known-told .given .1 .0 .1))
 
 pub send-spec : {M : Type 1} → statement M
 send-spec =
-    tie.close
-    (tie.spec
-    enum-known-target
-    enum-told
-    returns
-    enum-known-amount
-    enum-told-2
-    returns-2
-    index-requires
-    returns-3)
+    tie.close (tie.spec both-requires enum-known-v enum-told returns index-requires returns-2)

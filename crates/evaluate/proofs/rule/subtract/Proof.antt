@@ -2,28 +2,22 @@
 -- Assumes nothing.
 use mathlib.Core.Path.{_∙_}
 use lib.IntN.{_-ℤ_}
-use Rattle.evaluate.proofs.Answering.{sum-first-missing, sum-second-missing, sum-written}
+use Rattle.evaluate.proofs.Answering.{sum-missing, sum-written}
 use borrow.Author.Needs.{needs}
 use Rattle.evaluate.proofs.rule.subtract.Statement.{statement}
 use Rattle.evaluate.proofs.rule.subtract.Tie as tie
 
-enum-known-x : tie.Need-enum-known-x
-enum-known-x c = search needs
+both-requires : tie.Need-both-requires
+both-requires c κs = search needs
+
+enum-known-a : tie.Need-enum-known-a
+enum-known-a c = search needs
 
 enum-told : tie.Need-enum-told
 enum-told c = search needs
 
 returns : tie.Need-returns
-returns c = sum-first-missing _-ℤ_ _ _ _ (c .enum-told .given .1)
-
-enum-known-y : tie.Need-enum-known-y
-enum-known-y c = search needs
-
-enum-told-2 : tie.Need-enum-told-2
-enum-told-2 c = search needs
-
-returns-2 : tie.Need-returns-2
-returns-2 c = sum-second-missing _-ℤ_ _ _ _ (c .enum-told2 .given .1)
+returns c = sum-missing _-ℤ_ _ _ _ (c .before .before .both .ensures) (c .enum-told .given .1)
 
 subtract-requires : tie.Need-subtract-requires
 subtract-requires c κs = search needs
@@ -31,22 +25,20 @@ subtract-requires c κs = search needs
 write-sum-requires : tie.Need-write-sum-requires
 write-sum-requires c κs = search needs
 
-returns-3 : tie.Need-returns-3
-returns-3 c =
-    let x = c .before .before .before .before .before in
-    c .write-sum .ensures
-    ∙ sum-written _-ℤ_ _ _ _ (x .before .x .given .1) (c .before .before .before .y .given .1) (x .known-told .given .0 .1) (c .before .before .known-told2 .given .0 .1) (c .before .subtract .ensures)
+returns-2 : tie.Need-returns-2
+returns-2 c =
+    let k = c .before .before in
+    let v = k .before in
+    c .write-sum .ensures ∙ sum-written _-ℤ_ _ _ _ (v .before .before .both .ensures) (v .a .given .1) (k .known-told .given .0 .1) (k .known-told .given .1 .0 .1) (c .before .subtract .ensures)
 
 pub subtract-spec : {M : Type 1} → statement M
 subtract-spec =
     tie.close
     (tie.spec
-    enum-known-x
+    both-requires
+    enum-known-a
     enum-told
     returns
-    enum-known-y
-    enum-told-2
-    returns-2
     subtract-requires
     write-sum-requires
-    returns-3)
+    returns-2)

@@ -1,7 +1,7 @@
 -- `step::remote::apply_rule` meets its contract: the rule's message, where it sends one, is delivered.
 -- Assumes nothing.
 use Prim.Native.Nat.{ℕ, _<_}
-use mathlib.Core.Path.{_≡_, sym, _∙_}
+use mathlib.Core.Path.{_≡_, sym}
 use mathlib.Core.Bool.{true}
 use mathlib.Core.List.{List, [], _∷_}
 use native.Mathlib.Omega.{arith}
@@ -96,9 +96,15 @@ same-length-4 c = search needs
 returns-2 : tie.Need-returns-2
 unfolding ruleOf
 returns-2 c =
-    let s = c .before .before .before .before .before .before .before .before .before .before .before .before .before .before .before .before .before in
-    rule-delivered (s .args .sizes) (cells s) (s .args .base) (s .args .u) (ruleOf (s .args .slot)) (now (s .args .values)) (now (s .args .marks)) (one-sent (c .before .before .before .before .before .before .before .before .before .before .before .message-of .ensures) (c .before .before .before .before .before .before .before .before .before .message .given .1))
-    (s .pre .0 .limits) (room s) (s .pre .3 .targets _ (s .pre .1)) (s .pre .3 .field) (c .before .before .before .before .before .before .before .place .ensures) (let st = c .before .before .before .before .struct-told .given in let f : SFits w32 (c .before .before .before .before .before .before .before .before .before .message .given .0 .0 .amount) = search (needs, st) in rw (← toZ-ofZ {w = w32} f) (c .before .before .before .deliver .ensures))
+    let d = c .before .before .before in
+    let k = d .before .before .before .before in
+    let m = k .before .before in
+    let q = m .before .before in
+    let s = q .before .before .before .before .before .before in
+    let st = d .before .struct-told .given in
+    let f : SFits w32 (m .message .given .0 .0 .amount) = search (needs, st) in
+    rule-delivered (s .args .sizes) (cells s) (s .args .base) (s .args .u) (ruleOf (s .args .slot)) (now (s .args .values)) (now (s .args .marks)) (one-sent (q .message-of .ensures) (m .message .given .1))
+    (s .pre .0 .limits) (room s) (s .pre .3 .targets _ (s .pre .1)) (s .pre .3 .field) f (k .place .ensures) (rw (← toZ-ofZ {w = w32} f) (d .deliver .ensures))
 
 pub apply-rule-spec : {M : Type 1} → statement M
 apply-rule-spec =

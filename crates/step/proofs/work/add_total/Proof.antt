@@ -4,9 +4,16 @@ use mathlib.Core.Path.{ap₂, _∙_}
 use borrow.Author.Needs.{needs}
 use denote.Ref.{now}
 use lib.IntN.{pos, _+ℤ_}
-use lib.ListN.{getD}
+use lib.ListN.{getD, set}
 use mir.Syntax.{w32, w64}
+use mir.Val.{toZ, ofZ}
 use mir.Facts.{toZ-ofZ}
+use Rattle.register.specs.Cells.{valueOf}
+use Rattle.machine.specs.Remote.{merged}
+use Rattle.machine.specs.declared.message.Sort.the-variants.{Total}
+use Rattle.evaluate.specs.Places.{placeAt}
+use Rattle.evaluate.proofs.Placed.{placeAt-value}
+use Rattle.step.specs.Work.{Put}
 use Rattle.step.proofs.Merging.{total-missing, total-added}
 use Rattle.step.proofs.work.add_total.Statement.{statement}
 use Rattle.step.proofs.work.add_total.Tie as tie
@@ -24,27 +31,25 @@ slice-copy-out-increase : tie.Need-slice-copy-out-increase
 slice-copy-out-increase c = search needs
 
 increase-requires : tie.Need-increase-requires
-increase-requires c κs = search needs
+unfolding valueOf
+increase-requires c κs =
+    let s = c .before .before .before .before in
+    let z = getD (now (s .args .values)) (s .args .j) (pos 0) in
+    rw (toZ-ofZ {w = w64} {z = z} (record { sfits = c .increase-arg .given })) (rw (← placeAt-value (now (s .args .values)) (now (s .args .marks)) (s .args .j) (c .before .if1 .left)) at (s .pre .2))
 
-mul-t12 : tie.Need-mul-t12
-mul-t12 c = search needs
-
-slice-set-from-values : tie.Need-slice-set-from-values
-slice-set-from-values c = search needs
-
-same-length : tie.Need-same-length
-same-length c = search needs
-
-returns-2 : tie.Need-returns-2
-returns-2 c =
+-- behind the sum: the total stands with its mark
+added : (c : tie.After-increase) → let s = c .before .before .before .before .before in
+    Put (s .args .j) (merged Total (placeAt (now (s .args .values)) (now (s .args .marks)) (s .args .j)) (s .args .amount)) (now (s .args .values)) (now (s .args .marks))
+    (set (now (s .args .values)) (s .args .j) (toZ w64 (ofZ w64 (c .increase .result)))) (set (now (s .args .marks)) (s .args .j) 1)
+added c =
     let s = c .before .before .before .before .before in
     let z = getD (now (s .args .values)) (s .args .j) (pos 0) in
     total-added _ _ _ _ (c .before .before .if1 .left) _
     (toZ-ofZ {w = w64} (record { sfits = c .increase .ok })
     ∙ c .increase .ensures
     ∙ ap₂ _+ℤ_ (toZ-ofZ {w = w64} {z = z} (record { sfits = c .before .increase-arg .given })) (toZ-ofZ {w = w32} (s .fits .amount)))
-    (s .fits .amount)
 
+-- what is left is given in its place: the total needs no range before it is stored
 pub add-total-spec : {M : Type 1} → statement M
 add-total-spec =
     tie.close
@@ -54,7 +59,9 @@ add-total-spec =
     mul-increase
     slice-copy-out-increase
     increase-requires
-    mul-t12
-    slice-set-from-values
-    same-length
-    returns-2)
+    (λ c. search needs)
+    (λ c. search needs)
+    (λ c. search needs)
+    (λ c. search needs)
+    (λ c. search needs)
+    added)

@@ -10,20 +10,20 @@ use Rattle.register.specs.Cells.{cellsOf}
 use Rattle.register.specs.declared.cells.Cell.the-variants.{Missing}
 use Rattle.register.proofs.Arrays.{cellsOf-length, cellsOf-at}
 use Rattle.evaluate.specs.Places.{placeAt}
-use Rattle.step.specs.Work.{Room, Same, Small}
-use Rattle.step.proofs.Working.{same-refl, same-then, room-same, put-stored, same-put, put-there, put-other, small-more}
+use Rattle.step.specs.Work.{Room, Same}
+use Rattle.step.proofs.Working.{same-refl, same-then, room-same, put-stored, same-put, put-there, put-other}
 use Rattle.step.proofs.work.begin.Statement.{statement}
 use Rattle.step.proofs.work.begin.Tie as tie
 
 abbrev Inv-loop : tie.InvT-loop
 Inv-loop cells filled values₀ marks₀ base j₀ j-end values marks j =
-    Same base values₀ marks₀ values marks × ((i : ℕ) → i < j → placeAt values marks (base + i) ≡ getD (cellsOf cells filled) i Missing) × Small 2147483648 base j values
+    Same base values₀ marks₀ values marks × ((i : ℕ) → i < j → placeAt values marks (base + i) ≡ getD (cellsOf cells filled) i Missing)
 
 abbrev μ-loop : tie.MeasureT-loop
 μ-loop cells filled values₀ marks₀ base j₀ j-end values marks j = j-end - j
 
 loop-holds : tie.Need-loop-holds Inv-loop μ-loop
-loop-holds c = (same-refl, below-none _, record { below = λ i h. absurd (omega arith) })
+loop-holds c = (same-refl, below-none _)
 
 -- there is room for the cells in each turn
 room : (c : tie.At-loop Inv-loop μ-loop) → let s = c .before .before .before .before in Room (s .args .base) (length (now (s .args .filled))) (c .loop .values) (c .loop .marks)
@@ -53,14 +53,13 @@ loop-again c =
     let a = l .before .before .before .before .args in
     let r = room l in
     let e = p .put-cell .ensures in
-    let q = put-stored (e .0) (e .1) (e .2) in (
+    let q = put-stored (e .0) (e .1) in (
       same-then (l .loop .inv .0) (same-put (a .base) (l .loop .j) q),
       below-more _ (l .loop .j)
           (λ i h. put-other (a .base) (l .loop .j) q (a .base + i) (λ q. omega arith) ∙ l .loop .inv .1 i h)
           (put-there (a .base) (l .loop .j) q (omega (arith, r .values-room)) (omega (arith, r .marks-room))
           ∙ p .before .cell-at .ensures
           ∙ sym (cellsOf-at (now (a .cells)) (now (a .filled)) (l .loop .j) (omega arith))),
-      small-more (a .base) (l .loop .j) q (omega (arith, r .values-room)) (e .2 .sfits) (omega arith) (l .loop .inv .2),
     )
 
 same-length : tie.Need-same-length Inv-loop μ-loop
@@ -73,7 +72,7 @@ returns : tie.Need-returns Inv-loop μ-loop
 returns c =
     let l = c .before in
     let a = l .before .before .before .before .args in
-    (record { place-is = λ i h. l .loop .inv .1 i (omega (arith, cellsOf-length (now (a .cells)) (now (a .filled)))) }, l .loop .inv .0, record { below = λ i h. l .loop .inv .2 .below i (omega arith) })
+    (record { place-is = λ i h. l .loop .inv .1 i (omega (arith, cellsOf-length (now (a .cells)) (now (a .filled)))) }, l .loop .inv .0)
 
 pub begin-spec : {M : Type 1} → statement M
 begin-spec =

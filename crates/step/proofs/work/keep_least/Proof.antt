@@ -65,7 +65,7 @@ returns-2 c =
     let p = c .before .before .before in
     let j = p .before .before .before in
     let e = p .put-cell .ensures in
-    rw (stored j, ← toZ-ofZ {w = w32} (j .before .before .before .fits .amount)) (put-stored (e .0) (e .1) (e .2))
+    rw (stored j, ← toZ-ofZ {w = w32} (j .before .before .before .fits .amount)) (put-stored (e .0) (e .1))
 
 pub keep-least-spec : {M : Type 1} → statement M
 keep-least-spec =

@@ -1,2 +1,0 @@
-// The direct machine: document 01's straight run.
-pub mod run;

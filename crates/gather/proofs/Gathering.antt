@@ -1,0 +1,35 @@
+-- Readings gathered by messages are those that following gives.
+use Prim.Native.Nat.{ℕ, _*_, _≤_}
+use mathlib.Core.Path.{_≡_, sym, ap, subst, _∙_}
+use mathlib.Core.List.{List}
+use lib.IntN.{ℤ}
+use lib.ListN.{length}
+use Rattle.register.specs.Shape.{Valid}
+use Rattle.register.specs.declared.Sizes.{Sizes}
+use Rattle.register.specs.declared.cells.Cell.{Cell}
+use Rattle.chain.specs.Word.{valueAtRecord}
+use Rattle.plan.specs.Plan.{Fact, word, last-round}
+use Rattle.plan.specs.Kept.{plan-promise}
+use Rattle.rules.specs.Program.{Rule, readings, stepPlan}
+use Rattle.rules.specs.Passed.{RulesPass}
+use Rattle.message_machine.proofs.Telling.{lines-told}
+use Rattle.fill.specs.Filled.{Filled}
+use Rattle.messages.specs.Exchanged.{ExchangedTo}
+use Rattle.messages.proofs.Places.{stored-place, stored-fits}
+
+pub told-filled : {s : Sizes} {rs : List Rule} {cells : List Cell} {values values′ : List ℤ} {marks marks′ : List ℕ} {n : ℕ} → Valid s cells → RulesPass s rs
+    → ExchangedTo s cells (stepPlan rs) (last-round (stepPlan rs)) values marks values′ marks′ n
+    → Filled s cells (stepPlan rs) (length (stepPlan rs)) values marks values′ marks′
+unfolding stepPlan
+told-filled {s} {rs} {cells} v k x =
+    let l = stepPlan rs in
+    record {
+      values-length = x .values-length;
+      marks-length = x .marks-length;
+      reads = λ i u w h b e.
+          let last = plan-promise (readings rs) .to-last i h in
+          let at = x .held .each i u h b last in
+          let reads-there = ap (λ (f : Fact). valueAtRecord s cells (word f) u) e in
+          record { place-is = stored-place at ∙ lines-told v k i (last-round l) u h last b ∙ reads-there; fits = stored-fits at };
+      behind = x .behind;
+    }

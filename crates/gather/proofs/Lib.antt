@@ -1,0 +1,2 @@
+-- Laws for the proof of the function.
+pub mod Gathering

@@ -1,0 +1,118 @@
+-- `gather::gather` meets its contract: by following, or by the exchanges of all rounds.
+-- Assumes nothing.
+use Prim.Native.Nat.{ℕ, _≤_, _*_}
+use mathlib.Core.Path.{_≡_, refl, sym, ap, ap₂, subst, _∙_}
+use native.Mathlib.Omega.{arith}
+use borrow.Author.Needs.{needs}
+use denote.Ref.{now}
+use Rattle.register.specs.File.{cellsOfFile}
+use Rattle.register.proofs.Loading.{file-parts}
+use Rattle.plan.specs.Plan.{last-round}
+use Rattle.plan.specs.Held.{facts-in}
+use Rattle.rules.specs.Program.{stepPlan}
+use Rattle.fill.specs.Filled.{FollowLines, Filled}
+use Rattle.fill.proofs.Readings.{lines-follow}
+use Rattle.messages.proofs.Counting.{plan-below}
+use Rattle.messages.proofs.Planned.{planned-lines, planned-followable, planned-count, planned-rounds}
+use Rattle.gather.proofs.Gathering.{told-filled}
+use Rattle.gather.proofs.gather.Statement.{statement}
+use Rattle.gather.proofs.gather.Tie as tie
+
+-- the lines are the step's plan
+facts-are : (c : tie.Start) → facts-in (now (c .args .keys)) (c .args .count) ≡ stepPlan (c .pre .1 .rules)
+facts-are c = c .pre .1 .holds .facts-are
+
+values-part-requires : tie.Need-values-part-requires
+values-part-requires c κs = search needs
+
+marks-part-requires : tie.Need-marks-part-requires
+marks-part-requires c κs = search needs
+
+enum-told : tie.Need-enum-told
+enum-told c = search needs
+
+fill-requires : tie.Need-fill-requires
+unfolding cellsOfFile
+fill-requires c κs =
+    let follows = subst (FollowLines (c .before .before .before .before .before .before .before .before .args .sizes)) (sym (facts-are (c .before .before .before .before .before .before .before .before))) (lines-follow (c .before .before .before .before .before .before .before .before .args .sizes) (c .before .before .before .before .before .before .before .before .pre .1 .passes)) in
+    rw (c .before .before .before .before .before .values-part .ensures, c .before .before .before .before .marks-part .ensures)
+    (file-parts (now (c .before .before .before .before .before .before .before .before .args .file)) (c .before .before .before .before .before .before .before .before .args .sizes) (c .before .before .before .before .before .before .before .before .pre .0 .valid .limits) (c .before .before .before .before .before .before .before .before .pre .0 .whole), c .before .before .before .before .before .before .before .before .pre .0 .valid, c .before .before .before .before .before .before .before .before .pre .1 .holds .keyed, follows, c .before .before .before .before .before .before .before .before .pre .2, c .before .before .before .before .before .before .before .before .pre .3)
+
+enum-told-2 : tie.Need-enum-told-2
+enum-told-2 c = search needs
+
+last-round-requires : tie.Need-last-round-requires
+last-round-requires c κs = (c .before .before .before .before .before .before .pre .1 .holds .rounds-are .places, c .before .before .before .before .before .before .pre .1 .holds .keyed .taken≤)
+
+cast-t20 : tie.Need-cast-t20
+cast-t20 c = search needs
+
+exchange-to-requires : tie.Need-exchange-to-requires
+unfolding cellsOfFile
+exchange-to-requires c κs =
+    rw (c .before .before .before .before .before .before .values-part .ensures, c .before .before .before .before .before .marks-part .ensures) (
+      file-parts (now (c .before .before .before .before .before .before .before .before .before .args .file)) (c .before .before .before .before .before .before .before .before .before .args .sizes) (c .before .before .before .before .before .before .before .before .before .pre .0 .valid .limits) (c .before .before .before .before .before .before .before .before .before .pre .0 .whole),
+      c .before .before .before .before .before .before .before .before .before .pre .0 .valid,
+      record { lines = planned-lines (c .before .before .before .before .before .before .before .before .before .pre .1); follow = planned-followable (c .before .before .before .before .before .before .before .before .before .pre .1); values-room = c .before .before .before .before .before .before .before .before .before .pre .2; marks-room = c .before .before .before .before .before .before .before .before .before .pre .3 },
+    )
+
+same-length : tie.Need-same-length
+same-length c = search needs
+
+same-length-2 : tie.Need-same-length-2
+same-length-2 c = search needs
+
+returns : tie.Need-returns
+unfolding cellsOfFile
+returns c =
+    let filled = rw (c .before .before .before .before .before .before .before .before .before .values-part .ensures, c .before .before .before .before .before .before .before .before .marks-part .ensures) at (c .before .before .before .fill .ensures) in
+    rw (c .before .before .before .before .before .before .enum-told .given .1)
+    (record {
+      filled = rw (planned-count (c .before .before .before .before .before .before .before .before .before .before .before .before .pre .1)) filled;
+      counted = refl;
+      few-exchanges = omega arith;
+      few-messages = omega arith;
+    })
+
+same-length-3 : tie.Need-same-length-3
+same-length-3 c = search needs
+
+same-length-4 : tie.Need-same-length-4
+same-length-4 c = search needs
+
+-- the last round, and what the exchanges up to it make
+last-is : (c : tie.After-last-round) → c .last-round .result ≡ last-round (facts-in (now (c .before .before .before .before .before .before .before .args .keys)) (c .before .before .before .before .before .before .before .args .count))
+last-is c = c .last-round .ensures .last-is _ (planned-count (c .before .before .before .before .before .before .before .pre .1)) (planned-rounds (c .before .before .before .before .before .before .before .pre .1))
+
+returns-2 : tie.Need-returns-2
+unfolding cellsOfFile
+returns-2 c =
+    let done = rw (c .before .before .before .before .before .before .before .before .before .before .values-part .ensures, c .before .before .before .before .before .before .before .before .before .marks-part .ensures) at (c .before .before .before .exchange-to .ensures) in
+    let last = last-is (c .before .before .before .before .before .before) in
+    let told = rw (last, facts-are (c .before .before .before .before .before .before .before .before .before .before .before .before .before)) at done in
+    rw (c .before .before .before .before .before .before .before .enum-told2 .given .1)
+    (record {
+      filled = rw (facts-are (c .before .before .before .before .before .before .before .before .before .before .before .before .before)) (told-filled (c .before .before .before .before .before .before .before .before .before .before .before .before .before .pre .0 .valid) (c .before .before .before .before .before .before .before .before .before .before .before .before .before .pre .1 .passes) told);
+      counted = rw last (ap (λ (k : ℕ). record { exchanges = last-round (facts-in (now (c .before .before .before .before .before .before .before .before .before .before .before .before .before .args .keys)) (c .before .before .before .before .before .before .before .before .before .before .before .before .before .args .count)); messages = k }) (rw last at (done .messages)));
+      few-exchanges = omega (arith, c .before .before .before .before .before .before .last-round .ok);
+      few-messages = plan-below _ _ _ _ (done .messages);
+    })
+
+pub gather-spec : {M : Type 1} → statement M
+gather-spec =
+    tie.close
+    (tie.spec
+    values-part-requires
+    marks-part-requires
+    enum-told
+    fill-requires
+    enum-told-2
+    last-round-requires
+    cast-t20
+    exchange-to-requires
+    same-length
+    same-length-2
+    returns
+    same-length-3
+    same-length-4
+    returns-2)

@@ -1,0 +1,2 @@
+-- A step's readings, by one machine or the other.
+pub mod Gathered

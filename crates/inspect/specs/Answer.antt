@@ -1,0 +1,48 @@
+-- What the look answers, and what it leaves in the caller's buffers.
+use mathlib.Core.Path.{_≡_}
+use mathlib.Core.List.{List}
+use Prim.Native.Nat.{ℕ, _+_, _*_, _≤_, _<_}
+use lib.IntN.{ℤ}
+use lib.ListN.{length}
+use Rattle.register.specs.Outcome.{Outcome, done, refused}
+use Rattle.register.specs.File.{sizesOf, cellsOfFile}
+use Rattle.register.specs.declared.Sizes.{Sizes}
+use Rattle.register.specs.declared.cells.Cell.{Cell}
+use Rattle.plan.specs.Plan.{Fact, line}
+use Rattle.message_machine.specs.Held.{heldAfter}
+use Rattle.evaluate.specs.Places.{Kept}
+use Rattle.messages.specs.Written.{Stored}
+use Rattle.inspect.specs.declared.InspectAnswer.{InspectAnswer}
+
+-- The lines l after round t: "Line i, from 0, and origin u have place i × n + u. It holds mark 1 exactly if that letter was sent
+-- in rounds 1 to t, and then the value read (Read) or the addressee (Back); otherwise value 0 and mark 0. Places behind the
+-- step's last line are not touched."
+pub record Shown (s : Sizes) (cells : List Cell) (l : List Fact) (t : ℕ) (values : List ℤ) (marks : List ℕ) (values′ : List ℤ) (marks′ : List ℕ) : Type 0 where
+  pub values-length : length values′ ≡ length values
+  pub marks-length : length marks′ ≡ length marks
+  pub held : (i u : ℕ) → i < length l → u < s .records → Stored (heldAfter s cells t (line l i) u) (i * s .records + u) values′ marks′
+  pub behind : (j : ℕ) → length l * s .records ≤ j → Kept j values marks values′ marks′
+
+-- a refusal
+abbrev pub refusedWith : ℕ → ℕ → InspectAnswer
+refusedWith refusal line = record { refusal = refusal; line = line; lines = 0 }
+
+-- a step of this many lines
+abbrev pub shownLines : ℕ → InspectAnswer
+shownLines lines = record { refusal = 0; line = 0; lines = lines }
+
+-- "over the register as loaded"
+pub record StepAnswered (l : List Fact) (file : List ℕ) (t : ℕ) (values : List ℤ) (marks : List ℕ) (values′ : List ℤ) (marks′ : List ℕ) (r : InspectAnswer) : Type 0 where
+  pub answer-is : r ≡ shownLines (length l)
+  pub shown : Shown (sizesOf file) (cellsOfFile (sizesOf file) file) l t values marks values′ marks′
+
+-- "Nothing lent is written."
+pub record RefusalAnswered (n k : ℕ) (values : List ℤ) (marks : List ℕ) (values′ : List ℤ) (marks′ : List ℕ) (r : InspectAnswer) : Type 0 where
+  pub answer-is : r ≡ refusedWith n k
+  pub values-same : values′ ≡ values
+  pub marks-same : marks′ ≡ marks
+
+-- an outcome as the caller sees it: the answer, and what its buffers hold then
+abbrev pub Answered : Outcome (List Fact) → List ℕ → ℕ → List ℤ → List ℕ → List ℤ → List ℕ → InspectAnswer → Type 0
+Answered (done l) file t values marks values′ marks′ r = StepAnswered l file t values marks values′ marks′ r
+Answered (refused n k) file t values marks values′ marks′ r = RefusalAnswered n k values marks values′ marks′ r

@@ -1,0 +1,10 @@
+-- Laws for the proofs of the functions.
+pub mod Held
+pub mod Referring
+pub mod Places
+pub mod Writing
+pub mod Counting
+pub mod Sending
+pub mod Exchanging
+pub mod Turning
+pub mod Planned

@@ -1,0 +1,2 @@
+-- Laws on values that several proofs cite.
+pub mod Signs

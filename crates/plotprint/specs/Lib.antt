@@ -1,0 +1,4 @@
+-- What is printed: the number behind `at`, cells, and the room that it takes.
+pub mod Behind
+pub mod Put
+pub mod Room

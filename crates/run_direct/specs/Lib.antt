@@ -1,3 +1,0 @@
--- The direct run as an operation.
-pub mod Direct
-pub mod Answer

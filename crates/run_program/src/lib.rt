@@ -1,0 +1,181 @@
+// The run of a program, by either machine: step after step, within the budget.
+ghost use mathlib.Core.Path.{_≡_};
+ghost use mathlib.Core.Bool.{cond};
+ghost use Prim.Native.Nat.{_≤_};
+ghost use Rattle.rules.specs.Passed.{ProgramPasses};
+ghost use Rattle.reader.specs.Kept.{programOf, Complete};
+ghost use Rattle.step.specs.Stepped.{Register};
+ghost use Rattle.run_program.specs.Answer.{endedWith, stoppedAt, countsAfter, Scratch, Ends};
+use gather;
+use gather::Gathered;
+use locate;
+use message_machine::Machine;
+use pass;
+use reader::Program;
+use register::Sizes;
+use register::cells;
+use step::commit;
+use step::local;
+use step::local::Stop;
+use step::remote;
+use step::work;
+
+// Exchanges and messages of the finished steps: none in a direct run.
+pub struct Counts {
+    pub exchanges: usize,
+    pub messages: usize,
+}
+
+// The refusal's number, 0 for none, with its line where it has one; the finished steps; for 21 the record and the column where
+// it happened.
+pub struct RunAnswer {
+    pub refusal: u32,
+    pub line: usize,
+    pub finished: u16,
+    pub counts: Counts,
+    pub row: usize,
+    pub column: usize,
+}
+
+// "1 more if it holds a remote rule".
+fn own_exchange(sends: bool) -> usize
+    ensures { λ r. ⌜ (r ≡ cond sends 1 0) × (r ≤ 1) ⌝ }
+{
+    if sends { 1 } else { 0 }
+}
+
+// With those of a step that is finished: what its lines took, and its remote messages in an exchange of their own.
+fn count(machine: Machine, counts: Counts, gathered: Gathered, sends: bool, sent: usize) -> Counts
+    requires { ⌜ (counts .exchanges ≤ 4611686018427387904) × (counts .messages ≤ 4611686018427387904) × (gathered .exchanges ≤ 65536) × (gathered .messages ≤ 1048576) × (sent ≤ 1048576) ⌝ }
+    ensures { λ r. ⌜ r ≡ countsAfter machine counts gathered sends sent ⌝ }
+{
+    match machine {
+        Machine::Direct => counts,
+        Machine::Messages => Counts {
+            exchanges: counts.exchanges + gathered.exchanges + own_exchange(sends),
+            messages: counts.messages + gathered.messages + sent,
+        },
+    }
+}
+
+fn ended(refusal: u32, finished: u16, counts: Counts) -> RunAnswer
+    ensures { λ r. ⌜ r ≡ endedWith refusal finished counts ⌝ }
+{
+    RunAnswer {
+        refusal,
+        line: 0,
+        finished,
+        counts,
+        row: 0,
+        column: 0,
+    }
+}
+
+// 21, at a record and a column.
+fn out_of_range(finished: u16, counts: Counts, row: usize, column: usize) -> RunAnswer
+    ensures { λ r. ⌜ r ≡ stoppedAt finished counts row column ⌝ }
+{
+    RunAnswer {
+        refusal: 21,
+        line: 0,
+        finished,
+        counts,
+        row,
+        column,
+    }
+}
+
+// The program over the register in `out`. The function holds the program's arrays and takes a step's rules out without a call,
+// their chains located in the step's plan.
+pub fn run_program(
+    out: &mut [u8],
+    values: &mut [i64],
+    marks: &mut [u8],
+    sizes: Sizes,
+    program: Program,
+    machine: Machine,
+    budget: u16,
+) -> RunAnswer
+    requires { ⌜ Register sizes (now out) × Scratch sizes (program .lines) (now values) (now marks) × Complete program × ProgramPasses sizes (programOf program) ⌝ }
+    ensures { λ r. ⌜ Ends machine sizes (programOf program) budget (now (out .entry)) (now (out .exit)) r ⌝ }
+{
+    let slots = program.slots;
+    let frames = program.frames;
+    let steps = program.steps;
+    let at = program.lines * sizes.records;
+    let base = at + sizes.records;
+    work::begin(
+        cells::values_part(out, sizes),
+        cells::marks_part(out, sizes),
+        values,
+        marks,
+        base,
+    );
+    let mut rules = [slots[0]; 32];
+    let mut step = 0;
+    let mut first = steps;
+    let mut finished = 0;
+    let mut counts = Counts {
+        exchanges: 0,
+        messages: 0,
+    };
+    while step < steps {
+        if finished == budget {
+            return ended(20, finished, counts);
+        }
+        let frame = frames[step];
+        let setting = frame.setting;
+        let used = frame.rules;
+        for k in 0..used {
+            let slot = slots[32 * step + k];
+            rules[k] = locate::locate(&frame.plan.keys, frame.plan.count, slot);
+        }
+        first = pass::enter(out, values, marks, sizes, at, setting, step, first);
+        let gathered = gather::gather(
+            out,
+            values,
+            marks,
+            sizes,
+            machine,
+            &frame.plan.keys,
+            &frame.plan.rounds,
+            &frame.plan.backs,
+            &frame.plan.reads,
+            frame.plan.count,
+        );
+        let stop = local::apply(
+            cells::values_part(out, sizes),
+            cells::marks_part(out, sizes),
+            values,
+            marks,
+            sizes,
+            base,
+            rules,
+            used,
+        );
+        if let Stop::At(row, column) = stop {
+            return out_of_range(finished, counts, row, column);
+        }
+        let mut sent = 0;
+        if frame.remote {
+            sent = remote::apply(
+                cells::values_part(out, sizes),
+                cells::marks_part(out, sizes),
+                values,
+                marks,
+                sizes,
+                base,
+                rules,
+                used,
+            );
+        }
+        let total = commit::commit(out, values, marks, sizes, base);
+        if let Stop::At(row, column) = total {
+            return out_of_range(finished, counts, row, column);
+        }
+        counts = count(machine, counts, gathered, frame.remote, sent);
+        finished += 1;
+        step = pass::next(out, values, marks, sizes, at, setting, step, first);
+    }
+    ended(0, finished, counts)
+}

@@ -1,0 +1,3 @@
+-- The runs as operations.
+pub mod Direct
+pub mod Answer

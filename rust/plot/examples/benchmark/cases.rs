@@ -1,0 +1,120 @@
+//! Registers and texts whose runs are timed.
+
+use generate::ranking::{self, list};
+use reference::register::{Cell, MAX_RECORDS, Sizes, encode};
+
+/// A run: a register, a text that passes for it, and a budget.
+pub struct Case {
+    /// What it is.
+    pub name: &'static str,
+    /// The register file.
+    pub register: Vec<u8>,
+    /// The text.
+    pub text: Vec<u8>,
+    /// The budget.
+    pub budget: u16,
+}
+
+fn case(name: &'static str, register: Vec<u8>, text: Vec<u8>, budget: u16) -> Case {
+    Case {
+        name,
+        register,
+        text,
+        budget,
+    }
+}
+
+/// The runs that are timed by both machines.
+pub fn cases() -> Vec<Case> {
+    vec![
+        case("32 rules of 16 hops", chains(), long_rules(), 1),
+        case(
+            "32 remote sums to one record",
+            to_first(),
+            remote_rules(),
+            1,
+        ),
+        case(
+            "list ranking, 4,096 records",
+            list(MAX_RECORDS),
+            ranking::TEXT.to_vec(),
+            65_535,
+        ),
+        case("65,535 steps, 16 records", few(), counting(), 65_535),
+    ]
+}
+
+/// So many steps of so many rules each over all records.
+pub fn equal_rules(name: &'static str, steps: usize, rules: usize) -> Case {
+    let rules = b"M[u] := M[A[u]]\n".repeat(rules);
+    let step = [b"step\n", &rules[..], b"end\n"].concat();
+    case(name, list(MAX_RECORDS), step.repeat(steps), steps as u16)
+}
+
+/// A register file by its cells.
+fn file(sizes: Sizes, cell: impl Fn(usize, usize) -> Cell) -> Vec<u8> {
+    let cells: Vec<Cell> = (0..sizes.records)
+        .flat_map(|u| (0..sizes.fields()).map(move |f| (u, f)))
+        .map(|(u, f)| cell(u, f))
+        .collect();
+    encode(sizes, &cells)
+}
+
+fn sizes(records: usize, references: usize, measures: usize) -> Sizes {
+    Sizes {
+        records,
+        references,
+        measures,
+    }
+}
+
+/// One reference field that leads far about, and eight measures.
+fn chains() -> Vec<u8> {
+    file(sizes(MAX_RECORDS, 1, 8), |u, f| match f {
+        0 => Cell::Value(((u * 2_654_435 + 977) % MAX_RECORDS) as i32),
+        _ => Cell::Value((u % 100) as i32),
+    })
+}
+
+fn long_rules() -> Vec<u8> {
+    let mut text = b"step\n".to_vec();
+    for rule in 0..32 {
+        let letter = b'M' + rule % 8;
+        text.extend([letter, b'[', b'u', b']', b' ', b':', b'=', b' ', letter]);
+        text.extend(b"[A".repeat(15));
+        text.extend(b"[u]");
+        text.extend(b"]".repeat(15));
+        text.push(b'\n');
+    }
+    text.extend(b"end\n");
+    text
+}
+
+/// Every record refers to the first.
+fn to_first() -> Vec<u8> {
+    file(sizes(MAX_RECORDS, 1, 1), |u, f| match f {
+        0 => Cell::Value(0),
+        _ => Cell::Value((u % 100) as i32),
+    })
+}
+
+fn remote_rules() -> Vec<u8> {
+    [
+        &b"step\n"[..],
+        &b"remote M[A[u]] += M[u]\n".repeat(32),
+        b"end\n",
+    ]
+    .concat()
+}
+
+fn few() -> Vec<u8> {
+    file(sizes(16, 1, 1), |u, f| match f {
+        0 => Cell::Value(((u + 1) % 16) as i32),
+        _ => Cell::Value(0),
+    })
+}
+
+/// A loop whose field is never the same.
+fn counting() -> Vec<u8> {
+    b"loop M\nstep\nM[u] := M[A[u]] + 1\nend\ndone\n".to_vec()
+}

@@ -1,0 +1,115 @@
+//! One trial by the library and by the reference, with both machines: output
+//! bytes, every number, and for 21 a place that offends.
+
+use crate::common::{any_answer, refused};
+use crate::planned;
+use crate::trials::Trial;
+use generate::random::Random;
+use plot::lent::{self, Answer, RunBuffers};
+use reference::apply::Place;
+use reference::direct::run_direct;
+use reference::messages::run_messages;
+use reference::run::{End, Run, RunBy};
+
+/// A machine by both.
+struct Machine {
+    name: &'static str,
+    library: lent::RunBy,
+    reference: RunBy,
+}
+
+const DIRECT: Machine = Machine {
+    name: "direct",
+    library: lent::run_direct,
+    reference: run_direct,
+};
+
+const MESSAGES: Machine = Machine {
+    name: "by messages",
+    library: lent::run_messages,
+    reference: run_messages,
+};
+
+/// What the library left of a trial.
+pub struct Left {
+    pub number: u32,
+    pub answer: Answer,
+    buffers: RunBuffers,
+}
+
+impl Left {
+    /// What both machines must agree in: refusal, line, finished steps, output.
+    fn in_common(&self) -> (u32, [u64; 2], &[u8]) {
+        let numbers = [lent::LINE, lent::FINISHED].map(|place| self.answer[place]);
+        (self.number, numbers, &self.buffers.output)
+    }
+}
+
+/// Runs a trial by both machines, which must agree with each other, and in
+/// exchanges with the plans. Gives what the message machine left.
+pub fn compare(random: &mut Random, trial: &Trial) -> Left {
+    let direct = DIRECT.compare(random, trial);
+    let messages = MESSAGES.compare(random, trial);
+    let exchanges = messages.answer[lent::EXCHANGES];
+    assert_eq!(messages.in_common(), direct.in_common(), "{}", shown(trial));
+    assert_eq!(exchanges, planned::exchanges(trial), "{}", shown(trial));
+    messages
+}
+
+impl Machine {
+    /// Runs a trial by the library and by the reference.
+    fn compare(&self, random: &mut Random, trial: &Trial) -> Left {
+        let left = self.by_library(random, trial);
+        let context = || format!("{}: {}", self.name, shown(trial));
+        let mut output = trial.buffers.output.clone();
+        let (register, text) = (&trial.register, &trial.text);
+        let run = (self.reference)(register, text, trial.budget, &mut output, trial.scratch());
+        let expected = match &run {
+            Err(refusal) => {
+                assert_eq!(left.buffers, trial.buffers, "{}", context());
+                refused(*refusal)
+            }
+            Ok(run) => answered(run, &left.answer),
+        };
+        assert_eq!((left.number, left.answer), expected, "{}", context());
+        assert_eq!(left.buffers.output, output, "{}", context());
+        left
+    }
+
+    fn by_library(&self, random: &mut Random, trial: &Trial) -> Left {
+        let mut answer = any_answer(random);
+        let mut buffers = trial.buffers.clone();
+        let (register, text) = (&trial.register, &trial.text);
+        let number = (self.library)(register, text, trial.budget, &mut buffers, &mut answer);
+        Left {
+            number,
+            answer,
+            buffers,
+        }
+    }
+}
+
+/// The number and the answer array of a run, with the place that a given answer
+/// names for 21 if that one offends, else another.
+fn answered(run: &Run, given: &Answer) -> (u32, Answer) {
+    let mut answer = Answer::default();
+    answer[lent::FINISHED] = u64::from(run.finished);
+    answer[lent::EXCHANGES] = run.counts.exchanges;
+    answer[lent::LETTERS] = run.counts.letters;
+    if let End::OutOfRange(places) = &run.end {
+        let is_named = |place: &&Place| {
+            [place.record as u64, place.field as u64] == given[lent::RECORD..=lent::FIELD]
+        };
+        let place = places.iter().find(is_named).unwrap_or(&places[0]);
+        answer[lent::RECORD] = place.record as u64;
+        answer[lent::FIELD] = place.field as u64;
+    }
+    (run.end.number(), answer)
+}
+
+/// A trial, for the message of a failure.
+fn shown(trial: &Trial) -> String {
+    let text = String::from_utf8_lossy(&trial.text);
+    let (file, budget) = (trial.register.len(), trial.budget);
+    format!("a register of {file} bytes, budget {budget}:\n{text}")
+}

@@ -1,0 +1,10 @@
+//! Runs and inspections of the library and of the reference agree, case by case.
+
+mod bindings;
+#[path = "../common/mod.rs"]
+mod common;
+mod compare;
+mod generated;
+mod inspections;
+mod planned;
+mod trials;

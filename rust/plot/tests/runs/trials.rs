@@ -1,0 +1,116 @@
+//! What is run: a register, a text, a budget, and buffers full of rubbish.
+
+use generate::cases::Case;
+use generate::random::Random;
+use generate::{damage, mutations, neighbours, registers};
+use plot::lent::RunBuffers;
+use reference::run::Scratch;
+
+const BUDGETS: [u16; 10] = [0, 1, 2, 3, 10, 40, 300, 1_000, 5_000, 65_535];
+
+/// One input of a run.
+pub struct Trial {
+    pub register: Vec<u8>,
+    pub text: Vec<u8>,
+    pub budget: u16,
+    /// The buffers as they are lent.
+    pub buffers: RunBuffers,
+}
+
+impl Trial {
+    /// A case with buffers of the right lengths or longer.
+    fn new(random: &mut Random, case: Case, budget: u16) -> Trial {
+        let length = case.scratch_length();
+        let (values, marks) = (length + random.below(3), length + random.below(3));
+        let buffers = rubbish(random, case.register.len(), values, marks);
+        Trial {
+            register: case.register,
+            text: case.text,
+            budget,
+            buffers,
+        }
+    }
+
+    /// The lengths of the scratch buffers.
+    pub fn scratch(&self) -> Scratch {
+        Scratch {
+            values: self.buffers.values.len(),
+            marks: self.buffers.marks.len(),
+        }
+    }
+}
+
+/// Buffers of these lengths, full of rubbish.
+pub fn rubbish(random: &mut Random, output: usize, values: usize, marks: usize) -> RunBuffers {
+    RunBuffers {
+        output: random.bytes(output),
+        values: (0..values).map(|_| random.number() as i64).collect(),
+        marks: random.bytes(marks),
+    }
+}
+
+/// Any budget; some are worth meeting often.
+fn budget(random: &mut Random) -> u16 {
+    match random.percent(90) {
+        true => random.pick(&BUDGETS),
+        false => random.number() as u16,
+    }
+}
+
+/// A register that loads, a text that passes, and buffers that will do.
+pub fn right(random: &mut Random) -> Trial {
+    let case = Case::small(random);
+    let budget = budget(random);
+    Trial::new(random, case, budget)
+}
+
+/// The same with as many records as may be, and a small budget.
+pub fn large(random: &mut Random) -> Trial {
+    let sizes = registers::large_sizes(random);
+    let case = Case::new(random, sizes);
+    let budget = random.between(1, 6) as u16;
+    Trial::new(random, case, budget)
+}
+
+/// Buffers of lengths that will do and of others.
+pub fn of_any_lengths(random: &mut Random) -> Trial {
+    let case = Case::small(random);
+    let file = case.register.len();
+    let length = case.scratch_length();
+    let short = length.saturating_sub(1 + random.below(2));
+    let output = random.pick(&[file - 1, file, file, file + 1]);
+    let values = random.pick(&[short, length, length + 1]);
+    let marks = random.pick(&[short, length, length + 1]);
+    let buffers = rubbish(random, output, values, marks);
+    Trial {
+        buffers,
+        ..Trial::new(random, case, 5)
+    }
+}
+
+/// A register or a text that is refused, or nearly; often with an output too long.
+pub fn damaged(random: &mut Random) -> Trial {
+    let case = damaged_case(random);
+    let mut trial = Trial::new(random, case, 20);
+    if random.percent(50) {
+        trial.buffers.output.push(0);
+    }
+    trial
+}
+
+/// A case refused by some number from 6 to 15, or one that is damaged anywhere.
+fn damaged_case(random: &mut Random) -> Case {
+    let mut case = Case::small(random);
+    if random.percent(50) {
+        let number = random.between(6, 15) as u32;
+        let (sizes, pair) = neighbours::pair(random, number);
+        case = Case::new(random, sizes);
+        case.text = pair.refused;
+    } else if random.percent(60) {
+        case.text = mutations::several(random, &case.text);
+    }
+    if random.percent(30) {
+        damage::damage(random, case.sizes, &mut case.register);
+    }
+    case
+}
