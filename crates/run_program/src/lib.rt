@@ -143,16 +143,24 @@ pub fn run_program(
             &frame.plan.reads,
             frame.plan.count,
         );
-        let stop = local::apply(
-            cells::values_part(out, sizes),
-            cells::marks_part(out, sizes),
-            values,
-            marks,
-            sizes,
-            base,
-            rules,
-            used,
-        );
+        let mut stop = Stop::Nowhere;
+        'records: for u in 0..sizes.records {
+            for k in 0..used {
+                stop = local::apply_rule(
+                    cells::values_part(out, sizes),
+                    cells::marks_part(out, sizes),
+                    values,
+                    marks,
+                    sizes,
+                    base,
+                    u,
+                    rules[k],
+                );
+                if let Stop::At(_, _) = stop {
+                    break 'records;
+                }
+            }
+        }
         if let Stop::At(row, column) = stop {
             return out_of_range(finished, counts, row, column);
         }

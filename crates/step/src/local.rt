@@ -1,12 +1,11 @@
-// The local rules of a step: for each record, each rule in order.
-ghost use mathlib.Core.Path.{_≡_};
-ghost use Prim.Native.Nat.{_≤_, _<_};
+// A local rule of a step at one record.
+ghost use Prim.Native.Nat.{_<_};
 ghost use lib.ListN.{length, take};
 ghost use Rattle.register.specs.Cells.{cellsOf};
 ghost use Rattle.register.specs.Shape.{Parts};
-ghost use Rattle.step_plan.specs.Stored.{ruleOf, rulesIn};
+ghost use Rattle.step_plan.specs.Stored.{ruleOf};
 ghost use Rattle.step.specs.Work.{Room};
-ghost use Rattle.step.specs.Ready.{Ready, AllReady, LocalRule, LocalAnswer};
+ghost use Rattle.step.specs.Ready.{Ready, LocalRule};
 use crate::work;
 use actions::rule::Slot;
 use chain::follow;
@@ -22,7 +21,7 @@ pub enum Stop {
 }
 
 // One rule at record u.
-fn apply_rule(
+pub fn apply_rule(
     cells: &[u8],
     filled: &[u8],
     values: &mut [i64],
@@ -51,30 +50,4 @@ fn apply_rule(
         }
         Write::OutOfRange(field) => Stop::At(u, follow::column(sizes, field as usize)),
     }
-}
-
-// All rules at all records, up to the first sum out of range.
-pub fn apply(
-    cells: &[u8],
-    filled: &[u8],
-    values: &mut [i64],
-    marks: &mut [u8],
-    sizes: Sizes,
-    base: usize,
-    slots: [Slot; 32],
-    rules: usize,
-) -> Stop
-    requires { ⌜ Parts sizes (now cells) (now filled) × Room base (length (now filled)) (now values) (now marks) × (rules ≤ 32) × (length slots ≡ 32) × AllReady sizes (cellsOf (now cells) (now filled)) (take base (now values)) (take base (now marks)) (take rules slots) ⌝ }
-    ensures { λ r. ⌜ LocalAnswer sizes (cellsOf (now (cells .entry)) (now (filled .entry))) base (rulesIn rules slots) (now (values .entry)) (now (marks .entry)) (now (values .exit)) (now (marks .exit)) r ⌝ }
-{
-    let mut stop = Stop::Nowhere;
-    'records: for u in 0..sizes.records {
-        for k in 0..rules {
-            stop = apply_rule(cells, filled, values, marks, sizes, base, u, slots[k]);
-            if let Stop::At(_, _) = stop {
-                break 'records;
-            }
-        }
-    }
-    stop
 }

@@ -1,5 +1,5 @@
 -- `run_program::run_program` meets its contract. The loop's invariant: where the run of the definition stands. The inner loop's:
--- the rules passed are located.
+-- the rules passed are located. Then, for each record, each rule in order.
 -- Assumes nothing.
 use Prim.Native.Nat.{ℕ, _+_, _*_, _-_, _≤_, _<_}
 use mathlib.Core.Path.{_≡_, refl, sym, ap, _∙_}
@@ -19,7 +19,7 @@ use Rattle.plan.specs.Held.{facts}
 use Rattle.reader_state.specs.declared.state.Frame.{Frame}
 use Rattle.reader.specs.declared.Program as R
 use Rattle.reader.specs.Kept.{stepsIn, programOf}
-use Rattle.step_plan.specs.Stored.{rulesIn}
+use Rattle.step_plan.specs.Stored.{ruleOf, rulesIn}
 use Rattle.evaluate.specs.Places.{Kept}
 use Rattle.locate.specs.Locate.{LocatedTo}
 use Rattle.step.specs.Work.{Holds, Same}
@@ -27,7 +27,9 @@ use Rattle.step.specs.Stepped.{GoesThrough}
 use Rattle.step.specs.Ready.{LocalDone, LocalAnswer}
 use Rattle.step.specs.Delivered.{Delivered}
 use Rattle.step.specs.declared.local.Stop.{Stop}
-use Rattle.step.proofs.Working.{same-then, room-same, small-held}
+use Rattle.step.specs.declared.local.Stop.the-variants.{Nowhere}
+use Rattle.step.proofs.Working.{same-refl, same-then, room-same, small-held}
+use Rattle.step.proofs.Locals.{RecordDone, ready-at, record-start, record-more, record-stops, records-start, records-more, records-all, records-stop}
 use Rattle.step.proofs.Remotes.{silent-step}
 use Rattle.machine.specs.Run.{direct}
 use Rattle.pass.specs.Column.{HasPass, Entered}
@@ -44,6 +46,22 @@ Inv-loop2 out values marks sizes machine budget slots frames steps at base rules
 abbrev μ-loop2 : tie.MeasureT-loop2
 μ-loop2 out values marks sizes machine budget slots frames steps at base rules₀ step first finished counts frame setting used k₀ rules k = used - k
 
+-- the rules passed are done at record u
+abbrev Inv-loop3 : tie.InvT-loop3
+Inv-loop3 out values₀ marks₀ sizes machine budget slots frames steps at base rules step first finished counts frame setting used gathered stop₀ u k₀ u-end values marks stop k =
+    RecordDone sizes (cellsOfFile sizes out) base rules u k values₀ marks₀ values marks × (stop ≡ Nowhere) × (k ≤ used)
+
+abbrev μ-loop3 : tie.MeasureT-loop3
+μ-loop3 out values₀ marks₀ sizes machine budget slots frames steps at base rules step first finished counts frame setting used gathered stop₀ u k₀ u-end values marks stop k = used - k
+
+-- all rules are done at the records passed
+abbrev Inv-records : tie.InvT-records
+Inv-records out values₀ marks₀ sizes machine budget slots frames steps at base rules step first finished counts frame setting used gathered stop₀ u₀ u-end values marks stop u =
+    Same base values₀ marks₀ values marks × LocalDone sizes (cellsOfFile sizes out) base (rulesIn used rules) u values₀ marks₀ values marks × (stop ≡ Nowhere) × (u ≤ sizes .records)
+
+abbrev μ-records : tie.MeasureT-records
+μ-records out values₀ marks₀ sizes machine budget slots frames steps at base rules step first finished counts frame setting used gathered stop₀ u₀ u-end values marks stop u = sizes .records - u
+
 abbrev Inv-loop : tie.InvT-loop
 Inv-loop out₀ values₀ marks₀ sizes machine budget slots frames steps at base rules₀ step₀ first₀ finished₀ counts₀ out values marks rules step first finished counts =
     Stands machine sizes (stepsIn slots (take steps frames)) at budget out₀ step first finished counts out values marks × (length rules ≡ 32) × (length values ≡ length values₀) × (length marks ≡ length marks₀)
@@ -52,7 +70,7 @@ abbrev μ-loop : tie.MeasureT-loop
 μ-loop out₀ values₀ marks₀ sizes machine budget slots frames steps at base rules₀ step₀ first₀ finished₀ counts₀ out values marks rules step first finished counts = budget - finished
 
 -- the entry: at most 32 steps and 64 lines, and room for what stands behind the lines
-module _ (c : tie.Start Inv-loop2 μ-loop2 Inv-loop μ-loop) where
+module _ (c : tie.Start Inv-loop2 μ-loop2 Inv-loop3 μ-loop3 Inv-records μ-records Inv-loop μ-loop) where
   abbrev program : R.Program
   program = c .args .program
 
@@ -71,19 +89,19 @@ module _ (c : tie.Start Inv-loop2 μ-loop2 Inv-loop μ-loop) where
     marks-room = omega (arith, scratch-is (c .args .sizes) (program .lines), c .pre .1 .marks-room);
   }
 
-mul-at : tie.Need-mul-at Inv-loop2 μ-loop2 Inv-loop μ-loop
+mul-at : tie.Need-mul-at Inv-loop2 μ-loop2 Inv-loop3 μ-loop3 Inv-records μ-records Inv-loop μ-loop
 mul-at c = record { fits = omega (arith, at≤ (c .before .before .before .before .before .before)) }
 
-add-base : tie.Need-add-base Inv-loop2 μ-loop2 Inv-loop μ-loop
+add-base : tie.Need-add-base Inv-loop2 μ-loop2 Inv-loop3 μ-loop3 Inv-records μ-records Inv-loop μ-loop
 add-base c = record { fits = omega (arith, at≤ (c .before .before .before .before .before .before .before), c .before .before .before .before .before .before .before .pre .0 .valid .limits .records≤) }
 
-values-part-requires : tie.Need-values-part-requires Inv-loop2 μ-loop2 Inv-loop μ-loop
+values-part-requires : tie.Need-values-part-requires Inv-loop2 μ-loop2 Inv-loop3 μ-loop3 Inv-records μ-records Inv-loop μ-loop
 values-part-requires c κs = (c .before .before .before .before .before .before .before .before .pre .0 .valid .limits, c .before .before .before .before .before .before .before .before .pre .0 .whole)
 
-marks-part-requires : tie.Need-marks-part-requires Inv-loop2 μ-loop2 Inv-loop μ-loop
+marks-part-requires : tie.Need-marks-part-requires Inv-loop2 μ-loop2 Inv-loop3 μ-loop3 Inv-records μ-records Inv-loop μ-loop
 marks-part-requires c κs = (c .before .before .before .before .before .before .before .before .before .pre .0 .valid .limits, c .before .before .before .before .before .before .before .before .before .pre .0 .whole)
 
-begin-requires : tie.Need-begin-requires Inv-loop2 μ-loop2 Inv-loop μ-loop
+begin-requires : tie.Need-begin-requires Inv-loop2 μ-loop2 Inv-loop3 μ-loop3 Inv-records μ-records Inv-loop μ-loop
 begin-requires c κs =
     let parts = file-parts (now (c .before .before .before .before .before .before .before .before .before .before .before .before .args .out)) (c .before .before .before .before .before .before .before .before .before .before .before .before .args .sizes) (c .before .before .before .before .before .before .before .before .before .before .before .before .pre .0 .valid .limits) (c .before .before .before .before .before .before .before .before .before .before .before .before .pre .0 .whole) in
     let room = behind (c .before .before .before .before .before .before .before .before .before .before .before .before) in
@@ -96,15 +114,15 @@ begin-requires c κs =
       },
     )
 
-array-copy-out-rules : tie.Need-array-copy-out-rules Inv-loop2 μ-loop2 Inv-loop μ-loop
+array-copy-out-rules : tie.Need-array-copy-out-rules Inv-loop2 μ-loop2 Inv-loop3 μ-loop3 Inv-records μ-records Inv-loop μ-loop
 array-copy-out-rules c = omega arith
 
 -- the working cells hold those of the register
-begun : (c : tie.After-begin Inv-loop2 μ-loop2 Inv-loop μ-loop) → Holds (at (c .before .before .before .before .before .before .before .before .before .before .before .before .before) + c .before .before .before .before .before .before .before .before .before .before .before .before .before .args .sizes .records) (cellsOfFile (c .before .before .before .before .before .before .before .before .before .before .before .before .before .args .sizes) (now (c .before .before .before .before .before .before .before .before .before .before .before .before .before .args .out))) (c .begin .last .1 .1 .0) (c .begin .last .1 .1 .1 .0)
+begun : (c : tie.After-begin Inv-loop2 μ-loop2 Inv-loop3 μ-loop3 Inv-records μ-records Inv-loop μ-loop) → Holds (at (c .before .before .before .before .before .before .before .before .before .before .before .before .before) + c .before .before .before .before .before .before .before .before .before .before .before .before .before .args .sizes .records) (cellsOfFile (c .before .before .before .before .before .before .before .before .before .before .before .before .before .args .sizes) (now (c .before .before .before .before .before .before .before .before .before .before .before .before .before .args .out))) (c .begin .last .1 .1 .0) (c .begin .last .1 .1 .1 .0)
 unfolding cellsOfFile
 begun c = rw (c .before .before .before .before .values-part .ensures, c .before .before .before .marks-part .ensures) at (c .begin .ensures .0)
 
-loop-holds : tie.Need-loop-holds Inv-loop2 μ-loop2 Inv-loop μ-loop
+loop-holds : tie.Need-loop-holds Inv-loop2 μ-loop2 Inv-loop3 μ-loop3 Inv-records μ-records Inv-loop μ-loop
 unfolding programOf
 loop-holds c =
     let room = behind (c .before .before .before .before .before .before .before .before .before .before .before .before .before .before .before .before .before) in
@@ -116,30 +134,30 @@ loop-holds c =
       refl,
     )
 
-ended-requires : tie.Need-ended-requires Inv-loop2 μ-loop2 Inv-loop μ-loop
+ended-requires : tie.Need-ended-requires Inv-loop2 μ-loop2 Inv-loop3 μ-loop3 Inv-records μ-records Inv-loop μ-loop
 ended-requires c κs = tt
 
-same-length : tie.Need-same-length Inv-loop2 μ-loop2 Inv-loop μ-loop
+same-length : tie.Need-same-length Inv-loop2 μ-loop2 Inv-loop3 μ-loop3 Inv-records μ-records Inv-loop μ-loop
 same-length c = c .before .before .before .loop .inv .0 .register .whole ∙ sym (c .before .before .before .before .before .before .before .before .before .before .before .before .before .before .before .before .before .before .before .before .before .pre .0 .whole)
 
-same-length-2 : tie.Need-same-length-2 Inv-loop2 μ-loop2 Inv-loop μ-loop
+same-length-2 : tie.Need-same-length-2 Inv-loop2 μ-loop2 Inv-loop3 μ-loop3 Inv-records μ-records Inv-loop μ-loop
 same-length-2 c = c .before .before .before .loop .inv .2 ∙ c .before .before .before .before .before .before .before .before .begin .ensures .1 .values-length
 
-same-length-3 : tie.Need-same-length-3 Inv-loop2 μ-loop2 Inv-loop μ-loop
+same-length-3 : tie.Need-same-length-3 Inv-loop2 μ-loop2 Inv-loop3 μ-loop3 Inv-records μ-records Inv-loop μ-loop
 same-length-3 c = c .before .before .before .loop .inv .3 ∙ c .before .before .before .before .before .before .before .before .begin .ensures .1 .marks-length
 
-returns : tie.Need-returns Inv-loop2 μ-loop2 Inv-loop μ-loop
+returns : tie.Need-returns Inv-loop2 μ-loop2 Inv-loop3 μ-loop3 Inv-records μ-records Inv-loop μ-loop
 unfolding programOf
 returns c = rw (c .ended .ensures) (stands-spent (c .before .before .before .loop .inv .0) (omega (arith, c .before .before .loop-test .taken, c .before .before .before .before .before .before .before .before .before .before .before .before .before .before .before .before .before .before .before .before .before .pre .2 .steps-are)) (c .before .if1 .taken))
 
-mul-frame : tie.Need-mul-frame Inv-loop2 μ-loop2 Inv-loop μ-loop
+mul-frame : tie.Need-mul-frame Inv-loop2 μ-loop2 Inv-loop3 μ-loop3 Inv-records μ-records Inv-loop μ-loop
 mul-frame c = record { fits = omega (arith, few-steps (c .before .before .before .before .before .before .before .before .before .before .before .before .before .before .before .before .before .before .before .before), c .before .loop-test .taken) }
 
-array-copy-out-frame : tie.Need-array-copy-out-frame Inv-loop2 μ-loop2 Inv-loop μ-loop
+array-copy-out-frame : tie.Need-array-copy-out-frame Inv-loop2 μ-loop2 Inv-loop3 μ-loop3 Inv-records μ-records Inv-loop μ-loop
 array-copy-out-frame c = omega (arith, few-steps (c .before .before .before .before .before .before .before .before .before .before .before .before .before .before .before .before .before .before .before .before), c .before .loop-test .taken)
 
 -- a turn of the loop
-module _ (c : tie.Else1 Inv-loop2 μ-loop2 Inv-loop μ-loop) where
+module _ (c : tie.Else1 Inv-loop2 μ-loop2 Inv-loop3 μ-loop3 Inv-records μ-records Inv-loop μ-loop) where
   turn : Turn (c .before .before .before .before .before .before .before .before .before .before .before .before .before .before .before .before .before .before .before .before .args .machine) (c .before .before .before .before .before .before .before .before .before .before .before .before .before .before .before .before .before .before .before .before .args .sizes) (c .before .before .before .before .before .before .before .before .before .before .before .before .before .before .before .before .before .before .before .before .args .program) (c .before .before .before .before .before .before .before .before .before .before .before .before .before .before .before .before .before .before .before .before .args .budget) (now (c .before .before .before .before .before .before .before .before .before .before .before .before .before .before .before .before .before .before .before .before .args .out)) (c .before .before .loop .step) (c .before .before .loop .first) (c .before .before .loop .finished) (c .before .before .loop .counts) (c .before .before .loop .out) (c .before .before .loop .values) (c .before .before .loop .marks)
   unfolding programOf
   turn = record { complete = c .before .before .before .before .before .before .before .before .before .before .before .before .before .before .before .before .before .before .before .before .pre .2; passes = c .before .before .before .before .before .before .before .before .before .before .before .before .before .before .before .before .before .before .before .before .pre .3; few-lines = c .before .before .before .before .before .before .before .before .before .before .before .before .before .before .before .before .before .before .before .before .pre .1 .lines≤; stands = c .before .before .loop .inv .0; more = c .before .loop-test .taken }
@@ -150,37 +168,37 @@ module _ (c : tie.Else1 Inv-loop2 μ-loop2 Inv-loop μ-loop) where
   few-rules : getD (c .before .before .before .before .before .before .before .before .before .before .before .before .before .before .before .before .before .before .before .before .args .program .frames) (c .before .before .loop .step) noFrame .rules ≤ 32
   few-rules = at-step turn .frame .few
 
-loop2-holds : tie.Need-loop2-holds Inv-loop2 μ-loop2 Inv-loop μ-loop
+loop2-holds : tie.Need-loop2-holds Inv-loop2 μ-loop2 Inv-loop3 μ-loop3 Inv-records μ-records Inv-loop μ-loop
 loop2-holds c = (refl, c .before .before .before .loop .inv .1, omega arith)
 
-mul-slot : tie.Need-mul-slot Inv-loop2 μ-loop2 Inv-loop μ-loop
+mul-slot : tie.Need-mul-slot Inv-loop2 μ-loop2 Inv-loop3 μ-loop3 Inv-records μ-records Inv-loop μ-loop
 mul-slot c = record { fits = omega (arith, few-steps (c .before .before .before .before .before .before .before .before .before .before .before .before .before .before .before .before .before .before .before .before .before .before .before), c .before .before .before .before .loop-test .taken) }
 
-add-slot : tie.Need-add-slot Inv-loop2 μ-loop2 Inv-loop μ-loop
+add-slot : tie.Need-add-slot Inv-loop2 μ-loop2 Inv-loop3 μ-loop3 Inv-records μ-records Inv-loop μ-loop
 add-slot c = record { fits = omega (arith, few-steps (c .before .before .before .before .before .before .before .before .before .before .before .before .before .before .before .before .before .before .before .before .before .before .before), c .before .before .before .before .loop-test .taken, few-rules (c .before .before .before), c .loop2-test .taken) }
 
-mul-slot-2 : tie.Need-mul-slot-2 Inv-loop2 μ-loop2 Inv-loop μ-loop
+mul-slot-2 : tie.Need-mul-slot-2 Inv-loop2 μ-loop2 Inv-loop3 μ-loop3 Inv-records μ-records Inv-loop μ-loop
 mul-slot-2 c = record { fits = omega (arith, few-steps (c .before .before .before .before .before .before .before .before .before .before .before .before .before .before .before .before .before .before .before .before .before .before .before), c .before .before .before .before .loop-test .taken, few-rules (c .before .before .before), c .loop2-test .taken) }
 
-array-copy-out-slot : tie.Need-array-copy-out-slot Inv-loop2 μ-loop2 Inv-loop μ-loop
+array-copy-out-slot : tie.Need-array-copy-out-slot Inv-loop2 μ-loop2 Inv-loop3 μ-loop3 Inv-records μ-records Inv-loop μ-loop
 array-copy-out-slot c = omega (arith, few-steps (c .before .before .before .before .before .before .before .before .before .before .before .before .before .before .before .before .before .before .before .before .before .before .before), c .before .before .before .before .loop-test .taken, few-rules (c .before .before .before), c .loop2-test .taken)
 
-locate-requires : tie.Need-locate-requires Inv-loop2 μ-loop2 Inv-loop μ-loop
+locate-requires : tie.Need-locate-requires Inv-loop2 μ-loop2 Inv-loop3 μ-loop3 Inv-records μ-records Inv-loop μ-loop
 locate-requires c κs = (at-step (turn (c .before .before .before .before .before .before)) .frame .holds .keyed, slot-short (turn (c .before .before .before .before .before .before)) (c .before .before .before .before .loop2 .k) _ (c .before .before .before .loop2-test .taken))
 
-mul-rules : tie.Need-mul-rules Inv-loop2 μ-loop2 Inv-loop μ-loop
+mul-rules : tie.Need-mul-rules Inv-loop2 μ-loop2 Inv-loop3 μ-loop3 Inv-records μ-records Inv-loop μ-loop
 mul-rules c = record { fits = omega (arith, few-rules (c .before .before .before .before .before .before .before), c .before .before .before .before .loop2-test .taken) }
 
-array-set-from-rules : tie.Need-array-set-from-rules Inv-loop2 μ-loop2 Inv-loop μ-loop
+array-set-from-rules : tie.Need-array-set-from-rules Inv-loop2 μ-loop2 Inv-loop3 μ-loop3 Inv-records μ-records Inv-loop μ-loop
 array-set-from-rules c = omega (arith, few-rules (c .before .before .before .before .before .before .before), c .before .before .before .before .loop2-test .taken)
 
-add-k : tie.Need-add-k Inv-loop2 μ-loop2 Inv-loop μ-loop
+add-k : tie.Need-add-k Inv-loop2 μ-loop2 Inv-loop3 μ-loop3 Inv-records μ-records Inv-loop μ-loop
 add-k c = record { fits = omega (arith, few-rules (c .before .before .before .before .before .before .before), c .before .before .before .before .loop2-test .taken) }
 
-loop2-less : tie.Need-loop2-less Inv-loop2 μ-loop2 Inv-loop μ-loop
+loop2-less : tie.Need-loop2-less Inv-loop2 μ-loop2 Inv-loop3 μ-loop3 Inv-records μ-records Inv-loop μ-loop
 loop2-less c = omega (arith, c .before .before .before .before .loop2-test .taken)
 
-loop2-again : tie.Need-loop2-again Inv-loop2 μ-loop2 Inv-loop μ-loop
+loop2-again : tie.Need-loop2-again Inv-loop2 μ-loop2 Inv-loop3 μ-loop3 Inv-records μ-records Inv-loop μ-loop
 loop2-again c =
     let i = (c .before .before .before .before .before) .loop2 in (
       slot-located (turn (c .before .before .before .before .before .before .before)) (i .rules) (i .k) _ (c .before .before .before .before .loop2-test .taken) (i .inv .1) (c .locate .ensures) (i .inv .0),
@@ -188,16 +206,16 @@ loop2-again c =
       omega (arith, c .before .before .before .before .loop2-test .taken),
     )
 
-enter-requires : tie.Need-enter-requires Inv-loop2 μ-loop2 Inv-loop μ-loop
+enter-requires : tie.Need-enter-requires Inv-loop2 μ-loop2 Inv-loop3 μ-loop3 Inv-records μ-records Inv-loop μ-loop
 enter-requires c κs =
     let room = c .before .before .before .before .before .before .before .before .loop .inv .0 .room in
     (c .before .before .before .before .before .before .before .before .before .before .before .before .before .before .before .before .before .before .before .before .before .before .before .before .before .before .pre .0 .valid .limits, c .before .before .before .before .before .before .before .before .loop .inv .0 .register .whole, setting-passes (turn (c .before .before .before .before .before .before)), record { values-room = omega (arith, room .values-room); marks-room = omega (arith, room .marks-room) })
 
 -- the pass is entered
-entered : (c : tie.After-enter Inv-loop2 μ-loop2 Inv-loop μ-loop) → Entered (c .before .before .before .before .before .before .before .before .before .before .before .before .before .before .before .before .before .before .before .before .before .before .before .before .before .before .before .args .sizes) (getD (c .before .before .before .before .before .before .before .before .before .before .before .before .before .before .before .before .before .before .before .before .before .before .before .before .before .before .before .args .program .frames) (c .before .before .before .before .before .before .before .before .before .loop .step) noFrame .setting) (cellsOfFile (c .before .before .before .before .before .before .before .before .before .before .before .before .before .before .before .before .before .before .before .before .before .before .before .before .before .before .before .args .sizes) (c .before .before .before .before .before .before .before .before .before .loop .out)) (at (c .before .before .before .before .before .before .before .before .before .before .before .before .before .before .before .before .before .before .before .before .before .before .before .before .before .before .before)) (c .before .before .before .before .before .before .before .before .before .loop .values) (c .before .before .before .before .before .before .before .before .before .loop .marks) (c .enter .last .1 .0) (c .enter .last .1 .1 .0)
+entered : (c : tie.After-enter Inv-loop2 μ-loop2 Inv-loop3 μ-loop3 Inv-records μ-records Inv-loop μ-loop) → Entered (c .before .before .before .before .before .before .before .before .before .before .before .before .before .before .before .before .before .before .before .before .before .before .before .before .before .before .before .args .sizes) (getD (c .before .before .before .before .before .before .before .before .before .before .before .before .before .before .before .before .before .before .before .before .before .before .before .before .before .before .before .args .program .frames) (c .before .before .before .before .before .before .before .before .before .loop .step) noFrame .setting) (cellsOfFile (c .before .before .before .before .before .before .before .before .before .before .before .before .before .before .before .before .before .before .before .before .before .before .before .before .before .before .before .args .sizes) (c .before .before .before .before .before .before .before .before .before .loop .out)) (at (c .before .before .before .before .before .before .before .before .before .before .before .before .before .before .before .before .before .before .before .before .before .before .before .before .before .before .before)) (c .before .before .before .before .before .before .before .before .before .loop .values) (c .before .before .before .before .before .before .before .before .before .loop .marks) (c .enter .last .1 .0) (c .enter .last .1 .1 .0)
 entered c = c .enter .ensures .1
 
-gather-requires : tie.Need-gather-requires Inv-loop2 μ-loop2 Inv-loop μ-loop
+gather-requires : tie.Need-gather-requires Inv-loop2 μ-loop2 Inv-loop3 μ-loop3 Inv-records μ-records Inv-loop μ-loop
 gather-requires c κs =
     let t = turn (c .before .before .before .before .before .before .before .before .before .before .before .before .before .before .before .before .before .before) in
     let kept = entered (c .before .before .before .before .before .before .before .before .before .before .before) .behind in
@@ -205,193 +223,250 @@ gather-requires c κs =
     (t .stands .register, planned t, omega (arith, lines-room t, room .values-room, kept .values-length), omega (arith, lines-room t, room .marks-room, kept .marks-length))
 
 -- the step can be run
-prepared : (c : tie.After-gather Inv-loop2 μ-loop2 Inv-loop μ-loop) → Prepared (turn (c .before .before .before .before .before .before .before .before .before .before .before .before .before .before .before .before .before .before .before)) (c .before .before .before .before .before .before .before .before .before .before .before .before .before .before .before .before .before .loop2 .rules) (c .before .before .before .before .before .before .before .before .before .before .before .before .enter .last .1 .0) (c .before .before .before .before .before .before .before .before .before .before .before .before .enter .last .1 .1 .0) (c .gather .last .1 .0) (c .gather .last .1 .1 .0) (c .gather .result)
+prepared : (c : tie.After-gather Inv-loop2 μ-loop2 Inv-loop3 μ-loop3 Inv-records μ-records Inv-loop μ-loop) → Prepared (turn (c .before .before .before .before .before .before .before .before .before .before .before .before .before .before .before .before .before .before .before)) (c .before .before .before .before .before .before .before .before .before .before .before .before .before .before .before .before .before .loop2 .rules) (c .before .before .before .before .before .before .before .before .before .before .before .before .enter .last .1 .0) (c .before .before .before .before .before .before .before .before .before .before .before .before .enter .last .1 .1 .0) (c .gather .last .1 .0) (c .gather .last .1 .1 .0) (c .gather .result)
 prepared c =
     let all : c .before .before .before .before .before .before .before .before .before .before .before .before .before .before .before .before .before .loop2 .k ≡ getD (c .before .before .before .before .before .before .before .before .before .before .before .before .before .before .before .before .before .before .before .before .before .before .before .before .before .before .before .before .before .before .before .before .before .before .before .before .before .before .before .args .program .frames) (c .before .before .before .before .before .before .before .before .before .before .before .before .before .before .before .before .before .before .before .before .before .loop .step) noFrame .rules = omega (arith, c .before .before .before .before .before .before .before .before .before .before .before .before .before .before .before .before .loop2-test .left, c .before .before .before .before .before .before .before .before .before .before .before .before .before .before .before .before .before .loop2 .inv .2) in
     record { is-located = rw all at (c .before .before .before .before .before .before .before .before .before .before .before .before .before .before .before .before .before .loop2 .inv .0); entered = entered (c .before .before .before .before .before .before .before .before .before .before .before .before); gathered = c .gather .ensures }
 
 -- the register's parts, before the local rules
-here-parts : (c : tie.Else1 Inv-loop2 μ-loop2 Inv-loop μ-loop) → Parts (c .before .before .before .before .before .before .before .before .before .before .before .before .before .before .before .before .before .before .before .before .args .sizes) (valuesPart (c .before .before .before .before .before .before .before .before .before .before .before .before .before .before .before .before .before .before .before .before .args .sizes) (c .before .before .loop .out)) (marksPart (c .before .before .before .before .before .before .before .before .before .before .before .before .before .before .before .before .before .before .before .before .args .sizes) (c .before .before .loop .out))
+here-parts : (c : tie.Else1 Inv-loop2 μ-loop2 Inv-loop3 μ-loop3 Inv-records μ-records Inv-loop μ-loop) → Parts (c .before .before .before .before .before .before .before .before .before .before .before .before .before .before .before .before .before .before .before .before .args .sizes) (valuesPart (c .before .before .before .before .before .before .before .before .before .before .before .before .before .before .before .before .before .before .before .before .args .sizes) (c .before .before .loop .out)) (marksPart (c .before .before .before .before .before .before .before .before .before .before .before .before .before .before .before .before .before .before .before .before .args .sizes) (c .before .before .loop .out))
 here-parts c = parts (turn c)
 
-values-part-requires-2 : tie.Need-values-part-requires-2 Inv-loop2 μ-loop2 Inv-loop μ-loop
-values-part-requires-2 c κs = (c .before .before .before .before .before .before .before .before .before .before .before .before .before .before .before .before .before .before .before .before .before .before .before .before .before .before .before .before .before .before .before .before .before .before .before .before .before .before .before .before .before .before .before .pre .0 .valid .limits, c .before .before .before .before .before .before .before .before .before .before .before .before .before .before .before .before .before .before .before .before .before .before .before .before .before .loop .inv .0 .register .whole)
+records-holds : tie.Need-records-holds Inv-loop2 μ-loop2 Inv-loop3 μ-loop3 Inv-records μ-records Inv-loop μ-loop
+records-holds c = (same-refl, records-start, refl, omega arith)
 
-marks-part-requires-2 : tie.Need-marks-part-requires-2 Inv-loop2 μ-loop2 Inv-loop μ-loop
-marks-part-requires-2 c κs = (c .before .before .before .before .before .before .before .before .before .before .before .before .before .before .before .before .before .before .before .before .before .before .before .before .before .before .before .before .before .before .before .before .before .before .before .before .before .before .before .before .before .before .before .before .pre .0 .valid .limits, c .before .before .before .before .before .before .before .before .before .before .before .before .before .before .before .before .before .before .before .before .before .before .before .before .before .before .loop .inv .0 .register .whole)
+loop3-holds : tie.Need-loop3-holds Inv-loop2 μ-loop2 Inv-loop3 μ-loop3 Inv-records μ-records Inv-loop μ-loop
+loop3-holds c = (record-start, c .before .records .inv .2, omega arith)
 
-apply-requires : tie.Need-apply-requires Inv-loop2 μ-loop2 Inv-loop μ-loop
+values-part-requires-2 : tie.Need-values-part-requires-2 Inv-loop2 μ-loop2 Inv-loop3 μ-loop3 Inv-records μ-records Inv-loop μ-loop
+values-part-requires-2 c κs = (c .before .before .before .before .before .before .before .before .before .before .before .before .before .before .before .before .before .before .before .before .before .before .before .before .before .before .before .before .before .before .before .before .before .before .before .before .before .before .before .before .before .before .before .before .before .before .before .pre .0 .valid .limits, c .before .before .before .before .before .before .before .before .before .before .before .before .before .before .before .before .before .before .before .before .before .before .before .before .before .before .before .before .before .loop .inv .0 .register .whole)
+
+marks-part-requires-2 : tie.Need-marks-part-requires-2 Inv-loop2 μ-loop2 Inv-loop3 μ-loop3 Inv-records μ-records Inv-loop μ-loop
+marks-part-requires-2 c κs = (c .before .before .before .before .before .before .before .before .before .before .before .before .before .before .before .before .before .before .before .before .before .before .before .before .before .before .before .before .before .before .before .before .before .before .before .before .before .before .before .before .before .before .before .before .before .before .before .before .pre .0 .valid .limits, c .before .before .before .before .before .before .before .before .before .before .before .before .before .before .before .before .before .before .before .before .before .before .before .before .before .before .before .before .before .before .loop .inv .0 .register .whole)
+
+mul-apply-rule : tie.Need-mul-apply-rule Inv-loop2 μ-loop2 Inv-loop3 μ-loop3 Inv-records μ-records Inv-loop μ-loop
+mul-apply-rule c = record { fits = omega (arith, few-rules (c .before .before .before .before .before .before .before .before .before .before .before .before .before .before .before .before .before .before .before .before .before .before .before .before .before .before .before .before .before .before .before), c .before .before .before .before .before .loop3-test .taken) }
+
+array-copy-out-apply-rule : tie.Need-array-copy-out-apply-rule Inv-loop2 μ-loop2 Inv-loop3 μ-loop3 Inv-records μ-records Inv-loop μ-loop
+array-copy-out-apply-rule c = omega (arith, few-rules (c .before .before .before .before .before .before .before .before .before .before .before .before .before .before .before .before .before .before .before .before .before .before .before .before .before .before .before .before .before .before .before), c .before .before .before .before .before .loop3-test .taken)
+
+apply-rule-requires : tie.Need-apply-rule-requires Inv-loop2 μ-loop2 Inv-loop3 μ-loop3 Inv-records μ-records Inv-loop μ-loop
 unfolding cellsOfFile
-apply-requires c κs =
-    let p = prepared (c .before .before .before .before .before .before .before .before) in
-    let t = turn (c .before .before .before .before .before .before .before .before .before .before .before .before .before .before .before .before .before .before .before .before .before .before .before .before .before .before .before) in
-    let q = here-parts (c .before .before .before .before .before .before .before .before .before .before .before .before .before .before .before .before .before .before .before .before .before .before .before .before .before .before .before) in
-    rw (c .before .before .before .values-part2 .ensures, c .before .before .marks-part2 .ensures) (q, rw (q .marks-length) (step-room t p), few-rules (c .before .before .before .before .before .before .before .before .before .before .before .before .before .before .before .before .before .before .before .before .before .before .before .before .before .before .before), c .before .before .before .before .before .before .before .before .before .before .before .before .before .before .before .before .before .before .before .before .before .before .before .before .before .loop2 .inv .1, step-ready t p)
+apply-rule-requires c κs =
+    let p = prepared (c .before .before .before .before .before .before .before .before .before .before .before .before .before) in
+    let t = turn (c .before .before .before .before .before .before .before .before .before .before .before .before .before .before .before .before .before .before .before .before .before .before .before .before .before .before .before .before .before .before .before .before) in
+    let q = here-parts (c .before .before .before .before .before .before .before .before .before .before .before .before .before .before .before .before .before .before .before .before .before .before .before .before .before .before .before .before .before .before .before .before) in
+    let same = same-then (c .before .before .before .before .before .before .before .before .before .records .inv .0) (c .before .before .before .before .before .before .before .loop3 .inv .0 .same) in
+    let ready = ready-at (c .before .before .before .before .before .before .before .before .before .before .before .before .before .before .before .before .before .before .before .before .before .before .before .before .before .before .before .before .before .before .loop2 .rules) _ _ (omega (arith, few-rules (c .before .before .before .before .before .before .before .before .before .before .before .before .before .before .before .before .before .before .before .before .before .before .before .before .before .before .before .before .before .before .before .before), c .before .before .before .before .before .before .before .before .before .before .before .before .before .before .before .before .before .before .before .before .before .before .before .before .before .before .before .before .before .before .loop2 .inv .1, c .before .before .before .before .before .before .loop3-test .taken)) (c .before .before .before .before .before .before .loop3-test .taken) (step-ready t p) in
+    rw (c .before .before .before .before .values-part2 .ensures, c .before .before .before .marks-part2 .ensures)
+    (q, c .before .before .before .before .before .before .before .before .records-test .taken, rw (q .marks-length) (room-same same (step-room t p)), rw (same .values-same, same .marks-same) ready)
 
--- what the local rules did
-applied : (c : tie.After-apply Inv-loop2 μ-loop2 Inv-loop μ-loop) {r : Stop} → c .apply .result ≡ r → LocalAnswer (c .before .before .before .before .before .before .before .before .before .before .before .before .before .before .before .before .before .before .before .before .before .before .before .before .before .before .before .before .before .before .before .before .before .before .before .before .before .before .before .before .before .before .before .before .before .before .before .before .args .sizes) (cellsOfFile (c .before .before .before .before .before .before .before .before .before .before .before .before .before .before .before .before .before .before .before .before .before .before .before .before .before .before .before .before .before .before .before .before .before .before .before .before .before .before .before .before .before .before .before .before .before .before .before .before .args .sizes) (c .before .before .before .before .before .before .before .before .before .before .before .before .before .before .before .before .before .before .before .before .before .before .before .before .before .before .before .before .before .before .loop .out)) (at (c .before .before .before .before .before .before .before .before .before .before .before .before .before .before .before .before .before .before .before .before .before .before .before .before .before .before .before .before .before .before .before .before .before .before .before .before .before .before .before .before .before .before .before .before .before .before .before .before) + c .before .before .before .before .before .before .before .before .before .before .before .before .before .before .before .before .before .before .before .before .before .before .before .before .before .before .before .before .before .before .before .before .before .before .before .before .before .before .before .before .before .before .before .before .before .before .before .before .args .sizes .records) (rulesIn (getD (c .before .before .before .before .before .before .before .before .before .before .before .before .before .before .before .before .before .before .before .before .before .before .before .before .before .before .before .before .before .before .before .before .before .before .before .before .before .before .before .before .before .before .before .before .before .before .before .before .args .program .frames) (c .before .before .before .before .before .before .before .before .before .before .before .before .before .before .before .before .before .before .before .before .before .before .before .before .before .before .before .before .before .before .loop .step) noFrame .rules) (c .before .before .before .before .before .before .before .before .before .before .before .before .before .before .before .before .before .before .before .before .before .before .before .before .before .before .loop2 .rules)) (c .before .before .before .before .before .before .before .before .before .gather .last .1 .0) (c .before .before .before .before .before .before .before .before .before .gather .last .1 .1 .0) (c .apply .last .1 .1 .0) (c .apply .last .1 .1 .1 .0) r
-unfolding cellsOfFile
-applied c e = rw (c .before .before .before .before .values-part2 .ensures, c .before .before .before .marks-part2 .ensures, e) at (c .apply .ensures)
-
-enum-known-stop : tie.Need-enum-known-stop Inv-loop2 μ-loop2 Inv-loop μ-loop
-enum-known-stop c = search needs
-
-out-of-range-requires : tie.Need-out-of-range-requires Inv-loop2 μ-loop2 Inv-loop μ-loop
-out-of-range-requires c κs = tt
-
-same-length-4 : tie.Need-same-length-4 Inv-loop2 μ-loop2 Inv-loop μ-loop
-same-length-4 c = c .before .before .before .before .before .before .before .before .before .before .before .before .before .before .before .before .before .before .before .before .before .before .before .before .before .before .before .before .before .before .before .before .before .before .before .before .before .loop .inv .0 .register .whole ∙ sym (c .before .before .before .before .before .before .before .before .before .before .before .before .before .before .before .before .before .before .before .before .before .before .before .before .before .before .before .before .before .before .before .before .before .before .before .before .before .before .before .before .before .before .before .before .before .before .before .before .before .before .before .before .before .before .before .pre .0 .whole)
-
-same-length-5 : tie.Need-same-length-5 Inv-loop2 μ-loop2 Inv-loop μ-loop
-same-length-5 c = applied (c .before .before .before .before .before .before .before) (c .before .before .stop .given .1) .0 .values-length ∙ c .before .before .before .before .before .before .before .before .before .before .before .before .before .before .before .before .gather .kept .1 .0 ∙ c .before .before .before .before .before .before .before .before .before .before .before .before .before .before .before .before .before .before .before .before .before .before .before .before .before .before .before .before .enter .kept .1 .0 ∙ c .before .before .before .before .before .before .before .before .before .before .before .before .before .before .before .before .before .before .before .before .before .before .before .before .before .before .before .before .before .before .before .before .before .before .before .before .before .loop .inv .2 ∙ c .before .before .before .before .before .before .before .before .before .before .before .before .before .before .before .before .before .before .before .before .before .before .before .before .before .before .before .before .before .before .before .before .before .before .before .before .before .before .before .before .before .before .begin .ensures .1 .values-length
-
-same-length-6 : tie.Need-same-length-6 Inv-loop2 μ-loop2 Inv-loop μ-loop
-same-length-6 c = applied (c .before .before .before .before .before .before .before) (c .before .before .stop .given .1) .0 .marks-length ∙ c .before .before .before .before .before .before .before .before .before .before .before .before .before .before .before .before .gather .kept .1 .1 .0 ∙ c .before .before .before .before .before .before .before .before .before .before .before .before .before .before .before .before .before .before .before .before .before .before .before .before .before .before .before .before .enter .kept .1 .1 .0 ∙ c .before .before .before .before .before .before .before .before .before .before .before .before .before .before .before .before .before .before .before .before .before .before .before .before .before .before .before .before .before .before .before .before .before .before .before .before .before .loop .inv .3 ∙ c .before .before .before .before .before .before .before .before .before .before .before .before .before .before .before .before .before .before .before .before .before .before .before .before .before .before .before .before .before .before .before .before .before .before .before .before .before .before .before .before .before .before .begin .ensures .1 .marks-length
-
-returns-2 : tie.Need-returns-2 Inv-loop2 μ-loop2 Inv-loop μ-loop
-unfolding programOf
-returns-2 c =
-    let t = turn (c .before .before .before .before .before .before .before .before .before .before .before .before .before .before .before .before .before .before .before .before .before .before .before .before .before .before .before .before .before .before .before .before .before .before .before) in
-    rw (c .out-of-range .ensures)
-    (stands-offended (t .stands) (inside t) (later (c .before .before .before .before .before .before .before .before .before .before .before .before .before .before .before .before .before .before .before .before .before .before .before .before .before .before .before .before .before .before .before .before .before .before .before)) (local-turn t (prepared (c .before .before .before .before .before .before .before .before .before .before .before .before .before .before .before .before)) (applied (c .before .before .before .before .before .before .before) (c .before .before .stop .given .1) .1)))
-
-enum-told : tie.Need-enum-told Inv-loop2 μ-loop2 Inv-loop μ-loop
+enum-told : tie.Need-enum-told Inv-loop2 μ-loop2 Inv-loop3 μ-loop3 Inv-records μ-records Inv-loop μ-loop
 enum-told c = search needs
 
--- all local sums are in range
-locals : (c : tie.After-enum-told Inv-loop2 μ-loop2 Inv-loop μ-loop) → Same (at (c .before .before .before .before .before .before .before .before .before .before .before .before .before .before .before .before .before .before .before .before .before .before .before .before .before .before .before .before .before .before .before .before .before .before .before .before .before .before .before .before .before .before .before .before .before .before .before .before .before .before .before .before .before) + c .before .before .before .before .before .before .before .before .before .before .before .before .before .before .before .before .before .before .before .before .before .before .before .before .before .before .before .before .before .before .before .before .before .before .before .before .before .before .before .before .before .before .before .before .before .before .before .before .before .before .before .before .before .args .sizes .records) (c .before .before .before .before .before .before .before .before .before .before .before .before .before .before .gather .last .1 .0) (c .before .before .before .before .before .before .before .before .before .before .before .before .before .before .gather .last .1 .1 .0) (c .before .before .before .before .before .apply .last .1 .1 .0) (c .before .before .before .before .before .apply .last .1 .1 .1 .0) × LocalDone (c .before .before .before .before .before .before .before .before .before .before .before .before .before .before .before .before .before .before .before .before .before .before .before .before .before .before .before .before .before .before .before .before .before .before .before .before .before .before .before .before .before .before .before .before .before .before .before .before .before .before .before .before .before .args .sizes) (cellsOfFile (c .before .before .before .before .before .before .before .before .before .before .before .before .before .before .before .before .before .before .before .before .before .before .before .before .before .before .before .before .before .before .before .before .before .before .before .before .before .before .before .before .before .before .before .before .before .before .before .before .before .before .before .before .before .args .sizes) (c .before .before .before .before .before .before .before .before .before .before .before .before .before .before .before .before .before .before .before .before .before .before .before .before .before .before .before .before .before .before .before .before .before .before .before .loop .out)) (at (c .before .before .before .before .before .before .before .before .before .before .before .before .before .before .before .before .before .before .before .before .before .before .before .before .before .before .before .before .before .before .before .before .before .before .before .before .before .before .before .before .before .before .before .before .before .before .before .before .before .before .before .before .before) + c .before .before .before .before .before .before .before .before .before .before .before .before .before .before .before .before .before .before .before .before .before .before .before .before .before .before .before .before .before .before .before .before .before .before .before .before .before .before .before .before .before .before .before .before .before .before .before .before .before .before .before .before .before .args .sizes .records) (rulesIn (getD (c .before .before .before .before .before .before .before .before .before .before .before .before .before .before .before .before .before .before .before .before .before .before .before .before .before .before .before .before .before .before .before .before .before .before .before .before .before .before .before .before .before .before .before .before .before .before .before .before .before .before .before .before .before .args .program .frames) (c .before .before .before .before .before .before .before .before .before .before .before .before .before .before .before .before .before .before .before .before .before .before .before .before .before .before .before .before .before .before .before .before .before .before .before .loop .step) noFrame .rules) (c .before .before .before .before .before .before .before .before .before .before .before .before .before .before .before .before .before .before .before .before .before .before .before .before .before .before .before .before .before .before .before .loop2 .rules)) (c .before .before .before .before .before .before .before .before .before .before .before .before .before .before .before .before .before .before .before .before .before .before .before .before .before .before .before .before .before .before .before .before .before .before .before .before .before .before .before .before .before .before .before .before .before .before .before .before .before .before .before .before .before .args .sizes .records) (c .before .before .before .before .before .before .before .before .before .before .before .before .before .before .gather .last .1 .0) (c .before .before .before .before .before .before .before .before .before .before .before .before .before .before .gather .last .1 .1 .0) (c .before .before .before .before .before .apply .last .1 .1 .0) (c .before .before .before .before .before .apply .last .1 .1 .1 .0)
-locals c = applied (c .before .before .before .before .before) (c .enum-told .given .1)
+enum-told-2 : tie.Need-enum-told-2 Inv-loop2 μ-loop2 Inv-loop3 μ-loop3 Inv-records μ-records Inv-loop μ-loop
+enum-told-2 c = search needs
 
-values-part-requires-3 : tie.Need-values-part-requires-3 Inv-loop2 μ-loop2 Inv-loop μ-loop
-values-part-requires-3 c κs = (c .before .before .before .before .before .before .before .before .before .before .before .before .before .before .before .before .before .before .before .before .before .before .before .before .before .before .before .before .before .before .before .before .before .before .before .before .before .before .before .before .before .before .before .before .before .before .before .before .before .before .before .before .before .before .before .pre .0 .valid .limits, c .before .before .before .before .before .before .before .before .before .before .before .before .before .before .before .before .before .before .before .before .before .before .before .before .before .before .before .before .before .before .before .before .before .before .before .before .before .loop .inv .0 .register .whole)
+add-k-2 : tie.Need-add-k-2 Inv-loop2 μ-loop2 Inv-loop3 μ-loop3 Inv-records μ-records Inv-loop μ-loop
+add-k-2 c = record { fits = omega (arith, few-rules (c .before .before .before .before .before .before .before .before .before .before .before .before .before .before .before .before .before .before .before .before .before .before .before .before .before .before .before .before .before .before .before .before .before .before .before .before .before .before), c .before .before .before .before .before .before .before .before .before .before .before .before .loop3-test .taken) }
 
-marks-part-requires-3 : tie.Need-marks-part-requires-3 Inv-loop2 μ-loop2 Inv-loop μ-loop
-marks-part-requires-3 c κs = (c .before .before .before .before .before .before .before .before .before .before .before .before .before .before .before .before .before .before .before .before .before .before .before .before .before .before .before .before .before .before .before .before .before .before .before .before .before .before .before .before .before .before .before .before .before .before .before .before .before .before .before .before .before .before .before .before .pre .0 .valid .limits, c .before .before .before .before .before .before .before .before .before .before .before .before .before .before .before .before .before .before .before .before .before .before .before .before .before .before .before .before .before .before .before .before .before .before .before .before .before .before .loop .inv .0 .register .whole)
+loop3-less : tie.Need-loop3-less Inv-loop2 μ-loop2 Inv-loop3 μ-loop3 Inv-records μ-records Inv-loop μ-loop
+loop3-less c = omega (arith, c .before .before .before .before .before .before .before .before .before .before .before .before .loop3-test .taken)
 
-apply-requires-2 : tie.Need-apply-requires-2 Inv-loop2 μ-loop2 Inv-loop μ-loop
+loop3-again : tie.Need-loop3-again Inv-loop2 μ-loop2 Inv-loop3 μ-loop3 Inv-records μ-records Inv-loop μ-loop
 unfolding cellsOfFile
-apply-requires-2 c κs =
-    let p = prepared (c .before .before .before .before .before .before .before .before .before .before .before .before .before .before .before .before .before .before .before .before) in
-    let t = turn (c .before .before .before .before .before .before .before .before .before .before .before .before .before .before .before .before .before .before .before .before .before .before .before .before .before .before .before .before .before .before .before .before .before .before .before .before .before .before .before) in
-    let q = here-parts (c .before .before .before .before .before .before .before .before .before .before .before .before .before .before .before .before .before .before .before .before .before .before .before .before .before .before .before .before .before .before .before .before .before .before .before .before .before .before .before) in
+loop3-again c =
+    let done = rw (c .before .before .before .before .before .before .before .before .before .before .values-part2 .ensures, c .before .before .before .before .before .before .before .before .before .marks-part2 .ensures, c .enum-told2 .given .1) at (c .before .before .before .before .before .apply-rule .ensures) in
+    (record-more (c .before .before .before .before .before .before .before .before .before .before .before .before .before .loop3 .inv .0) _ (omega (arith, few-rules (c .before .before .before .before .before .before .before .before .before .before .before .before .before .before .before .before .before .before .before .before .before .before .before .before .before .before .before .before .before .before .before .before .before .before .before .before .before .before), c .before .before .before .before .before .before .before .before .before .before .before .before .before .before .before .before .before .before .before .before .before .before .before .before .before .before .before .before .before .before .before .before .before .before .before .before .loop2 .inv .1, c .before .before .before .before .before .before .before .before .before .before .before .before .loop3-test .taken)) done (omega arith), c .enum-told2 .given .1, omega (arith, c .before .before .before .before .before .before .before .before .before .before .before .before .loop3-test .taken))
+
+add-u : tie.Need-add-u Inv-loop2 μ-loop2 Inv-loop3 μ-loop3 Inv-records μ-records Inv-loop μ-loop
+add-u c = record { fits = omega (arith, c .before .before .before .before .before .before .before .before .before .before .before .before .before .before .before .before .before .before .before .before .before .before .before .before .before .before .before .before .before .before .before .before .before .before .before .before .before .before .before .before .before .before .before .before .before .before .pre .0 .valid .limits .records≤, c .before .before .records-test .taken) }
+
+records-less : tie.Need-records-less Inv-loop2 μ-loop2 Inv-loop3 μ-loop3 Inv-records μ-records Inv-loop μ-loop
+records-less c = omega (arith, c .before .before .records-test .taken)
+
+records-again : tie.Need-records-again Inv-loop2 μ-loop2 Inv-loop3 μ-loop3 Inv-records μ-records Inv-loop μ-loop
+records-again c =
+    let l = c .before .loop3 .inv in
+    let r = c .before .before .before .records .inv in
+    (same-then (r .0) (l .0 .same), records-more (r .0) (r .1) (omega (arith, l .2, c .loop3-test .left)) (l .0) (omega arith), l .1, omega (arith, c .before .before .records-test .taken))
+
+-- what the local rules did: all are done, or the loops were left at a sum out of range
+applied : (c : tie.Left-records Inv-loop2 μ-loop2 Inv-loop3 μ-loop3 Inv-records μ-records Inv-loop μ-loop) {r : Stop} → c .records-test .stop ≡ r → LocalAnswer (c .before .before .before .before .before .before .before .before .before .before .before .before .before .before .before .before .before .before .before .before .before .before .before .before .before .before .before .before .before .before .before .before .before .before .before .before .before .before .before .before .before .before .before .before .args .sizes) (cellsOfFile (c .before .before .before .before .before .before .before .before .before .before .before .before .before .before .before .before .before .before .before .before .before .before .before .before .before .before .before .before .before .before .before .before .before .before .before .before .before .before .before .before .before .before .before .before .args .sizes) (c .before .before .before .before .before .before .before .before .before .before .before .before .before .before .before .before .before .before .before .before .before .before .before .before .before .before .loop .out)) (at (c .before .before .before .before .before .before .before .before .before .before .before .before .before .before .before .before .before .before .before .before .before .before .before .before .before .before .before .before .before .before .before .before .before .before .before .before .before .before .before .before .before .before .before .before) + c .before .before .before .before .before .before .before .before .before .before .before .before .before .before .before .before .before .before .before .before .before .before .before .before .before .before .before .before .before .before .before .before .before .before .before .before .before .before .before .before .before .before .before .before .args .sizes .records) (rulesIn (getD (c .before .before .before .before .before .before .before .before .before .before .before .before .before .before .before .before .before .before .before .before .before .before .before .before .before .before .before .before .before .before .before .before .before .before .before .before .before .before .before .before .before .before .before .before .args .program .frames) (c .before .before .before .before .before .before .before .before .before .before .before .before .before .before .before .before .before .before .before .before .before .before .before .before .before .before .loop .step) noFrame .rules) (c .before .before .before .before .before .before .before .before .before .before .before .before .before .before .before .before .before .before .before .before .before .before .loop2 .rules)) (c .before .before .before .before .before .gather .last .1 .0) (c .before .before .before .before .before .gather .last .1 .1 .0) (c .records-test .values) (c .records-test .marks) r
+unfolding cellsOfFile ruleOf
+applied c e =
+    let p = prepared (c .before .before .before .before .before) in
+    let t = turn (c .before .before .before .before .before .before .before .before .before .before .before .before .before .before .before .before .before .before .before .before .before .before .before .before) in
+    let i = c .before .records .inv in
+    ⊎-elim
+    (λ w. rw (sym e ∙ w .3 ∙ i .2, w .1, w .2) (i .0, records-all (omega (arith, i .3, w .0 .left)) (i .1)))
+    (λ w.
+    let stop = rw (w .4 .ensures, w .5 .ensures, w .14 .given .1) at (w .9 .ensures) in
+    let inside-rules : w .1 .k < length (c .before .before .before .before .before .before .before .before .before .before .before .before .before .before .before .before .before .before .before .before .before .before .loop2 .rules) = omega (arith, few-rules (c .before .before .before .before .before .before .before .before .before .before .before .before .before .before .before .before .before .before .before .before .before .before .before .before), c .before .before .before .before .before .before .before .before .before .before .before .before .before .before .before .before .before .before .before .before .before .before .loop2 .inv .1, w .2 .taken) in
+    let ready = ready-at (c .before .before .before .before .before .before .before .before .before .before .before .before .before .before .before .before .before .before .before .before .before .before .loop2 .rules) _ _ inside-rules (w .2 .taken) (step-ready t p) in
+    rw (sym e ∙ w .17 ∙ w .14 .given .1, w .15, w .16)
+    (same-then (same-then (i .0) (w .1 .inv .0 .same)) (stop .0), records-stop (i .0) (record-stops (w .1 .inv .0) _ inside-rules (w .2 .taken) (c .before .before .before .before .before .before .before .before .before .before .before .before .before .before .before .before .before .before .before .before .before .before .before .before .before .before .before .before .before .before .before .before .before .before .before .before .before .before .before .before .before .before .before .before .pre .0 .valid .limits) (w .0 .taken) (ready .field) stop)))
+    (c .records-test .came)
+
+enum-known-stop : tie.Need-enum-known-stop Inv-loop2 μ-loop2 Inv-loop3 μ-loop3 Inv-records μ-records Inv-loop μ-loop
+enum-known-stop c = search needs
+
+out-of-range-requires : tie.Need-out-of-range-requires Inv-loop2 μ-loop2 Inv-loop3 μ-loop3 Inv-records μ-records Inv-loop μ-loop
+out-of-range-requires c κs = tt
+
+same-length-4 : tie.Need-same-length-4 Inv-loop2 μ-loop2 Inv-loop3 μ-loop3 Inv-records μ-records Inv-loop μ-loop
+same-length-4 c = c .before .before .before .before .before .before .before .before .before .before .before .before .before .before .before .before .before .before .before .before .before .before .before .before .before .before .before .before .before .before .loop .inv .0 .register .whole ∙ sym (c .before .before .before .before .before .before .before .before .before .before .before .before .before .before .before .before .before .before .before .before .before .before .before .before .before .before .before .before .before .before .before .before .before .before .before .before .before .before .before .before .before .before .before .before .before .before .before .before .pre .0 .whole)
+
+same-length-5 : tie.Need-same-length-5 Inv-loop2 μ-loop2 Inv-loop3 μ-loop3 Inv-records μ-records Inv-loop μ-loop
+same-length-5 c = applied (c .before .before .before .before) (c .before .before .stop .given .1) .0 .values-length ∙ c .before .before .before .before .before .before .before .before .before .gather .kept .1 .0 ∙ c .before .before .before .before .before .before .before .before .before .before .before .before .before .before .before .before .before .before .before .before .before .enter .kept .1 .0 ∙ c .before .before .before .before .before .before .before .before .before .before .before .before .before .before .before .before .before .before .before .before .before .before .before .before .before .before .before .before .before .before .loop .inv .2 ∙ c .before .before .before .before .before .before .before .before .before .before .before .before .before .before .before .before .before .before .before .before .before .before .before .before .before .before .before .before .before .before .before .before .before .before .before .begin .ensures .1 .values-length
+
+same-length-6 : tie.Need-same-length-6 Inv-loop2 μ-loop2 Inv-loop3 μ-loop3 Inv-records μ-records Inv-loop μ-loop
+same-length-6 c = applied (c .before .before .before .before) (c .before .before .stop .given .1) .0 .marks-length ∙ c .before .before .before .before .before .before .before .before .before .gather .kept .1 .1 .0 ∙ c .before .before .before .before .before .before .before .before .before .before .before .before .before .before .before .before .before .before .before .before .before .enter .kept .1 .1 .0 ∙ c .before .before .before .before .before .before .before .before .before .before .before .before .before .before .before .before .before .before .before .before .before .before .before .before .before .before .before .before .before .before .loop .inv .3 ∙ c .before .before .before .before .before .before .before .before .before .before .before .before .before .before .before .before .before .before .before .before .before .before .before .before .before .before .before .before .before .before .before .before .before .before .before .begin .ensures .1 .marks-length
+
+returns-2 : tie.Need-returns-2 Inv-loop2 μ-loop2 Inv-loop3 μ-loop3 Inv-records μ-records Inv-loop μ-loop
+unfolding programOf
+returns-2 c =
+    let t = turn (c .before .before .before .before .before .before .before .before .before .before .before .before .before .before .before .before .before .before .before .before .before .before .before .before .before .before .before .before) in
+    rw (c .out-of-range .ensures)
+    (stands-offended (t .stands) (inside t) (later (c .before .before .before .before .before .before .before .before .before .before .before .before .before .before .before .before .before .before .before .before .before .before .before .before .before .before .before .before)) (local-turn t (prepared (c .before .before .before .before .before .before .before .before .before)) (applied (c .before .before .before .before) (c .before .before .stop .given .1) .1)))
+
+enum-told-3 : tie.Need-enum-told-3 Inv-loop2 μ-loop2 Inv-loop3 μ-loop3 Inv-records μ-records Inv-loop μ-loop
+enum-told-3 c = search needs
+
+-- all local sums are in range
+locals : (c : tie.After-enum-told3 Inv-loop2 μ-loop2 Inv-loop3 μ-loop3 Inv-records μ-records Inv-loop μ-loop) → Same (at (c .before .before .before .before .before .before .before .before .before .before .before .before .before .before .before .before .before .before .before .before .before .before .before .before .before .before .before .before .before .before .before .before .before .before .before .before .before .before .before .before .before .before .before .before .before .before) + c .before .before .before .before .before .before .before .before .before .before .before .before .before .before .before .before .before .before .before .before .before .before .before .before .before .before .before .before .before .before .before .before .before .before .before .before .before .before .before .before .before .before .before .before .before .before .args .sizes .records) (c .before .before .before .before .before .before .before .gather .last .1 .0) (c .before .before .before .before .before .before .before .gather .last .1 .1 .0) (c .before .before .records-test .values) (c .before .before .records-test .marks) × LocalDone (c .before .before .before .before .before .before .before .before .before .before .before .before .before .before .before .before .before .before .before .before .before .before .before .before .before .before .before .before .before .before .before .before .before .before .before .before .before .before .before .before .before .before .before .before .before .before .args .sizes) (cellsOfFile (c .before .before .before .before .before .before .before .before .before .before .before .before .before .before .before .before .before .before .before .before .before .before .before .before .before .before .before .before .before .before .before .before .before .before .before .before .before .before .before .before .before .before .before .before .before .before .args .sizes) (c .before .before .before .before .before .before .before .before .before .before .before .before .before .before .before .before .before .before .before .before .before .before .before .before .before .before .before .before .loop .out)) (at (c .before .before .before .before .before .before .before .before .before .before .before .before .before .before .before .before .before .before .before .before .before .before .before .before .before .before .before .before .before .before .before .before .before .before .before .before .before .before .before .before .before .before .before .before .before .before) + c .before .before .before .before .before .before .before .before .before .before .before .before .before .before .before .before .before .before .before .before .before .before .before .before .before .before .before .before .before .before .before .before .before .before .before .before .before .before .before .before .before .before .before .before .before .before .args .sizes .records) (rulesIn (getD (c .before .before .before .before .before .before .before .before .before .before .before .before .before .before .before .before .before .before .before .before .before .before .before .before .before .before .before .before .before .before .before .before .before .before .before .before .before .before .before .before .before .before .before .before .before .before .args .program .frames) (c .before .before .before .before .before .before .before .before .before .before .before .before .before .before .before .before .before .before .before .before .before .before .before .before .before .before .before .before .loop .step) noFrame .rules) (c .before .before .before .before .before .before .before .before .before .before .before .before .before .before .before .before .before .before .before .before .before .before .before .before .loop2 .rules)) (c .before .before .before .before .before .before .before .before .before .before .before .before .before .before .before .before .before .before .before .before .before .before .before .before .before .before .before .before .before .before .before .before .before .before .before .before .before .before .before .before .before .before .before .before .before .before .args .sizes .records) (c .before .before .before .before .before .before .before .gather .last .1 .0) (c .before .before .before .before .before .before .before .gather .last .1 .1 .0) (c .before .before .records-test .values) (c .before .before .records-test .marks)
+locals c = applied (c .before .before) (c .enum-told3 .given .1)
+
+values-part-requires-3 : tie.Need-values-part-requires-3 Inv-loop2 μ-loop2 Inv-loop3 μ-loop3 Inv-records μ-records Inv-loop μ-loop
+values-part-requires-3 c κs = (c .before .before .before .before .before .before .before .before .before .before .before .before .before .before .before .before .before .before .before .before .before .before .before .before .before .before .before .before .before .before .before .before .before .before .before .before .before .before .before .before .before .before .before .before .before .before .before .before .pre .0 .valid .limits, c .before .before .before .before .before .before .before .before .before .before .before .before .before .before .before .before .before .before .before .before .before .before .before .before .before .before .before .before .before .before .loop .inv .0 .register .whole)
+
+marks-part-requires-3 : tie.Need-marks-part-requires-3 Inv-loop2 μ-loop2 Inv-loop3 μ-loop3 Inv-records μ-records Inv-loop μ-loop
+marks-part-requires-3 c κs = (c .before .before .before .before .before .before .before .before .before .before .before .before .before .before .before .before .before .before .before .before .before .before .before .before .before .before .before .before .before .before .before .before .before .before .before .before .before .before .before .before .before .before .before .before .before .before .before .before .before .pre .0 .valid .limits, c .before .before .before .before .before .before .before .before .before .before .before .before .before .before .before .before .before .before .before .before .before .before .before .before .before .before .before .before .before .before .before .loop .inv .0 .register .whole)
+
+apply-requires : tie.Need-apply-requires Inv-loop2 μ-loop2 Inv-loop3 μ-loop3 Inv-records μ-records Inv-loop μ-loop
+unfolding cellsOfFile
+apply-requires c κs =
+    let p = prepared (c .before .before .before .before .before .before .before .before .before .before .before .before .before) in
+    let t = turn (c .before .before .before .before .before .before .before .before .before .before .before .before .before .before .before .before .before .before .before .before .before .before .before .before .before .before .before .before .before .before .before .before) in
+    let q = here-parts (c .before .before .before .before .before .before .before .before .before .before .before .before .before .before .before .before .before .before .before .before .before .before .before .before .before .before .before .before .before .before .before .before) in
     let l = locals (c .before .before .before .before .before .before) in
     let valid = t .stands .register .valid in
     rw (c .before .before .before .values-part3 .ensures, c .before .before .marks-part3 .ensures) (
       q,
       rw (q .marks-length) (room-same (l .0) (step-room t p)),
-      few-rules (c .before .before .before .before .before .before .before .before .before .before .before .before .before .before .before .before .before .before .before .before .before .before .before .before .before .before .before .before .before .before .before .before .before .before .before .before .before .before .before),
-      c .before .before .before .before .before .before .before .before .before .before .before .before .before .before .before .before .before .before .before .before .before .before .before .before .before .before .before .before .before .before .before .before .before .before .before .before .before .loop2 .inv .1,
+      few-rules (c .before .before .before .before .before .before .before .before .before .before .before .before .before .before .before .before .before .before .before .before .before .before .before .before .before .before .before .before .before .before .before .before),
+      c .before .before .before .before .before .before .before .before .before .before .before .before .before .before .before .before .before .before .before .before .before .before .before .before .before .before .before .before .before .before .loop2 .inv .1,
       rw (l .0 .values-same, l .0 .marks-same) (step-ready t p),
       rw (q .marks-length) (l .1 .small (small-held (valid .count) (valid .values) (step-working t p))),
     )
 
 -- the remote writes are delivered, where there are any
-delivered : (c : tie.Joined2 Inv-loop2 μ-loop2 Inv-loop μ-loop) → Delivered (c .before .before .before .before .before .before .before .before .before .before .before .before .before .before .before .before .before .before .before .before .before .before .before .before .before .before .before .before .before .before .before .before .before .before .before .before .before .before .before .before .before .before .before .before .before .before .before .before .before .before .before .before .before .before .args .sizes) (cellsOfFile (c .before .before .before .before .before .before .before .before .before .before .before .before .before .before .before .before .before .before .before .before .before .before .before .before .before .before .before .before .before .before .before .before .before .before .before .before .before .before .before .before .before .before .before .before .before .before .before .before .before .before .before .before .before .before .args .sizes) (c .before .before .before .before .before .before .before .before .before .before .before .before .before .before .before .before .before .before .before .before .before .before .before .before .before .before .before .before .before .before .before .before .before .before .before .before .loop .out)) (at (c .before .before .before .before .before .before .before .before .before .before .before .before .before .before .before .before .before .before .before .before .before .before .before .before .before .before .before .before .before .before .before .before .before .before .before .before .before .before .before .before .before .before .before .before .before .before .before .before .before .before .before .before .before .before) + c .before .before .before .before .before .before .before .before .before .before .before .before .before .before .before .before .before .before .before .before .before .before .before .before .before .before .before .before .before .before .before .before .before .before .before .before .before .before .before .before .before .before .before .before .before .before .before .before .before .before .before .before .before .before .args .sizes .records) (rulesIn (getD (c .before .before .before .before .before .before .before .before .before .before .before .before .before .before .before .before .before .before .before .before .before .before .before .before .before .before .before .before .before .before .before .before .before .before .before .before .before .before .before .before .before .before .before .before .before .before .before .before .before .before .before .before .before .before .args .program .frames) (c .before .before .before .before .before .before .before .before .before .before .before .before .before .before .before .before .before .before .before .before .before .before .before .before .before .before .before .before .before .before .before .before .before .before .before .before .loop .step) noFrame .rules) (c .before .before .before .before .before .before .before .before .before .before .before .before .before .before .before .before .before .before .before .before .before .before .before .before .before .before .before .before .before .before .before .before .loop2 .rules)) (c .before .before .before .before .before .before .apply .last .1 .1 .0) (c .before .before .before .before .before .before .apply .last .1 .1 .1 .0) (c .if2 .values) (c .if2 .marks) (c .if2 .sent)
+delivered : (c : tie.Joined2 Inv-loop2 μ-loop2 Inv-loop3 μ-loop3 Inv-records μ-records Inv-loop μ-loop) → Delivered (c .before .before .before .before .before .before .before .before .before .before .before .before .before .before .before .before .before .before .before .before .before .before .before .before .before .before .before .before .before .before .before .before .before .before .before .before .before .before .before .before .before .before .before .before .before .before .before .args .sizes) (cellsOfFile (c .before .before .before .before .before .before .before .before .before .before .before .before .before .before .before .before .before .before .before .before .before .before .before .before .before .before .before .before .before .before .before .before .before .before .before .before .before .before .before .before .before .before .before .before .before .before .before .args .sizes) (c .before .before .before .before .before .before .before .before .before .before .before .before .before .before .before .before .before .before .before .before .before .before .before .before .before .before .before .before .before .loop .out)) (at (c .before .before .before .before .before .before .before .before .before .before .before .before .before .before .before .before .before .before .before .before .before .before .before .before .before .before .before .before .before .before .before .before .before .before .before .before .before .before .before .before .before .before .before .before .before .before .before) + c .before .before .before .before .before .before .before .before .before .before .before .before .before .before .before .before .before .before .before .before .before .before .before .before .before .before .before .before .before .before .before .before .before .before .before .before .before .before .before .before .before .before .before .before .before .before .before .args .sizes .records) (rulesIn (getD (c .before .before .before .before .before .before .before .before .before .before .before .before .before .before .before .before .before .before .before .before .before .before .before .before .before .before .before .before .before .before .before .before .before .before .before .before .before .before .before .before .before .before .before .before .before .before .before .args .program .frames) (c .before .before .before .before .before .before .before .before .before .before .before .before .before .before .before .before .before .before .before .before .before .before .before .before .before .before .before .before .before .loop .step) noFrame .rules) (c .before .before .before .before .before .before .before .before .before .before .before .before .before .before .before .before .before .before .before .before .before .before .before .before .before .loop2 .rules)) (c .before .before .before .records-test .values) (c .before .before .before .records-test .marks) (c .if2 .values) (c .if2 .marks) (c .if2 .sent)
 unfolding cellsOfFile
 delivered c =
     ⊎-elim
     (λ w. rw (w .10, w .11, w .12) (rw (w .2 .ensures, w .3 .ensures) at (w .6 .ensures)))
-    (λ w. rw (w .1, w .2, w .3) (silent-step (c .before .before .before .before .before .before .before .before .before .before .before .before .before .before .before .before .before .before .before .before .before .before .before .before .before .before .before .before .before .before .before .before .before .before .before .before .before .before .before .before .before .before .before .before .before .before .before .before .before .before .before .before .before .before .args .sizes) (cellsOfFile (c .before .before .before .before .before .before .before .before .before .before .before .before .before .before .before .before .before .before .before .before .before .before .before .before .before .before .before .before .before .before .before .before .before .before .before .before .before .before .before .before .before .before .before .before .before .before .before .before .before .before .before .before .before .before .args .sizes) (c .before .before .before .before .before .before .before .before .before .before .before .before .before .before .before .before .before .before .before .before .before .before .before .before .before .before .before .before .before .before .before .before .before .before .before .before .loop .out)) _ (sym (step-sends (turn (c .before .before .before .before .before .before .before .before .before .before .before .before .before .before .before .before .before .before .before .before .before .before .before .before .before .before .before .before .before .before .before .before .before .before)) (prepared (c .before .before .before .before .before .before .before .before .before .before .before .before .before .before .before))) ∙ w .0 .left)))
+    (λ w. rw (w .1, w .2, w .3) (silent-step (c .before .before .before .before .before .before .before .before .before .before .before .before .before .before .before .before .before .before .before .before .before .before .before .before .before .before .before .before .before .before .before .before .before .before .before .before .before .before .before .before .before .before .before .before .before .before .before .args .sizes) (cellsOfFile (c .before .before .before .before .before .before .before .before .before .before .before .before .before .before .before .before .before .before .before .before .before .before .before .before .before .before .before .before .before .before .before .before .before .before .before .before .before .before .before .before .before .before .before .before .before .before .before .args .sizes) (c .before .before .before .before .before .before .before .before .before .before .before .before .before .before .before .before .before .before .before .before .before .before .before .before .before .before .before .before .before .loop .out)) _ (sym (step-sends (turn (c .before .before .before .before .before .before .before .before .before .before .before .before .before .before .before .before .before .before .before .before .before .before .before .before .before .before .before)) (prepared (c .before .before .before .before .before .before .before .before))) ∙ w .0 .left)))
     (c .if2 .came)
 
-done-same : (c : tie.Joined2 Inv-loop2 μ-loop2 Inv-loop μ-loop) → Same (at (c .before .before .before .before .before .before .before .before .before .before .before .before .before .before .before .before .before .before .before .before .before .before .before .before .before .before .before .before .before .before .before .before .before .before .before .before .before .before .before .before .before .before .before .before .before .before .before .before .before .before .before .before .before .before) + c .before .before .before .before .before .before .before .before .before .before .before .before .before .before .before .before .before .before .before .before .before .before .before .before .before .before .before .before .before .before .before .before .before .before .before .before .before .before .before .before .before .before .before .before .before .before .before .before .before .before .before .before .before .before .args .sizes .records) (c .before .before .before .before .before .before .before .before .before .before .before .before .before .before .before .gather .last .1 .0) (c .before .before .before .before .before .before .before .before .before .before .before .before .before .before .before .gather .last .1 .1 .0) (c .if2 .values) (c .if2 .marks)
-done-same c = turn-same (turn (c .before .before .before .before .before .before .before .before .before .before .before .before .before .before .before .before .before .before .before .before .before .before .before .before .before .before .before .before .before .before .before .before .before .before)) (prepared (c .before .before .before .before .before .before .before .before .before .before .before .before .before .before .before)) (locals (c .before)) (delivered c)
+done-same : (c : tie.Joined2 Inv-loop2 μ-loop2 Inv-loop3 μ-loop3 Inv-records μ-records Inv-loop μ-loop) → Same (at (c .before .before .before .before .before .before .before .before .before .before .before .before .before .before .before .before .before .before .before .before .before .before .before .before .before .before .before .before .before .before .before .before .before .before .before .before .before .before .before .before .before .before .before .before .before .before .before) + c .before .before .before .before .before .before .before .before .before .before .before .before .before .before .before .before .before .before .before .before .before .before .before .before .before .before .before .before .before .before .before .before .before .before .before .before .before .before .before .before .before .before .before .before .before .before .before .args .sizes .records) (c .before .before .before .before .before .before .before .before .gather .last .1 .0) (c .before .before .before .before .before .before .before .before .gather .last .1 .1 .0) (c .if2 .values) (c .if2 .marks)
+done-same c = turn-same (turn (c .before .before .before .before .before .before .before .before .before .before .before .before .before .before .before .before .before .before .before .before .before .before .before .before .before .before .before)) (prepared (c .before .before .before .before .before .before .before .before)) (locals (c .before)) (delivered c)
 
-commit-requires : tie.Need-commit-requires Inv-loop2 μ-loop2 Inv-loop μ-loop
-commit-requires c κs = (c .before .before .before .before .before .before .before .before .before .before .before .before .before .before .before .before .before .before .before .before .before .before .before .before .before .before .before .before .before .before .before .before .before .before .before .before .before .before .before .before .before .before .before .before .before .before .before .before .before .before .before .before .before .before .before .before .before .pre .0 .valid .limits, c .before .before .before .before .before .before .before .before .before .before .before .before .before .before .before .before .before .before .before .before .before .before .before .before .before .before .before .before .before .before .before .before .before .before .before .before .before .before .before .loop .inv .0 .register .whole, room-same (done-same (c .before .before .before)) (step-room (turn (c .before .before .before .before .before .before .before .before .before .before .before .before .before .before .before .before .before .before .before .before .before .before .before .before .before .before .before .before .before .before .before .before .before .before .before .before .before)) (prepared (c .before .before .before .before .before .before .before .before .before .before .before .before .before .before .before .before .before .before))))
+commit-requires : tie.Need-commit-requires Inv-loop2 μ-loop2 Inv-loop3 μ-loop3 Inv-records μ-records Inv-loop μ-loop
+commit-requires c κs = (c .before .before .before .before .before .before .before .before .before .before .before .before .before .before .before .before .before .before .before .before .before .before .before .before .before .before .before .before .before .before .before .before .before .before .before .before .before .before .before .before .before .before .before .before .before .before .before .before .before .before .pre .0 .valid .limits, c .before .before .before .before .before .before .before .before .before .before .before .before .before .before .before .before .before .before .before .before .before .before .before .before .before .before .before .before .before .before .before .before .loop .inv .0 .register .whole, room-same (done-same (c .before .before .before)) (step-room (turn (c .before .before .before .before .before .before .before .before .before .before .before .before .before .before .before .before .before .before .before .before .before .before .before .before .before .before .before .before .before .before)) (prepared (c .before .before .before .before .before .before .before .before .before .before .before))))
 
-enum-known-total : tie.Need-enum-known-total Inv-loop2 μ-loop2 Inv-loop μ-loop
+enum-known-total : tie.Need-enum-known-total Inv-loop2 μ-loop2 Inv-loop3 μ-loop3 Inv-records μ-records Inv-loop μ-loop
 enum-known-total c = search needs
 
-out-of-range-requires-2 : tie.Need-out-of-range-requires-2 Inv-loop2 μ-loop2 Inv-loop μ-loop
+out-of-range-requires-2 : tie.Need-out-of-range-requires-2 Inv-loop2 μ-loop2 Inv-loop3 μ-loop3 Inv-records μ-records Inv-loop μ-loop
 out-of-range-requires-2 c κs = tt
 
-same-length-7 : tie.Need-same-length-7 Inv-loop2 μ-loop2 Inv-loop μ-loop
-same-length-7 c = c .before .before .before .before .before .before .commit .kept .0 ∙ c .before .before .before .before .before .before .before .before .before .before .before .before .before .before .before .before .before .before .before .before .before .before .before .before .before .before .before .before .before .before .before .before .before .before .before .before .before .before .before .before .before .before .before .before .before .before .loop .inv .0 .register .whole ∙ sym (c .before .before .before .before .before .before .before .before .before .before .before .before .before .before .before .before .before .before .before .before .before .before .before .before .before .before .before .before .before .before .before .before .before .before .before .before .before .before .before .before .before .before .before .before .before .before .before .before .before .before .before .before .before .before .before .before .before .before .before .before .before .before .before .before .pre .0 .whole)
+same-length-7 : tie.Need-same-length-7 Inv-loop2 μ-loop2 Inv-loop3 μ-loop3 Inv-records μ-records Inv-loop μ-loop
+same-length-7 c = c .before .before .before .before .before .before .commit .kept .0 ∙ c .before .before .before .before .before .before .before .before .before .before .before .before .before .before .before .before .before .before .before .before .before .before .before .before .before .before .before .before .before .before .before .before .before .before .before .before .before .before .before .loop .inv .0 .register .whole ∙ sym (c .before .before .before .before .before .before .before .before .before .before .before .before .before .before .before .before .before .before .before .before .before .before .before .before .before .before .before .before .before .before .before .before .before .before .before .before .before .before .before .before .before .before .before .before .before .before .before .before .before .before .before .before .before .before .before .before .before .pre .0 .whole)
 
-same-length-8 : tie.Need-same-length-8 Inv-loop2 μ-loop2 Inv-loop μ-loop
-same-length-8 c = done-same (c .before .before .before .before .before .before .before .before .before .before) .values-length ∙ c .before .before .before .before .before .before .before .before .before .before .before .before .before .before .before .before .before .before .before .before .before .before .before .before .before .gather .kept .1 .0 ∙ c .before .before .before .before .before .before .before .before .before .before .before .before .before .before .before .before .before .before .before .before .before .before .before .before .before .before .before .before .before .before .before .before .before .before .before .before .before .enter .kept .1 .0 ∙ c .before .before .before .before .before .before .before .before .before .before .before .before .before .before .before .before .before .before .before .before .before .before .before .before .before .before .before .before .before .before .before .before .before .before .before .before .before .before .before .before .before .before .before .before .before .before .loop .inv .2 ∙ c .before .before .before .before .before .before .before .before .before .before .before .before .before .before .before .before .before .before .before .before .before .before .before .before .before .before .before .before .before .before .before .before .before .before .before .before .before .before .before .before .before .before .before .before .before .before .before .before .before .before .before .begin .ensures .1 .values-length
+same-length-8 : tie.Need-same-length-8 Inv-loop2 μ-loop2 Inv-loop3 μ-loop3 Inv-records μ-records Inv-loop μ-loop
+same-length-8 c = done-same (c .before .before .before .before .before .before .before .before .before .before) .values-length ∙ c .before .before .before .before .before .before .before .before .before .before .before .before .before .before .before .before .before .before .gather .kept .1 .0 ∙ c .before .before .before .before .before .before .before .before .before .before .before .before .before .before .before .before .before .before .before .before .before .before .before .before .before .before .before .before .before .before .enter .kept .1 .0 ∙ c .before .before .before .before .before .before .before .before .before .before .before .before .before .before .before .before .before .before .before .before .before .before .before .before .before .before .before .before .before .before .before .before .before .before .before .before .before .before .before .loop .inv .2 ∙ c .before .before .before .before .before .before .before .before .before .before .before .before .before .before .before .before .before .before .before .before .before .before .before .before .before .before .before .before .before .before .before .before .before .before .before .before .before .before .before .before .before .before .before .before .begin .ensures .1 .values-length
 
-same-length-9 : tie.Need-same-length-9 Inv-loop2 μ-loop2 Inv-loop μ-loop
-same-length-9 c = done-same (c .before .before .before .before .before .before .before .before .before .before) .marks-length ∙ c .before .before .before .before .before .before .before .before .before .before .before .before .before .before .before .before .before .before .before .before .before .before .before .before .before .gather .kept .1 .1 .0 ∙ c .before .before .before .before .before .before .before .before .before .before .before .before .before .before .before .before .before .before .before .before .before .before .before .before .before .before .before .before .before .before .before .before .before .before .before .before .before .enter .kept .1 .1 .0 ∙ c .before .before .before .before .before .before .before .before .before .before .before .before .before .before .before .before .before .before .before .before .before .before .before .before .before .before .before .before .before .before .before .before .before .before .before .before .before .before .before .before .before .before .before .before .before .before .loop .inv .3 ∙ c .before .before .before .before .before .before .before .before .before .before .before .before .before .before .before .before .before .before .before .before .before .before .before .before .before .before .before .before .before .before .before .before .before .before .before .before .before .before .before .before .before .before .before .before .before .before .before .before .before .before .before .begin .ensures .1 .marks-length
+same-length-9 : tie.Need-same-length-9 Inv-loop2 μ-loop2 Inv-loop3 μ-loop3 Inv-records μ-records Inv-loop μ-loop
+same-length-9 c = done-same (c .before .before .before .before .before .before .before .before .before .before) .marks-length ∙ c .before .before .before .before .before .before .before .before .before .before .before .before .before .before .before .before .before .before .gather .kept .1 .1 .0 ∙ c .before .before .before .before .before .before .before .before .before .before .before .before .before .before .before .before .before .before .before .before .before .before .before .before .before .before .before .before .before .before .enter .kept .1 .1 .0 ∙ c .before .before .before .before .before .before .before .before .before .before .before .before .before .before .before .before .before .before .before .before .before .before .before .before .before .before .before .before .before .before .before .before .before .before .before .before .before .before .before .loop .inv .3 ∙ c .before .before .before .before .before .before .before .before .before .before .before .before .before .before .before .before .before .before .before .before .before .before .before .before .before .before .before .before .before .before .before .before .before .before .before .before .before .before .before .before .before .before .before .before .begin .ensures .1 .marks-length
 
-returns-3 : tie.Need-returns-3 Inv-loop2 μ-loop2 Inv-loop μ-loop
+returns-3 : tie.Need-returns-3 Inv-loop2 μ-loop2 Inv-loop3 μ-loop3 Inv-records μ-records Inv-loop μ-loop
 unfolding programOf
 returns-3 c =
-    let t = turn (c .before .before .before .before .before .before .before .before .before .before .before .before .before .before .before .before .before .before .before .before .before .before .before .before .before .before .before .before .before .before .before .before .before .before .before .before .before .before .before .before .before .before .before .before) in
+    let t = turn (c .before .before .before .before .before .before .before .before .before .before .before .before .before .before .before .before .before .before .before .before .before .before .before .before .before .before .before .before .before .before .before .before .before .before .before .before .before) in
     rw (c .out-of-range2 .ensures)
-    (stands-offended (t .stands) (inside t) (later (c .before .before .before .before .before .before .before .before .before .before .before .before .before .before .before .before .before .before .before .before .before .before .before .before .before .before .before .before .before .before .before .before .before .before .before .before .before .before .before .before .before .before .before .before))
-    (turn-stops t (prepared (c .before .before .before .before .before .before .before .before .before .before .before .before .before .before .before .before .before .before .before .before .before .before .before .before .before)) (locals (c .before .before .before .before .before .before .before .before .before .before .before)) (delivered (c .before .before .before .before .before .before .before .before .before .before)) (rw (c .before .before .total .given .1) at (c .before .before .before .before .before .before .commit .ensures))))
+    (stands-offended (t .stands) (inside t) (later (c .before .before .before .before .before .before .before .before .before .before .before .before .before .before .before .before .before .before .before .before .before .before .before .before .before .before .before .before .before .before .before .before .before .before .before .before .before))
+    (turn-stops t (prepared (c .before .before .before .before .before .before .before .before .before .before .before .before .before .before .before .before .before .before)) (locals (c .before .before .before .before .before .before .before .before .before .before .before)) (delivered (c .before .before .before .before .before .before .before .before .before .before)) (rw (c .before .before .total .given .1) at (c .before .before .before .before .before .before .commit .ensures))))
 
-enum-told-2 : tie.Need-enum-told-2 Inv-loop2 μ-loop2 Inv-loop μ-loop
-enum-told-2 c = search needs
+enum-told-4 : tie.Need-enum-told-4 Inv-loop2 μ-loop2 Inv-loop3 μ-loop3 Inv-records μ-records Inv-loop μ-loop
+enum-told-4 c = search needs
 
 -- a step that went through, and where the run stands once the next step is found
-module _ (c : tie.After-enum-told2 Inv-loop2 μ-loop2 Inv-loop μ-loop) where
-  through : GoesThrough (c .before .before .before .before .before .before .before .before .before .before .before .before .before .before .before .before .before .before .before .before .before .before .before .before .before .before .before .before .before .before .before .before .before .before .before .before .before .before .before .before .before .before .before .before .before .before .before .before .before .before .before .before .before .before .before .before .before .before .before .before .before .before .args .sizes) (direct (c .before .before .before .before .before .before .before .before .before .before .before .before .before .before .before .before .before .before .before .before .before .before .before .before .before .before .before .before .before .before .before .before .before .before .before .before .before .before .before .before .before .before .before .before .before .before .before .before .before .before .before .before .before .before .before .before .before .before .before .before .before .before .args .sizes) (here (turn (c .before .before .before .before .before .before .before .before .before .before .before .before .before .before .before .before .before .before .before .before .before .before .before .before .before .before .before .before .before .before .before .before .before .before .before .before .before .before .before .before .before .before) .stands) (inside (turn (c .before .before .before .before .before .before .before .before .before .before .before .before .before .before .before .before .before .before .before .before .before .before .before .before .before .before .before .before .before .before .before .before .before .before .before .before .before .before .before .before .before .before))) .rules) (cellsOfFile (c .before .before .before .before .before .before .before .before .before .before .before .before .before .before .before .before .before .before .before .before .before .before .before .before .before .before .before .before .before .before .before .before .before .before .before .before .before .before .before .before .before .before .before .before .before .before .before .before .before .before .before .before .before .before .before .before .before .before .before .before .before .before .args .sizes) (c .before .before .before .before .before .before .before .before .before .before .before .before .before .before .before .before .before .before .before .before .before .before .before .before .before .before .before .before .before .before .before .before .before .before .before .before .before .before .before .before .before .before .before .before .loop .out))) (here (turn (c .before .before .before .before .before .before .before .before .before .before .before .before .before .before .before .before .before .before .before .before .before .before .before .before .before .before .before .before .before .before .before .before .before .before .before .before .before .before .before .before .before .before) .stands) (inside (turn (c .before .before .before .before .before .before .before .before .before .before .before .before .before .before .before .before .before .before .before .before .before .before .before .before .before .before .before .before .before .before .before .before .before .before .before .before .before .before .before .before .before .before))) .rules) (c .before .before .before .before .before .before .before .before .before .before .before .before .before .before .before .before .before .before .before .before .before .before .before .before .before .before .before .before .before .before .before .before .before .before .before .before .before .before .before .before .before .before .before .before .loop .out) (c .before .before .before .before .commit .last .0) (at (c .before .before .before .before .before .before .before .before .before .before .before .before .before .before .before .before .before .before .before .before .before .before .before .before .before .before .before .before .before .before .before .before .before .before .before .before .before .before .before .before .before .before .before .before .before .before .before .before .before .before .before .before .before .before .before .before .before .before .before .before .before .before) + c .before .before .before .before .before .before .before .before .before .before .before .before .before .before .before .before .before .before .before .before .before .before .before .before .before .before .before .before .before .before .before .before .before .before .before .before .before .before .before .before .before .before .before .before .before .before .before .before .before .before .before .before .before .before .before .before .before .before .before .before .before .before .args .sizes .records) (c .before .before .before .before .before .before .before .before .if2 .values) (c .before .before .before .before .before .before .before .before .if2 .marks) (c .before .before .before .before .before .before .before .before .if2 .sent)
-  through = turn-through (turn (c .before .before .before .before .before .before .before .before .before .before .before .before .before .before .before .before .before .before .before .before .before .before .before .before .before .before .before .before .before .before .before .before .before .before .before .before .before .before .before .before .before .before)) (prepared (c .before .before .before .before .before .before .before .before .before .before .before .before .before .before .before .before .before .before .before .before .before .before .before)) (locals (c .before .before .before .before .before .before .before .before .before)) (delivered (c .before .before .before .before .before .before .before .before)) (rw (c .enum-told2 .given .1) at (c .before .before .before .before .commit .ensures))
+module _ (c : tie.After-enum-told4 Inv-loop2 μ-loop2 Inv-loop3 μ-loop3 Inv-records μ-records Inv-loop μ-loop) where
+  through : GoesThrough (c .before .before .before .before .before .before .before .before .before .before .before .before .before .before .before .before .before .before .before .before .before .before .before .before .before .before .before .before .before .before .before .before .before .before .before .before .before .before .before .before .before .before .before .before .before .before .before .before .before .before .before .before .before .before .before .args .sizes) (direct (c .before .before .before .before .before .before .before .before .before .before .before .before .before .before .before .before .before .before .before .before .before .before .before .before .before .before .before .before .before .before .before .before .before .before .before .before .before .before .before .before .before .before .before .before .before .before .before .before .before .before .before .before .before .before .before .args .sizes) (here (turn (c .before .before .before .before .before .before .before .before .before .before .before .before .before .before .before .before .before .before .before .before .before .before .before .before .before .before .before .before .before .before .before .before .before .before .before) .stands) (inside (turn (c .before .before .before .before .before .before .before .before .before .before .before .before .before .before .before .before .before .before .before .before .before .before .before .before .before .before .before .before .before .before .before .before .before .before .before))) .rules) (cellsOfFile (c .before .before .before .before .before .before .before .before .before .before .before .before .before .before .before .before .before .before .before .before .before .before .before .before .before .before .before .before .before .before .before .before .before .before .before .before .before .before .before .before .before .before .before .before .before .before .before .before .before .before .before .before .before .before .before .args .sizes) (c .before .before .before .before .before .before .before .before .before .before .before .before .before .before .before .before .before .before .before .before .before .before .before .before .before .before .before .before .before .before .before .before .before .before .before .before .before .loop .out))) (here (turn (c .before .before .before .before .before .before .before .before .before .before .before .before .before .before .before .before .before .before .before .before .before .before .before .before .before .before .before .before .before .before .before .before .before .before .before) .stands) (inside (turn (c .before .before .before .before .before .before .before .before .before .before .before .before .before .before .before .before .before .before .before .before .before .before .before .before .before .before .before .before .before .before .before .before .before .before .before))) .rules) (c .before .before .before .before .before .before .before .before .before .before .before .before .before .before .before .before .before .before .before .before .before .before .before .before .before .before .before .before .before .before .before .before .before .before .before .before .before .loop .out) (c .before .before .before .before .commit .last .0) (at (c .before .before .before .before .before .before .before .before .before .before .before .before .before .before .before .before .before .before .before .before .before .before .before .before .before .before .before .before .before .before .before .before .before .before .before .before .before .before .before .before .before .before .before .before .before .before .before .before .before .before .before .before .before .before .before) + c .before .before .before .before .before .before .before .before .before .before .before .before .before .before .before .before .before .before .before .before .before .before .before .before .before .before .before .before .before .before .before .before .before .before .before .before .before .before .before .before .before .before .before .before .before .before .before .before .before .before .before .before .before .before .before .args .sizes .records) (c .before .before .before .before .before .before .before .before .if2 .values) (c .before .before .before .before .before .before .before .before .if2 .marks) (c .before .before .before .before .before .before .before .before .if2 .sent)
+  through = turn-through (turn (c .before .before .before .before .before .before .before .before .before .before .before .before .before .before .before .before .before .before .before .before .before .before .before .before .before .before .before .before .before .before .before .before .before .before .before)) (prepared (c .before .before .before .before .before .before .before .before .before .before .before .before .before .before .before .before)) (locals (c .before .before .before .before .before .before .before .before .before)) (delivered (c .before .before .before .before .before .before .before .before)) (rw (c .enum-told4 .given .1) at (c .before .before .before .before .commit .ensures))
 
-  kept : (u : ℕ) → u < c .before .before .before .before .before .before .before .before .before .before .before .before .before .before .before .before .before .before .before .before .before .before .before .before .before .before .before .before .before .before .before .before .before .before .before .before .before .before .before .before .before .before .before .before .before .before .before .before .before .before .before .before .before .before .before .before .before .before .before .before .before .before .args .sizes .records → Kept (at (c .before .before .before .before .before .before .before .before .before .before .before .before .before .before .before .before .before .before .before .before .before .before .before .before .before .before .before .before .before .before .before .before .before .before .before .before .before .before .before .before .before .before .before .before .before .before .before .before .before .before .before .before .before .before .before .before .before .before .before .before .before .before) + u) (c .before .before .before .before .before .before .before .before .before .before .before .before .before .before .before .before .before .before .before .before .before .before .before .before .before .before .before .before .before .before .before .before .before .before .before .enter .last .1 .0) (c .before .before .before .before .before .before .before .before .before .before .before .before .before .before .before .before .before .before .before .before .before .before .before .before .before .before .before .before .before .before .before .before .before .before .before .enter .last .1 .1 .0) (c .before .before .before .before .before .before .before .before .if2 .values) (c .before .before .before .before .before .before .before .before .if2 .marks)
-  kept = column-kept (turn (c .before .before .before .before .before .before .before .before .before .before .before .before .before .before .before .before .before .before .before .before .before .before .before .before .before .before .before .before .before .before .before .before .before .before .before .before .before .before .before .before .before .before)) (prepared (c .before .before .before .before .before .before .before .before .before .before .before .before .before .before .before .before .before .before .before .before .before .before .before)) (locals (c .before .before .before .before .before .before .before .before .before)) (delivered (c .before .before .before .before .before .before .before .before))
+  kept : (u : ℕ) → u < c .before .before .before .before .before .before .before .before .before .before .before .before .before .before .before .before .before .before .before .before .before .before .before .before .before .before .before .before .before .before .before .before .before .before .before .before .before .before .before .before .before .before .before .before .before .before .before .before .before .before .before .before .before .before .before .args .sizes .records → Kept (at (c .before .before .before .before .before .before .before .before .before .before .before .before .before .before .before .before .before .before .before .before .before .before .before .before .before .before .before .before .before .before .before .before .before .before .before .before .before .before .before .before .before .before .before .before .before .before .before .before .before .before .before .before .before .before .before) + u) (c .before .before .before .before .before .before .before .before .before .before .before .before .before .before .before .before .before .before .before .before .before .before .before .before .before .before .before .before .enter .last .1 .0) (c .before .before .before .before .before .before .before .before .before .before .before .before .before .before .before .before .before .before .before .before .before .before .before .before .before .before .before .before .enter .last .1 .1 .0) (c .before .before .before .before .before .before .before .before .if2 .values) (c .before .before .before .before .before .before .before .before .if2 .marks)
+  kept = column-kept (turn (c .before .before .before .before .before .before .before .before .before .before .before .before .before .before .before .before .before .before .before .before .before .before .before .before .before .before .before .before .before .before .before .before .before .before .before)) (prepared (c .before .before .before .before .before .before .before .before .before .before .before .before .before .before .before .before)) (locals (c .before .before .before .before .before .before .before .before .before)) (delivered (c .before .before .before .before .before .before .before .before))
 
-  room : Behind (c .before .before .before .before .before .before .before .before .before .before .before .before .before .before .before .before .before .before .before .before .before .before .before .before .before .before .before .before .before .before .before .before .before .before .before .before .before .before .before .before .before .before .before .before .before .before .before .before .before .before .before .before .before .before .before .before .before .before .before .before .before .before .args .sizes) (at (c .before .before .before .before .before .before .before .before .before .before .before .before .before .before .before .before .before .before .before .before .before .before .before .before .before .before .before .before .before .before .before .before .before .before .before .before .before .before .before .before .before .before .before .before .before .before .before .before .before .before .before .before .before .before .before .before .before .before .before .before .before .before)) (c .before .before .before .before .before .before .before .before .if2 .values) (c .before .before .before .before .before .before .before .before .if2 .marks)
-  room = behind-turn (turn (c .before .before .before .before .before .before .before .before .before .before .before .before .before .before .before .before .before .before .before .before .before .before .before .before .before .before .before .before .before .before .before .before .before .before .before .before .before .before .before .before .before .before)) (prepared (c .before .before .before .before .before .before .before .before .before .before .before .before .before .before .before .before .before .before .before .before .before .before .before)) (locals (c .before .before .before .before .before .before .before .before .before)) (delivered (c .before .before .before .before .before .before .before .before))
+  room : Behind (c .before .before .before .before .before .before .before .before .before .before .before .before .before .before .before .before .before .before .before .before .before .before .before .before .before .before .before .before .before .before .before .before .before .before .before .before .before .before .before .before .before .before .before .before .before .before .before .before .before .before .before .before .before .before .before .args .sizes) (at (c .before .before .before .before .before .before .before .before .before .before .before .before .before .before .before .before .before .before .before .before .before .before .before .before .before .before .before .before .before .before .before .before .before .before .before .before .before .before .before .before .before .before .before .before .before .before .before .before .before .before .before .before .before .before .before)) (c .before .before .before .before .before .before .before .before .if2 .values) (c .before .before .before .before .before .before .before .before .if2 .marks)
+  room = behind-turn (turn (c .before .before .before .before .before .before .before .before .before .before .before .before .before .before .before .before .before .before .before .before .before .before .before .before .before .before .before .before .before .before .before .before .before .before .before)) (prepared (c .before .before .before .before .before .before .before .before .before .before .before .before .before .before .before .before)) (locals (c .before .before .before .before .before .before .before .before .before)) (delivered (c .before .before .before .before .before .before .before .before))
 
-  in-pass : HasPass (c .before .before .before .before .before .before .before .before .before .before .before .before .before .before .before .before .before .before .before .before .before .before .before .before .before .before .before .before .before .before .before .before .before .before .before .before .before .before .before .before .before .before .before .before .before .before .before .before .before .before .before .before .before .before .before .before .before .before .before .before .before .before .args .sizes) (getD (c .before .before .before .before .before .before .before .before .before .before .before .before .before .before .before .before .before .before .before .before .before .before .before .before .before .before .before .before .before .before .before .before .before .before .before .before .before .before .before .before .before .before .before .before .before .before .before .before .before .before .before .before .before .before .before .before .before .before .before .before .before .before .args .program .frames) (c .before .before .before .before .before .before .before .before .before .before .before .before .before .before .before .before .before .before .before .before .before .before .before .before .before .before .before .before .before .before .before .before .before .before .before .before .before .before .before .before .before .before .before .before .loop .step) noFrame .setting) (at (c .before .before .before .before .before .before .before .before .before .before .before .before .before .before .before .before .before .before .before .before .before .before .before .before .before .before .before .before .before .before .before .before .before .before .before .before .before .before .before .before .before .before .before .before .before .before .before .before .before .before .before .before .before .before .before .before .before .before .before .before .before .before)) (c .before .before .before .before .before .before .before .before .if2 .values)
-  in-pass = passed-column (turn (c .before .before .before .before .before .before .before .before .before .before .before .before .before .before .before .before .before .before .before .before .before .before .before .before .before .before .before .before .before .before .before .before .before .before .before .before .before .before .before .before .before .before) .stands) (inside (turn (c .before .before .before .before .before .before .before .before .before .before .before .before .before .before .before .before .before .before .before .before .before .before .before .before .before .before .before .before .before .before .before .before .before .before .before .before .before .before .before .before .before .before))) (at-step (turn (c .before .before .before .before .before .before .before .before .before .before .before .before .before .before .before .before .before .before .before .before .before .before .before .before .before .before .before .before .before .before .before .before .before .before .before .before .before .before .before .before .before .before)) .setting-is) (entered (c .before .before .before .before .before .before .before .before .before .before .before .before .before .before .before .before .before .before .before .before .before .before .before .before .before .before .before .before .before .before .before .before .before .before .before)) kept through
+  in-pass : HasPass (c .before .before .before .before .before .before .before .before .before .before .before .before .before .before .before .before .before .before .before .before .before .before .before .before .before .before .before .before .before .before .before .before .before .before .before .before .before .before .before .before .before .before .before .before .before .before .before .before .before .before .before .before .before .before .before .args .sizes) (getD (c .before .before .before .before .before .before .before .before .before .before .before .before .before .before .before .before .before .before .before .before .before .before .before .before .before .before .before .before .before .before .before .before .before .before .before .before .before .before .before .before .before .before .before .before .before .before .before .before .before .before .before .before .before .before .before .args .program .frames) (c .before .before .before .before .before .before .before .before .before .before .before .before .before .before .before .before .before .before .before .before .before .before .before .before .before .before .before .before .before .before .before .before .before .before .before .before .before .loop .step) noFrame .setting) (at (c .before .before .before .before .before .before .before .before .before .before .before .before .before .before .before .before .before .before .before .before .before .before .before .before .before .before .before .before .before .before .before .before .before .before .before .before .before .before .before .before .before .before .before .before .before .before .before .before .before .before .before .before .before .before .before)) (c .before .before .before .before .before .before .before .before .if2 .values)
+  in-pass = passed-column (turn (c .before .before .before .before .before .before .before .before .before .before .before .before .before .before .before .before .before .before .before .before .before .before .before .before .before .before .before .before .before .before .before .before .before .before .before) .stands) (inside (turn (c .before .before .before .before .before .before .before .before .before .before .before .before .before .before .before .before .before .before .before .before .before .before .before .before .before .before .before .before .before .before .before .before .before .before .before))) (at-step (turn (c .before .before .before .before .before .before .before .before .before .before .before .before .before .before .before .before .before .before .before .before .before .before .before .before .before .before .before .before .before .before .before .before .before .before .before)) .setting-is) (entered (c .before .before .before .before .before .before .before .before .before .before .before .before .before .before .before .before .before .before .before .before .before .before .before .before .before .before .before .before)) kept through
 
-count-requires : tie.Need-count-requires Inv-loop2 μ-loop2 Inv-loop μ-loop
+count-requires : tie.Need-count-requires Inv-loop2 μ-loop2 Inv-loop3 μ-loop3 Inv-records μ-records Inv-loop μ-loop
 count-requires c κs =
-    let t = turn (c .before .before .before .before .before .before .before .before .before .before .before .before .before .before .before .before .before .before .before .before .before .before .before .before .before .before .before .before .before .before .before .before .before .before .before .before .before .before .before .before .before .before) in
-    let p = prepared (c .before .before .before .before .before .before .before .before .before .before .before .before .before .before .before .before .before .before .before .before .before .before .before) in
+    let t = turn (c .before .before .before .before .before .before .before .before .before .before .before .before .before .before .before .before .before .before .before .before .before .before .before .before .before .before .before .before .before .before .before .before .before .before .before) in
+    let p = prepared (c .before .before .before .before .before .before .before .before .before .before .before .before .before .before .before .before) in
     let few = t .stands .few in
-    let budget = c .before .before .before .before .before .before .before .before .before .before .before .before .before .before .before .before .before .before .before .before .before .before .before .before .before .before .before .before .before .before .before .before .before .before .before .before .before .before .before .before .before .before .before .before .before .before .before .before .before .before .before .before .before .before .before .before .before .before .before .before .before .before .fits .budget .fits in
-    (omega (arith, few .exchanges≤, later (c .before .before .before .before .before .before .before .before .before .before .before .before .before .before .before .before .before .before .before .before .before .before .before .before .before .before .before .before .before .before .before .before .before .before .before .before .before .before .before .before .before .before)), omega (arith, few .messages≤, later (c .before .before .before .before .before .before .before .before .before .before .before .before .before .before .before .before .before .before .before .before .before .before .before .before .before .before .before .before .before .before .before .before .before .before .before .before .before .before .before .before .before .before)), omega (arith, p .gathered .few-exchanges), omega (arith, lines-few t p), omega (arith, writes-turn t p _ (through c .sent-is)))
+    let budget = c .before .before .before .before .before .before .before .before .before .before .before .before .before .before .before .before .before .before .before .before .before .before .before .before .before .before .before .before .before .before .before .before .before .before .before .before .before .before .before .before .before .before .before .before .before .before .before .before .before .before .before .before .before .before .before .fits .budget .fits in
+    (omega (arith, few .exchanges≤, later (c .before .before .before .before .before .before .before .before .before .before .before .before .before .before .before .before .before .before .before .before .before .before .before .before .before .before .before .before .before .before .before .before .before .before .before)), omega (arith, few .messages≤, later (c .before .before .before .before .before .before .before .before .before .before .before .before .before .before .before .before .before .before .before .before .before .before .before .before .before .before .before .before .before .before .before .before .before .before .before)), omega (arith, p .gathered .few-exchanges), omega (arith, lines-few t p), omega (arith, writes-turn t p _ (through c .sent-is)))
 
-add-finished : tie.Need-add-finished Inv-loop2 μ-loop2 Inv-loop μ-loop
-add-finished c = record { fits = omega (arith, later (c .before .before .before .before .before .before .before .before .before .before .before .before .before .before .before .before .before .before .before .before .before .before .before .before .before .before .before .before .before .before .before .before .before .before .before .before .before .before .before .before .before .before .before), c .before .before .before .before .before .before .before .before .before .before .before .before .before .before .before .before .before .before .before .before .before .before .before .before .before .before .before .before .before .before .before .before .before .before .before .before .before .before .before .before .before .before .before .before .before .before .before .before .before .before .before .before .before .before .before .before .before .before .before .before .before .before .before .fits .budget .fits) }
+add-finished : tie.Need-add-finished Inv-loop2 μ-loop2 Inv-loop3 μ-loop3 Inv-records μ-records Inv-loop μ-loop
+add-finished c = record { fits = omega (arith, later (c .before .before .before .before .before .before .before .before .before .before .before .before .before .before .before .before .before .before .before .before .before .before .before .before .before .before .before .before .before .before .before .before .before .before .before .before), c .before .before .before .before .before .before .before .before .before .before .before .before .before .before .before .before .before .before .before .before .before .before .before .before .before .before .before .before .before .before .before .before .before .before .before .before .before .before .before .before .before .before .before .before .before .before .before .before .before .before .before .before .before .before .before .before .fits .budget .fits) }
 
-next-requires : tie.Need-next-requires Inv-loop2 μ-loop2 Inv-loop μ-loop
+next-requires : tie.Need-next-requires Inv-loop2 μ-loop2 Inv-loop3 μ-loop3 Inv-records μ-records Inv-loop μ-loop
 next-requires c κs =
     let r = room (c .before .before .before .before) in (
-      c .before .before .before .before .before .before .before .before .before .before .before .before .before .before .before .before .before .before .before .before .before .before .before .before .before .before .before .before .before .before .before .before .before .before .before .before .before .before .before .before .before .before .before .before .before .before .before .before .before .before .before .before .before .before .before .before .before .before .before .before .before .before .before .before .before .before .pre .0 .valid .limits,
-      c .before .before .before .before .before .before .before .before .commit .kept .0 ∙ c .before .before .before .before .before .before .before .before .before .before .before .before .before .before .before .before .before .before .before .before .before .before .before .before .before .before .before .before .before .before .before .before .before .before .before .before .before .before .before .before .before .before .before .before .before .before .before .before .loop .inv .0 .register .whole,
-      setting-passes (turn (c .before .before .before .before .before .before .before .before .before .before .before .before .before .before .before .before .before .before .before .before .before .before .before .before .before .before .before .before .before .before .before .before .before .before .before .before .before .before .before .before .before .before .before .before .before .before)),
+      c .before .before .before .before .before .before .before .before .before .before .before .before .before .before .before .before .before .before .before .before .before .before .before .before .before .before .before .before .before .before .before .before .before .before .before .before .before .before .before .before .before .before .before .before .before .before .before .before .before .before .before .before .before .before .before .before .before .before .before .pre .0 .valid .limits,
+      c .before .before .before .before .before .before .before .before .commit .kept .0 ∙ c .before .before .before .before .before .before .before .before .before .before .before .before .before .before .before .before .before .before .before .before .before .before .before .before .before .before .before .before .before .before .before .before .before .before .before .before .before .before .before .before .before .loop .inv .0 .register .whole,
+      setting-passes (turn (c .before .before .before .before .before .before .before .before .before .before .before .before .before .before .before .before .before .before .before .before .before .before .before .before .before .before .before .before .before .before .before .before .before .before .before .before .before .before .before)),
       record { values-room = omega (arith, r .values-room); marks-room = omega (arith, r .marks-room) },
       in-pass (c .before .before .before .before),
-      omega (arith, few-steps (c .before .before .before .before .before .before .before .before .before .before .before .before .before .before .before .before .before .before .before .before .before .before .before .before .before .before .before .before .before .before .before .before .before .before .before .before .before .before .before .before .before .before .before .before .before .before .before .before .before .before .before .before .before .before .before .before .before .before .before .before .before .before .before .before .before .before), c .before .before .before .before .before .before .before .before .before .before .before .before .before .before .before .before .before .before .before .before .before .before .before .before .before .before .before .before .before .before .before .before .before .before .before .before .before .before .before .before .before .before .before .before .before .before .before .loop-test .taken),
+      omega (arith, few-steps (c .before .before .before .before .before .before .before .before .before .before .before .before .before .before .before .before .before .before .before .before .before .before .before .before .before .before .before .before .before .before .before .before .before .before .before .before .before .before .before .before .before .before .before .before .before .before .before .before .before .before .before .before .before .before .before .before .before .before .before), c .before .before .before .before .before .before .before .before .before .before .before .before .before .before .before .before .before .before .before .before .before .before .before .before .before .before .before .before .before .before .before .before .before .before .before .before .before .before .before .before .loop-test .taken),
     )
 
-loop-less : tie.Need-loop-less Inv-loop2 μ-loop2 Inv-loop μ-loop
-loop-less c = omega (arith, later (c .before .before .before .before .before .before .before .before .before .before .before .before .before .before .before .before .before .before .before .before .before .before .before .before .before .before .before .before .before .before .before .before .before .before .before .before .before .before .before .before .before .before .before .before .before .before .before))
+loop-less : tie.Need-loop-less Inv-loop2 μ-loop2 Inv-loop3 μ-loop3 Inv-records μ-records Inv-loop μ-loop
+loop-less c = omega (arith, later (c .before .before .before .before .before .before .before .before .before .before .before .before .before .before .before .before .before .before .before .before .before .before .before .before .before .before .before .before .before .before .before .before .before .before .before .before .before .before .before .before))
 
-loop-again : tie.Need-loop-again Inv-loop2 μ-loop2 Inv-loop μ-loop
+loop-again : tie.Need-loop-again Inv-loop2 μ-loop2 Inv-loop3 μ-loop3 Inv-records μ-records Inv-loop μ-loop
 unfolding programOf
 loop-again c =
-    let t = turn (c .before .before .before .before .before .before .before .before .before .before .before .before .before .before .before .before .before .before .before .before .before .before .before .before .before .before .before .before .before .before .before .before .before .before .before .before .before .before .before .before .before .before .before .before .before .before .before) in
-    let p = prepared (c .before .before .before .before .before .before .before .before .before .before .before .before .before .before .before .before .before .before .before .before .before .before .before .before .before .before .before .before) in
+    let t = turn (c .before .before .before .before .before .before .before .before .before .before .before .before .before .before .before .before .before .before .before .before .before .before .before .before .before .before .before .before .before .before .before .before .before .before .before .before .before .before .before .before) in
+    let p = prepared (c .before .before .before .before .before .before .before .before .before .before .before .before .before .before .before .before .before .before .before .before .before) in
     let e = (c .before .before .before .before .before) in
     let went = through e in (
-      stands-next (t .stands) (inside t) (at-step t .setting-is) (entered (c .before .before .before .before .before .before .before .before .before .before .before .before .before .before .before .before .before .before .before .before .before .before .before .before .before .before .before .before .before .before .before .before .before .before .before .before .before .before .before .before)) (kept e) went (later (c .before .before .before .before .before .before .before .before .before .before .before .before .before .before .before .before .before .before .before .before .before .before .before .before .before .before .before .before .before .before .before .before .before .before .before .before .before .before .before .before .before .before .before .before .before .before .before)) (c .before .before .before .before .before .before .before .before .before .before .before .before .before .before .before .before .before .before .before .before .before .before .before .before .before .before .before .before .before .before .before .before .before .before .before .before .before .before .before .before .before .before .before .before .before .before .before .before .before .before .before .before .before .before .before .before .before .before .before .before .before .before .before .before .before .before .before .pre .3) (c .before .before .before .before .before .before .before .before .before .commit .kept .0) (room e)
-          (c .before .before .before .before .before .before .before .before .before .before .before .before .before .before .before .before .before .before .before .before .before .before .before .before .before .before .before .before .before .before .before .before .before .before .before .before .before .before .before .before .enter .ensures .0) (c .next .ensures) (omega arith) (counts-turn t p (went .sent-is) (c .before .before .before .before .count .ensures)) (few-turn t p (went .sent-is) (c .before .before .before .before .count .ensures)),
-      c .before .before .before .before .before .before .before .before .before .before .before .before .before .before .before .before .before .before .before .before .before .before .before .before .before .before .before .before .before .before .before .before .before .before .before .before .before .before .before .before .before .before .before .before .before .loop2 .inv .1,
-      done-same (c .before .before .before .before .before .before .before .before .before .before .before .before .before) .values-length ∙ c .before .before .before .before .before .before .before .before .before .before .before .before .before .before .before .before .before .before .before .before .before .before .before .before .before .before .before .before .gather .kept .1 .0 ∙ c .before .before .before .before .before .before .before .before .before .before .before .before .before .before .before .before .before .before .before .before .before .before .before .before .before .before .before .before .before .before .before .before .before .before .before .before .before .before .before .before .enter .kept .1 .0 ∙ c .before .before .before .before .before .before .before .before .before .before .before .before .before .before .before .before .before .before .before .before .before .before .before .before .before .before .before .before .before .before .before .before .before .before .before .before .before .before .before .before .before .before .before .before .before .before .before .before .before .loop .inv .2,
-      done-same (c .before .before .before .before .before .before .before .before .before .before .before .before .before) .marks-length ∙ c .before .before .before .before .before .before .before .before .before .before .before .before .before .before .before .before .before .before .before .before .before .before .before .before .before .before .before .before .gather .kept .1 .1 .0 ∙ c .before .before .before .before .before .before .before .before .before .before .before .before .before .before .before .before .before .before .before .before .before .before .before .before .before .before .before .before .before .before .before .before .before .before .before .before .before .before .before .before .enter .kept .1 .1 .0 ∙ c .before .before .before .before .before .before .before .before .before .before .before .before .before .before .before .before .before .before .before .before .before .before .before .before .before .before .before .before .before .before .before .before .before .before .before .before .before .before .before .before .before .before .before .before .before .before .before .before .before .loop .inv .3,
+      stands-next (t .stands) (inside t) (at-step t .setting-is) (entered (c .before .before .before .before .before .before .before .before .before .before .before .before .before .before .before .before .before .before .before .before .before .before .before .before .before .before .before .before .before .before .before .before .before)) (kept e) went (later (c .before .before .before .before .before .before .before .before .before .before .before .before .before .before .before .before .before .before .before .before .before .before .before .before .before .before .before .before .before .before .before .before .before .before .before .before .before .before .before .before)) (c .before .before .before .before .before .before .before .before .before .before .before .before .before .before .before .before .before .before .before .before .before .before .before .before .before .before .before .before .before .before .before .before .before .before .before .before .before .before .before .before .before .before .before .before .before .before .before .before .before .before .before .before .before .before .before .before .before .before .before .before .pre .3) (c .before .before .before .before .before .before .before .before .before .commit .kept .0) (room e)
+          (c .before .before .before .before .before .before .before .before .before .before .before .before .before .before .before .before .before .before .before .before .before .before .before .before .before .before .before .before .before .before .before .before .before .enter .ensures .0) (c .next .ensures) (omega arith) (counts-turn t p (went .sent-is) (c .before .before .before .before .count .ensures)) (few-turn t p (went .sent-is) (c .before .before .before .before .count .ensures)),
+      c .before .before .before .before .before .before .before .before .before .before .before .before .before .before .before .before .before .before .before .before .before .before .before .before .before .before .before .before .before .before .before .before .before .before .before .before .before .before .loop2 .inv .1,
+      done-same (c .before .before .before .before .before .before .before .before .before .before .before .before .before) .values-length ∙ c .before .before .before .before .before .before .before .before .before .before .before .before .before .before .before .before .before .before .before .before .before .gather .kept .1 .0 ∙ c .before .before .before .before .before .before .before .before .before .before .before .before .before .before .before .before .before .before .before .before .before .before .before .before .before .before .before .before .before .before .before .before .before .enter .kept .1 .0 ∙ c .before .before .before .before .before .before .before .before .before .before .before .before .before .before .before .before .before .before .before .before .before .before .before .before .before .before .before .before .before .before .before .before .before .before .before .before .before .before .before .before .before .before .loop .inv .2,
+      done-same (c .before .before .before .before .before .before .before .before .before .before .before .before .before) .marks-length ∙ c .before .before .before .before .before .before .before .before .before .before .before .before .before .before .before .before .before .before .before .before .before .gather .kept .1 .1 .0 ∙ c .before .before .before .before .before .before .before .before .before .before .before .before .before .before .before .before .before .before .before .before .before .before .before .before .before .before .before .before .before .before .before .before .before .enter .kept .1 .1 .0 ∙ c .before .before .before .before .before .before .before .before .before .before .before .before .before .before .before .before .before .before .before .before .before .before .before .before .before .before .before .before .before .before .before .before .before .before .before .before .before .before .before .before .before .before .loop .inv .3,
     )
 
-ended-requires-2 : tie.Need-ended-requires-2 Inv-loop2 μ-loop2 Inv-loop μ-loop
+ended-requires-2 : tie.Need-ended-requires-2 Inv-loop2 μ-loop2 Inv-loop3 μ-loop3 Inv-records μ-records Inv-loop μ-loop
 ended-requires-2 c κs = tt
 
-same-length-10 : tie.Need-same-length-10 Inv-loop2 μ-loop2 Inv-loop μ-loop
+same-length-10 : tie.Need-same-length-10 Inv-loop2 μ-loop2 Inv-loop3 μ-loop3 Inv-records μ-records Inv-loop μ-loop
 same-length-10 c = c .before .before .loop .inv .0 .register .whole ∙ sym (c .before .before .before .before .before .before .before .before .before .before .before .before .before .before .before .before .before .before .before .before .pre .0 .whole)
 
-same-length-11 : tie.Need-same-length-11 Inv-loop2 μ-loop2 Inv-loop μ-loop
+same-length-11 : tie.Need-same-length-11 Inv-loop2 μ-loop2 Inv-loop3 μ-loop3 Inv-records μ-records Inv-loop μ-loop
 same-length-11 c = c .before .before .loop .inv .2 ∙ c .before .before .before .before .before .before .before .begin .ensures .1 .values-length
 
-same-length-12 : tie.Need-same-length-12 Inv-loop2 μ-loop2 Inv-loop μ-loop
+same-length-12 : tie.Need-same-length-12 Inv-loop2 μ-loop2 Inv-loop3 μ-loop3 Inv-records μ-records Inv-loop μ-loop
 same-length-12 c = c .before .before .loop .inv .3 ∙ c .before .before .before .before .before .before .before .begin .ensures .1 .marks-length
 
-returns-4 : tie.Need-returns-4 Inv-loop2 μ-loop2 Inv-loop μ-loop
+returns-4 : tie.Need-returns-4 Inv-loop2 μ-loop2 Inv-loop3 μ-loop3 Inv-records μ-records Inv-loop μ-loop
 unfolding programOf
 returns-4 c = rw (c .ended2 .ensures) (stands-complete (c .before .before .loop .inv .0) (omega (arith, c .before .loop-test .left, c .before .before .before .before .before .before .before .before .before .before .before .before .before .before .before .before .before .before .before .before .pre .2 .steps-are)))
 
@@ -401,6 +476,10 @@ run-program-spec =
     (tie.spec
     Inv-loop2
     μ-loop2
+    Inv-loop3
+    μ-loop3
+    Inv-records
+    μ-records
     Inv-loop
     μ-loop
     mul-at
@@ -430,19 +509,31 @@ run-program-spec =
     loop2-again
     enter-requires
     gather-requires
+    records-holds
+    loop3-holds
     values-part-requires-2
     marks-part-requires-2
-    apply-requires
+    mul-apply-rule
+    array-copy-out-apply-rule
+    apply-rule-requires
+    enum-told
+    enum-told-2
+    add-k-2
+    loop3-less
+    loop3-again
+    add-u
+    records-less
+    records-again
     enum-known-stop
     out-of-range-requires
     same-length-4
     same-length-5
     same-length-6
     returns-2
-    enum-told
+    enum-told-3
     values-part-requires-3
     marks-part-requires-3
-    apply-requires-2
+    apply-requires
     commit-requires
     enum-known-total
     out-of-range-requires-2
@@ -450,7 +541,7 @@ run-program-spec =
     same-length-8
     same-length-9
     returns-3
-    enum-told-2
+    enum-told-4
     count-requires
     add-finished
     next-requires
