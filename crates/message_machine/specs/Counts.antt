@@ -26,7 +26,7 @@ heldIn s rs cells = heldAfter s cells (mostRounds (readings rs))
 unfoldable pub byMessages : Sizes → Reader
 byMessages s rs cells u w = knows s cells (heldIn s rs cells) u w
 
--- 1 for a message, 0 for none
+-- 1 for a message, whomever it goes to: "Letters to oneself count."; 0 for none
 unfoldable pub isSent : Cell → ℕ
 isSent Missing = 0
 isSent (Value z) = 1
