@@ -19,36 +19,38 @@ use Rattle.actions.specs.declared.rule.Slot.{Slot}
 use Rattle.rules.specs.Program as P
 use Rattle.rules.specs.Program.{Action, isRemote}
 use Rattle.step_plan.specs.Stored.{testOf, actionOf, ruleOf}
-use Rattle.machine.specs.Value.{both, holds, cellInRange}
+use Rattle.machine.specs.Value.{holds, cellInRange}
 use Rattle.machine.specs.Local.{sumCell, formed, stored, fieldOf, offends}
 use Rattle.machine.specs.Remote.{actionMessages, ruleMessages}
 use Rattle.machine.proofs.Folding.{cond-both, ruleMessages-local}
-use Rattle.evaluate.specs.Answers.{sumAnswer, sumWrite, writeStored, writeOf}
+use Rattle.evaluate.specs.Answers.{cellWrite, sumAnswer, sumWrite, writeStored, writeOf}
 use Rattle.evaluate.specs.declared.rule.Write.{Write}
 use Rattle.evaluate.specs.declared.rule.Write.the-variants as W
-use Rattle.evaluate.specs.declared.term.Pair.{Pair}
-use Rattle.evaluate.specs.declared.term.Pair.the-variants.{Values, Missing as Neither}
-use Rattle.evaluate.proofs.Sides.{both-missing, both-values}
+use Rattle.evaluate.proofs.Sides.{both-first, both-second, both-values}
 
 -- the answer for a sum is that for a sum of any size
 pub sum-answer : (f : ℕ) (z : ℤ) → sumAnswer f (sumOf z) ≡ sumWrite f (Value z)
-unfolding sumOf sumAnswer sumWrite cellInRange
+unfolding sumOf sumAnswer sumWrite cellInRange cellWrite
 sum-answer f z = go (inRange z)
   where
-    go : (t : Bool) → sumAnswer f (cond t (InRange z) OutOfRange) ≡ cond t (W.Store f (Value z)) (W.OutOfRange f)
+    go : (t : Bool) → sumAnswer f (cond t (InRange z) OutOfRange) ≡ cond t (W.Store f z) (W.OutOfRange f)
     go true = refl
     go false = refl
 
--- a sum of two cells, by the answer for them
-module _ (op : ℤ → ℤ → ℤ) (f : ℕ) (x y : Cell) {p : Pair} (e : p ≡ both Neither Values x y) where
-  pub sum-missing : p ≡ Neither → W.Store f Missing ≡ sumWrite f (sumCell op x y)
-  unfolding sumCell sumWrite cellInRange
-  sum-missing q = ap (sumWrite f) (both-missing Missing (λ a b. Value (op a b)) x y e q)
+-- a sum of two cells, one of which may be missing
+module _ (op : ℤ → ℤ → ℤ) (f : ℕ) where
+  pub sum-first : {x : Cell} (y : Cell) → x ≡ Missing → W.Clear f ≡ sumWrite f (sumCell op x y)
+  unfolding sumCell sumWrite cellInRange cellWrite
+  sum-first y e = ap (sumWrite f) (both-first Missing (λ a b. Value (op a b)) y e)
 
-  pub sum-written : {a b : ℤ} {s : Sum} → p ≡ Values a b → mag a < 2147483648 → mag b < 2147483648 → s ≡ sumOf (op (toZ w32 (ofZ w32 a)) (toZ w32 (ofZ w32 b)))
+  pub sum-second : (x : Cell) {y : Cell} → y ≡ Missing → W.Clear f ≡ sumWrite f (sumCell op x y)
+  unfolding sumCell sumWrite cellInRange cellWrite
+  sum-second x e = ap (sumWrite f) (both-second Missing (λ a b. Value (op a b)) x e)
+
+  pub sum-written : {x y : Cell} {a b : ℤ} {s : Sum} → x ≡ Value a → y ≡ Value b → mag a < 2147483648 → mag b < 2147483648 → s ≡ sumOf (op (toZ w32 (ofZ w32 a)) (toZ w32 (ofZ w32 b)))
       → sumAnswer f s ≡ sumWrite f (sumCell op x y)
   unfolding sumCell
-  sum-written q ha hb k = ap (sumAnswer f) k ∙ sum-answer f _ ∙ ap (sumWrite f) (both-values Missing (λ a b. Value (op a b)) x y e q ha hb)
+  sum-written p q ha hb k = ap (sumAnswer f) k ∙ sum-answer f _ ∙ ap (sumWrite f) (both-values Missing (λ a b. Value (op a b)) p q ha hb)
 
 -- what a rule with this action stores where its test holds
 unfoldable pub done : (List ℕ → Cell) → Action → Write

@@ -6,7 +6,7 @@ use Prim.Native.Nat.{ℕ}
 use Rattle.integers.specs.declared.Sum.{Sum}
 use Rattle.integers.specs.declared.Sum.the-variants.{InRange, OutOfRange}
 use Rattle.register.specs.declared.cells.Cell.{Cell}
-use Rattle.register.specs.declared.cells.Cell.the-variants.{Value}
+use Rattle.register.specs.declared.cells.Cell.the-variants.{Missing, Value}
 use Rattle.rules.specs.Program.{Rule}
 use Rattle.machine.specs.declared.message.Message.{Message}
 use Rattle.machine.specs.Value.{holds, cellInRange}
@@ -16,18 +16,23 @@ use Rattle.evaluate.specs.declared.rule.Write.the-variants as W
 use Rattle.evaluate.specs.declared.rule.Sent.{Sent}
 use Rattle.evaluate.specs.declared.rule.Sent.the-variants as S
 
+-- a cell for a field
+unfoldable pub cellWrite : ℕ → Cell → Write
+cellWrite f Missing = W.Clear f
+cellWrite f (Value z) = W.Store f z
+
 -- a sum for a field
 unfoldable pub sumAnswer : ℕ → Sum → Write
-sumAnswer f (InRange z) = W.Store f (Value z)
+sumAnswer f (InRange z) = W.Store f z
 sumAnswer f OutOfRange = W.OutOfRange f
 
 -- the same for a sum of any size, which may be missing
 unfoldable pub sumWrite : ℕ → Cell → Write
-sumWrite f c = cond (cellInRange c) (W.Store f c) (W.OutOfRange f)
+sumWrite f c = cond (cellInRange c) (cellWrite f c) (W.OutOfRange f)
 
 unfoldable pub writeStored : Option (ℕ × Cell) → Write
 writeStored none = W.Nothing
-writeStored (some (f, c)) = W.Store f c
+writeStored (some (f, c)) = cellWrite f c
 
 -- what a rule stores
 unfoldable pub writeOf : (List ℕ → Cell) → Rule → Write

@@ -1,9 +1,11 @@
 -- The scratch buffers (document 01's working arrays) as places that hold cells.
 use mathlib.Core.Path.{_≡_}
 use mathlib.Core.List.{List}
-use Prim.Native.Nat.{ℕ}
+use Prim.Native.Nat.{ℕ, _+_, _≤_, _<_}
 use lib.IntN.{ℤ, pos}
-use lib.ListN.{getD}
+use lib.ListN.{length, getD}
+use mir.Syntax.{w32}
+use mir.Val.{SFits}
 use Rattle.register.specs.Cells.{cellOf}
 use Rattle.register.specs.declared.cells.Cell.{Cell}
 
@@ -15,3 +17,12 @@ placeAt values marks j = cellOf (getD values j (pos 0)) (getD marks j 0)
 pub record Kept (j : ℕ) (values : List ℤ) (marks : List ℕ) (values′ : List ℤ) (marks′ : List ℕ) : Type 0 where
   pub value-is : getD values′ j (pos 0) ≡ getD values j (pos 0)
   pub mark-is : getD marks′ j 0 ≡ getD marks j 0
+
+-- the first n places from `at` on hold the cells c 0, c 1 and so on, in values of 32 bits; every other place is as it was
+pub record StoredFrom (at n : ℕ) (c : ℕ → Cell) (values : List ℤ) (marks : List ℕ) (values′ : List ℤ) (marks′ : List ℕ) : Type 0 where
+  pub values-length : length values′ ≡ length values
+  pub marks-length : length marks′ ≡ length marks
+  pub place-is : (u : ℕ) → u < n → placeAt values′ marks′ (at + u) ≡ c u
+  pub fits : (u : ℕ) → u < n → SFits w32 (getD values′ (at + u) (pos 0))
+  pub before : (j : ℕ) → j < at → Kept j values marks values′ marks′
+  pub behind : (j : ℕ) → at + n ≤ j → Kept j values marks values′ marks′

@@ -1,10 +1,11 @@
 // Places of the scratch buffers (document 01's working arrays), each a value and a mark.
 ghost use mathlib.Core.Path.{_≡_};
-ghost use Prim.Native.Nat.{_<_};
+ghost use Prim.Native.Nat.{_+_, _*_, _≤_, _<_};
 ghost use lib.IntN.{pos};
 ghost use lib.ListN.{length, getD, set};
 ghost use mir.Syntax.{w32};
 ghost use mir.Val.{SFits};
+ghost use Rattle.integers.specs.Bytes.{valueAt};
 ghost use Rattle.register.specs.Cells.{valueOf, markOf};
 ghost use Rattle.evaluate.specs.Places.{placeAt};
 use register::cells::Cell;
@@ -19,12 +20,33 @@ pub fn cell_at(values: &[i64], marks: &[u8], j: usize) -> Cell
     Cell::Value(integers::narrow(values[j]))
 }
 
-fn put(values: &mut [i64], marks: &mut [u8], j: usize, value: i64, mark: u8)
+pub fn put(values: &mut [i64], marks: &mut [u8], j: usize, value: i64, mark: u8)
     requires { ⌜ (j < length (now values)) × (j < length (now marks)) ⌝ }
     ensures { λ _. ⌜ (now (values .exit) ≡ set (now (values .entry)) j value) × (now (marks .exit) ≡ set (now (marks .entry)) j mark) ⌝ }
 {
     values[j] = value;
     marks[j] = mark;
+}
+
+// Cell j of a register's two arrays, copied to place k: its value and its mark, whatever they are.
+pub fn copy_cell(
+    cells: &[u8],
+    filled: &[u8],
+    j: usize,
+    values: &mut [i64],
+    marks: &mut [u8],
+    k: usize,
+)
+    requires { ⌜ (4 * j + 4 ≤ length (now cells)) × (j < length (now filled)) × (k < length (now values)) × (k < length (now marks)) ⌝ }
+    ensures { λ _. ⌜ (now (values .exit) ≡ set (now (values .entry)) k (valueAt (now (cells .entry)) (4 * j))) × (now (marks .exit) ≡ set (now (marks .entry)) k (getD (now (filled .entry)) j 0)) ⌝ }
+{
+    put(
+        values,
+        marks,
+        k,
+        integers::widen(integers::value_at(cells, 4 * j)),
+        filled[j],
+    );
 }
 
 // A missing cell has value 0 and mark 0.

@@ -5,13 +5,14 @@ ghost use lib.IntN.{_+ℤ_, _-ℤ_};
 ghost use Rattle.register.specs.Cells.{cellsOf};
 ghost use Rattle.register.specs.Shape.{Parts};
 ghost use Rattle.rules.specs.Program.{isRemote};
-ghost use Rattle.step_plan.specs.Stored.{ruleOf, actionOf};
+ghost use Rattle.chain.specs.Word.{unpack};
+ghost use Rattle.step_plan.specs.Stored.{ruleOf, actionOf, termOf};
+ghost use Rattle.machine.specs.Value.{termValue};
 ghost use Rattle.machine.specs.Local.{sumCell};
 ghost use Rattle.machine.specs.Remote.{sentTo, ruleMessages};
-ghost use Rattle.evaluate.specs.Located.{located, SlotReaches, Names, Points};
-ghost use Rattle.evaluate.specs.Answers.{sumAnswer, sumWrite, writeOf, messagesIn};
+ghost use Rattle.evaluate.specs.Located.{located, ChainReaches, TermReaches, SlotReaches, Names, Points};
+ghost use Rattle.evaluate.specs.Answers.{cellWrite, sumAnswer, sumWrite, writeOf, messagesIn};
 use crate::term;
-use crate::term::Pair;
 use actions::rule::Rule;
 use actions::rule::Slot;
 use integers::Sum;
@@ -19,11 +20,14 @@ use machine::message::Message;
 use machine::message::Sort;
 use register::Sizes;
 use register::cells::Cell;
+use terms::term::Term;
 
-// A rule stores nothing in its own record, or a cell in a field; or its sum for the field leaves the range.
+// A rule stores nothing in its own record, makes a field missing or stores a value in it; or its sum for the field leaves the
+// range.
 pub enum Write {
     Nothing,
-    Store(u64, Cell),
+    Clear(u64),
+    Store(u64, i32),
     OutOfRange(u64),
 }
 
@@ -46,29 +50,68 @@ fn is_remote(rule: Rule) -> bool
     }
 }
 
+fn write_cell(field: u64, cell: Cell) -> Write
+    ensures { λ r. ⌜ r ≡ cellWrite field cell ⌝ }
+{
+    match cell {
+        Cell::Missing => Write::Clear(field),
+        Cell::Value(value) => Write::Store(field, value),
+    }
+}
+
 fn write_sum(field: u64, sum: Sum) -> Write
     ensures { λ r. ⌜ r ≡ sumAnswer field sum ⌝ }
 {
     match sum {
-        Sum::InRange(value) => Write::Store(field, Cell::Value(value)),
+        Sum::InRange(value) => Write::Store(field, value),
         Sum::OutOfRange => Write::OutOfRange(field),
     }
 }
 
-fn add(field: u64, x: Cell, y: Cell) -> Write
-    ensures { λ r. ⌜ r ≡ sumWrite field (sumCell _+ℤ_ x y) ⌝ }
+// The sum of two terms at record u, for a field.
+fn add(
+    cells: &[u8],
+    filled: &[u8],
+    values: &[i64],
+    marks: &[u8],
+    sizes: Sizes,
+    u: usize,
+    field: u64,
+    x: Term,
+    y: Term,
+) -> Write
+    requires { ⌜ Parts sizes (now cells) (now filled) × (u < sizes .records) × TermReaches sizes (now values) (now marks) u x × TermReaches sizes (now values) (now marks) u y ⌝ }
+    ensures { λ r. ⌜ r ≡ sumWrite field (sumCell _+ℤ_ (termValue (located sizes (cellsOf (now (cells .entry)) (now (filled .entry))) (now (values .entry)) (now (marks .entry)) u) (termOf x)) (termValue (located sizes (cellsOf (now (cells .entry)) (now (filled .entry))) (now (values .entry)) (now (marks .entry)) u) (termOf y))) ⌝ }
 {
-    let Pair::Values(a, b) = term::both(x, y) else {
-        return Write::Store(field, Cell::Missing);
+    let Cell::Value(a) = term::term_value(cells, filled, values, marks, sizes, u, x) else {
+        return Write::Clear(field);
+    };
+    let Cell::Value(b) = term::term_value(cells, filled, values, marks, sizes, u, y) else {
+        return Write::Clear(field);
     };
     write_sum(field, integers::add(a, b))
 }
 
-fn subtract(field: u64, x: Cell, y: Cell) -> Write
-    ensures { λ r. ⌜ r ≡ sumWrite field (sumCell _-ℤ_ x y) ⌝ }
+// Their difference.
+fn subtract(
+    cells: &[u8],
+    filled: &[u8],
+    values: &[i64],
+    marks: &[u8],
+    sizes: Sizes,
+    u: usize,
+    field: u64,
+    x: Term,
+    y: Term,
+) -> Write
+    requires { ⌜ Parts sizes (now cells) (now filled) × (u < sizes .records) × TermReaches sizes (now values) (now marks) u x × TermReaches sizes (now values) (now marks) u y ⌝ }
+    ensures { λ r. ⌜ r ≡ sumWrite field (sumCell _-ℤ_ (termValue (located sizes (cellsOf (now (cells .entry)) (now (filled .entry))) (now (values .entry)) (now (marks .entry)) u) (termOf x)) (termValue (located sizes (cellsOf (now (cells .entry)) (now (filled .entry))) (now (values .entry)) (now (marks .entry)) u) (termOf y))) ⌝ }
 {
-    let Pair::Values(a, b) = term::both(x, y) else {
-        return Write::Store(field, Cell::Missing);
+    let Cell::Value(a) = term::term_value(cells, filled, values, marks, sizes, u, x) else {
+        return Write::Clear(field);
+    };
+    let Cell::Value(b) = term::term_value(cells, filled, values, marks, sizes, u, y) else {
+        return Write::Clear(field);
     };
     write_sum(field, integers::subtract(a, b))
 }
@@ -95,38 +138,54 @@ pub fn local_write(
         return Write::Nothing;
     }
     match rule {
-        Rule::Set(field, x) => Write::Store(
+        Rule::Set(field, x) => write_cell(
             field,
             term::term_value(cells, filled, values, marks, sizes, u, x),
         ),
-        Rule::Sum(field, x, y) => add(
-            field,
-            term::term_value(cells, filled, values, marks, sizes, u, x),
-            term::term_value(cells, filled, values, marks, sizes, u, y),
-        ),
+        Rule::Sum(field, x, y) => add(cells, filled, values, marks, sizes, u, field, x, y),
         Rule::Difference(field, x, y) => subtract(
+            cells,
+            filled,
+            values,
+            marks,
+            sizes,
+            u,
             field,
-            term::term_value(cells, filled, values, marks, sizes, u, x),
-            term::term_value(cells, filled, values, marks, sizes, u, y),
+            x,
+            y,
         ),
         Rule::Least(_, _, _) => Write::Nothing,
         Rule::Total(_, _, _) => Write::Nothing,
     }
 }
 
-// "One whose C or X is unfilled does nothing."
-fn send(sort: Sort, field: u64, target: Cell, amount: Cell) -> Sent
-    requires { ⌜ Names target ⌝ }
-    ensures { λ r. ⌜ messagesIn r ≡ sentTo sort field target amount ⌝ }
+// A write to the record at a chain: "One whose C or X is unfilled does nothing."
+fn send(
+    cells: &[u8],
+    filled: &[u8],
+    values: &[i64],
+    marks: &[u8],
+    sizes: Sizes,
+    u: usize,
+    sort: Sort,
+    field: u64,
+    target: u64,
+    x: Term,
+) -> Sent
+    requires { ⌜ Parts sizes (now cells) (now filled) × (u < sizes .records) × ChainReaches sizes (now values) (now marks) u target × TermReaches sizes (now values) (now marks) u x × Names (located sizes (cellsOf (now cells) (now filled)) (now values) (now marks) u (unpack target)) ⌝ }
+    ensures { λ r. ⌜ messagesIn r ≡ sentTo sort field (located sizes (cellsOf (now (cells .entry)) (now (filled .entry))) (now (values .entry)) (now (marks .entry)) u (unpack target)) (termValue (located sizes (cellsOf (now (cells .entry)) (now (filled .entry))) (now (values .entry)) (now (marks .entry)) u) (termOf x)) ⌝ }
 {
-    let Pair::Values(v, a) = term::both(target, amount) else {
+    let Cell::Value(to) = term::chain_value(cells, filled, values, marks, sizes, u, target) else {
+        return Sent::Nothing;
+    };
+    let Cell::Value(amount) = term::term_value(cells, filled, values, marks, sizes, u, x) else {
         return Sent::Nothing;
     };
     Sent::One(Message {
         sort,
-        target: integers::index(v),
+        target: integers::index(to),
         field,
-        amount: a,
+        amount,
     })
 }
 
@@ -156,14 +215,32 @@ pub fn message_of(
         Rule::Sum(_, _, _) => Sent::Nothing,
         Rule::Difference(_, _, _) => Sent::Nothing,
         Rule::Least(field, target, x) => {
-            let to = term::chain_value(cells, filled, values, marks, sizes, u, target);
-            let amount = term::term_value(cells, filled, values, marks, sizes, u, x);
-            send(Sort::Least, field, to, amount)
+            send(
+                cells,
+                filled,
+                values,
+                marks,
+                sizes,
+                u,
+                Sort::Least,
+                field,
+                target,
+                x,
+            )
         }
         Rule::Total(field, target, x) => {
-            let to = term::chain_value(cells, filled, values, marks, sizes, u, target);
-            let amount = term::term_value(cells, filled, values, marks, sizes, u, x);
-            send(Sort::Total, field, to, amount)
+            send(
+                cells,
+                filled,
+                values,
+                marks,
+                sizes,
+                u,
+                Sort::Total,
+                field,
+                target,
+                x,
+            )
         }
     }
 }

@@ -6,9 +6,8 @@ ghost use Rattle.register.specs.Shape.{Parts};
 ghost use Rattle.chain.specs.Word.{unpack};
 ghost use Rattle.actions.specs.ActionRead.{written};
 ghost use Rattle.step_plan.specs.Stored.{termOf, testOf};
-ghost use Rattle.machine.specs.Value.{both as bothOf, termValue, compare as compareOf, holds as holdsIn, compareCells};
+ghost use Rattle.machine.specs.Value.{termValue, compare as compareOf, holds as holdsIn, compareCells};
 ghost use Rattle.evaluate.specs.Located.{located, ChainReaches, TermReaches, TestReaches};
-ghost use Rattle.evaluate.specs.declared.term.Pair.the-variants.{Values as values-of, Missing as missing};
 use crate::places;
 use actions::rule::Comparison;
 use actions::rule::Test;
@@ -58,24 +57,6 @@ pub fn term_value(
     }
 }
 
-// The values of two cells, where neither is missing.
-pub enum Pair {
-    Values(i32, i32),
-    Missing,
-}
-
-pub fn both(x: Cell, y: Cell) -> Pair
-    ensures { λ r. ⌜ r ≡ bothOf missing values-of x y ⌝ }
-{
-    let Cell::Value(a) = x else {
-        return Pair::Missing;
-    };
-    let Cell::Value(b) = y else {
-        return Pair::Missing;
-    };
-    Pair::Values(a, b)
-}
-
 fn compare(comparison: Comparison, a: i32, b: i32) -> bool
     ensures { λ r. ⌜ r ≡ compareOf (written comparison) a b ⌝ }
 {
@@ -90,7 +71,10 @@ fn compare(comparison: Comparison, a: i32, b: i32) -> bool
 fn compare_cells(x: Cell, comparison: Comparison, y: Cell) -> bool
     ensures { λ r. ⌜ r ≡ compareCells (written comparison) x y ⌝ }
 {
-    let Pair::Values(a, b) = both(x, y) else {
+    let Cell::Value(a) = x else {
+        return false;
+    };
+    let Cell::Value(b) = y else {
         return false;
     };
     compare(comparison, a, b)

@@ -1,16 +1,12 @@
--- Places that are filled: one more record of a line, and one more line of a plan.
+-- Places that are filled: one more line of a plan.
 use Prim.Native.Nat.{ℕ, _+_, _*_, _≤_, _<_}
 use mathlib.Core.Path.{_≡_, refl, ap₂, sym, _∙_}
 use mathlib.Core.List.{List}
-use mathlib.Core.Logic.{_≢_, ⊎-elim}
+use mathlib.Core.Logic.{⊎-elim}
 use native.Mathlib.Nat.{mul-le-mul-right}
 use native.Mathlib.Omega.{arith}
-use lib.IntN.{ℤ, pos}
-use lib.ListN.{length, getD, set, length-set}
-use lib.Seq.{getD-set-same}
-use mir.Syntax.{w32}
-use mir.Val.{SFits}
-use Rattle.register.specs.Cells.{valueOf, markOf}
+use lib.IntN.{ℤ}
+use lib.ListN.{getD}
 use Rattle.register.specs.declared.Sizes.{Sizes}
 use Rattle.register.specs.declared.cells.Cell.{Cell}
 use Rattle.chain.specs.Word.{valueAtRecord}
@@ -20,9 +16,9 @@ use Rattle.plan.specs.declared.key.Kind.{Kind}
 use Rattle.plan.specs.declared.key.Kind.the-variants.{Back, Read}
 use Rattle.plan.proofs.Search.{facts-line}
 use Rattle.plan.specs.Cases.{lt-or-le}
-use Rattle.evaluate.specs.Places.{Kept}
-use Rattle.evaluate.proofs.Placed.{placeAt-set, kept-same, kept-again, kept-other, placeAt-kept}
-use Rattle.fill.specs.Filled.{ReadAt, LineFilled, Filled}
+use Rattle.evaluate.specs.Places.{Kept, StoredFrom}
+use Rattle.evaluate.proofs.Placed.{kept-same, kept-again, placeAt-kept}
+use Rattle.fill.specs.Filled.{ReadAt, Filled}
 
 -- the fact of a kind and a word
 abbrev pub factOf : Kind → List ℕ → Fact
@@ -45,40 +41,6 @@ module _ (s : Sizes) (cells : List Cell) where
       → Kept (i * s .records + u) values marks values′ marks′ → ReadAt s cells w i u values′ marks′
   read-kept r k = record { place-is = placeAt-kept k ∙ r .place-is; fits = rw (k .value-is) (r .fits) }
 
-  module _ (i : ℕ) (w : List ℕ) (values : List ℤ) (marks : List ℕ) where
-    pub line-none : LineFilled s cells i w 0 values marks values marks
-    line-none =
-        record {
-          values-length = refl;
-          marks-length = refl;
-          reads = λ u h. absurd (omega arith);
-          before = λ j h. kept-same;
-          behind = λ j h. kept-same;
-        }
-
-    -- the reading of record k, stored at its place
-    pub line-next : {values′ : List ℤ} {marks′ : List ℕ} (k : ℕ) (c : Cell) → k < s .records → i * s .records + s .records ≤ length values → i * s .records + s .records ≤ length marks
-        → LineFilled s cells i w k values marks values′ marks′ → c ≡ valueAtRecord s cells w k → SFits w32 (valueOf c)
-        → LineFilled s cells i w (k + 1) values marks (set values′ (i * s .records + k) (valueOf c)) (set marks′ (i * s .records + k) (markOf c))
-    line-next {values′} {marks′} k c h room room′ l e fits =
-        let j = i * s .records + k in
-        let other : (j′ : ℕ) → j′ ≢ j → Kept j′ values′ marks′ (set values′ j (valueOf c)) (set marks′ j (markOf c)) = kept-other values′ marks′ j (valueOf c) (markOf c) in
-        let here : j < length values′ = omega (arith, l .values-length) in
-        let here′ : j < length marks′ = omega (arith, l .marks-length) in
-        record {
-          values-length = length-set values′ j (valueOf c) ∙ l .values-length;
-          marks-length = length-set marks′ j (markOf c) ∙ l .marks-length;
-          reads = λ u p.
-              ⊎-elim
-              (λ (b : u < k). read-kept (l .reads u b) (other _ (λ q. omega arith)))
-              (λ (b : k ≤ u).
-              let q : u ≡ k = omega arith in
-              rw q (record { place-is = placeAt-set values′ marks′ j c here here′ ∙ e; fits = rw (getD-set-same values′ j (valueOf c) (pos 0) here) fits }))
-              (lt-or-le u k);
-          before = λ j′ p. kept-again (l .before j′ p) (other _ (λ q. omega arith));
-          behind = λ j′ p. kept-again (l .behind j′ p) (other _ (λ q. omega arith));
-        }
-
   module _ (l : List Fact) (values : List ℤ) (marks : List ℕ) where
     pub plan-none : Filled s cells l 0 values marks values marks
     plan-none = record { values-length = refl; marks-length = refl; reads = λ i u w h. absurd (omega arith); behind = λ j h. kept-same }
@@ -98,8 +60,8 @@ module _ (s : Sizes) (cells : List Cell) where
             behind = λ j h. f .behind j (omega arith);
           }
 
-      pub plan-read : {w : List ℕ} {values″ : List ℤ} {marks″ : List ℕ} → line l k ≡ read w → LineFilled s cells k w (s .records) values′ marks′ values″ marks″
-          → Filled s cells l (k + 1) values marks values″ marks″
+      pub plan-read : {w : List ℕ} {values″ : List ℤ} {marks″ : List ℕ} → line l k ≡ read w
+          → StoredFrom (k * s .records) (s .records) (valueAtRecord s cells w) values′ marks′ values″ marks″ → Filled s cells l (k + 1) values marks values″ marks″
       plan-read {w} {values″} {marks″} e g =
           record {
             values-length = g .values-length ∙ f .values-length;
@@ -110,7 +72,7 @@ module _ (s : Sizes) (cells : List Cell) where
                 (λ (b : k ≤ i).
                 let same : i ≡ k = omega arith in
                 let word-is : v ≡ w = cc in
-                rw (same, word-is) (g .reads u p))
+                rw (same, word-is) (record { place-is = g .place-is u p; fits = g .fits u p }))
                 (lt-or-le i k);
             behind = λ j h. kept-again (f .behind j (omega arith)) (g .behind j (omega arith));
           }

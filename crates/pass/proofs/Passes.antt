@@ -7,11 +7,13 @@ use native.Mathlib.Numerals.{add-one}
 use lib.IntN.{ℤ}
 use Rattle.register.specs.declared.Sizes.{Sizes}
 use Rattle.register.specs.declared.cells.Cell.{Cell}
+use Rattle.chain.specs.Word.{cell}
 use Rattle.rules.specs.declared.around.Setting.{Setting}
 use Rattle.rules.specs.declared.around.Setting.the-variants.{Single, Looped}
 use Rattle.machine.specs.Run.{begins}
-use Rattle.pass.specs.Column.{Column, SameAs, Behind, Entered, NextIs}
-use Rattle.pass.proofs.Standing.{behind-same}
+use Rattle.evaluate.specs.Places.{StoredFrom}
+use Rattle.pass.specs.Column.{SameAs, Entered, NextIs}
+use Rattle.pass.proofs.Standing.{behind-same, behind-stored, column-stored}
 
 module _ {s : Sizes} {g : Setting} {cells : List Cell} {at : ℕ} {values : List ℤ} {marks : List ℕ} (step first : ℕ) where
   -- where no pass begins, the one before goes on
@@ -19,9 +21,9 @@ module _ {s : Sizes} {g : Setting} {cells : List Cell} {at : ℕ} {values : List
   entered-on b = rw b (refl, record { in-pass = λ before h. rw b (h b); behind = behind-same })
 
   -- the first step of a loop keeps the column
-  pub entered-first : {f : ℕ} {begin last : Bool} {values′ : List ℤ} {marks′ : List ℕ} → g ≡ Looped f begin last → begin ≡ true → Column s f cells at values′ marks′
-      → Behind s at values marks values′ marks′ → (step ≡ cond (begins g) step first) × Entered s g cells at values marks values′ marks′
-  entered-first e b k a = rw (e, b) (refl, record { in-pass = λ before h. k; behind = a })
+  pub entered-first : {f : ℕ} {begin last : Bool} {values′ : List ℤ} {marks′ : List ℕ} → g ≡ Looped f begin last → begin ≡ true
+      → StoredFrom at (s .records) (λ u. cell s cells u f) values marks values′ marks′ → (step ≡ cond (begins g) step first) × Entered s g cells at values marks values′ marks′
+  entered-first e b k = rw (e, b) (refl, record { in-pass = λ before h. column-stored _ _ _ _ k; behind = behind-stored k })
 
   -- outside a loop, or before its last step, the step behind is next
   pub next-single : g ≡ Single → NextIs s g cells at values marks step first (step + 1)

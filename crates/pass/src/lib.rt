@@ -12,30 +12,12 @@ ghost use Rattle.rules.specs.Passed.{SettingPasses};
 ghost use Rattle.machine.specs.Run.{sameCell as sameCellOf, begins};
 ghost use Rattle.pass.specs.Column.{Space, HasColumn, Column, SameAs, HasPass, Behind, Entered, NextIs};
 use chain::follow;
+use evaluate::column;
 use evaluate::places;
 use register::Sizes;
 use register::cells;
 use register::cells::Cell;
 use rules::around::Setting;
-
-// Keeps the column of a field.
-fn keep(
-    cells: &[u8],
-    filled: &[u8],
-    values: &mut [i64],
-    marks: &mut [u8],
-    sizes: Sizes,
-    at: usize,
-    field: u64,
-)
-    requires { ⌜ Parts sizes (now cells) (now filled) × (hasField sizes field ≡ true) × Space sizes at (now values) (now marks) ⌝ }
-    ensures { λ _. ⌜ Column sizes field (cellsOf (now (cells .entry)) (now (filled .entry))) at (now (values .exit)) (now (marks .exit)) × Behind sizes at (now (values .entry)) (now (marks .entry)) (now (values .exit)) (now (marks .exit)) ⌝ }
-{
-    for u in 0..sizes.records {
-        let cell = follow::cell_of(cells, filled, sizes, u, field as usize);
-        places::put_cell(values, marks, at + u, cell);
-    }
-}
 
 // "The same, values and marks".
 fn same_cell(x: Cell, y: Cell) -> bool
@@ -98,7 +80,7 @@ pub fn enter(
             if is_first {
                 let cells = cells::values_part(file, sizes);
                 let filled = cells::marks_part(file, sizes);
-                keep(cells, filled, values, marks, sizes, at, field);
+                column::copy_column(cells, filled, values, marks, sizes, at, field as usize);
                 return step;
             }
             first

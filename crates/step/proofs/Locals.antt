@@ -27,13 +27,13 @@ use Rattle.step_plan.specs.Stored.{ruleOf, rulesIn}
 use Rattle.machine.specs.Local.{fieldOf, offends, localRule, localRules, localRecords, sumOffends}
 use Rattle.machine.proofs.Folding.{localRules-more, localRules-length, localRecords-length, sumOffends-more}
 use Rattle.evaluate.specs.Located.{located}
-use Rattle.evaluate.specs.Answers.{writeOf}
-use Rattle.evaluate.specs.declared.rule.Write.the-variants.{Nothing, Store, OutOfRange}
+use Rattle.evaluate.specs.Answers.{cellWrite, writeOf}
+use Rattle.evaluate.specs.declared.rule.Write.the-variants.{Nothing, OutOfRange}
 use Rattle.step.specs.Work.{Room, Holds, Same, Put, Small}
 use Rattle.step.specs.Ready.{reads, Ready, AllReady, LocalRule, LocalDone, LocalStops}
 use Rattle.step.specs.declared.local.Stop.the-variants.{Nowhere, At}
-use Rattle.step.proofs.Working.{same-refl, same-then, put-stored, same-put, holds-put, small-put}
-use Rattle.step.proofs.Writing.{told}
+use Rattle.step.proofs.Working.{same-refl, same-then, same-put, holds-put, small-put}
+use Rattle.step.proofs.Writing.{told, told-cell}
 
 -- one of many
 each-at : {A : Type 0} (P : A → Type 0) (l : List A) (k : ℕ) (d : A) → k < length l → Each P l → P (getD l k d)
@@ -57,20 +57,19 @@ module _ (s : Sizes) (cells : List Cell) (base u : ℕ) (r : Rule) (values : Lis
       (same-refl, record { row = refl; column-is = ap (column s) (t .field-is); out-of-range = t .out-of-range })
 
   -- the field that it stores to, or whose sum it forms
-  pub stores-field : {f : ℕ} {c : Cell} → writeOf read r ≡ Store f c → hasField s (fieldOf (r .action)) ≡ true → hasField s f ≡ true
-  stores-field e h = ap (hasField s) (told read r e .field-is) ∙ h
+  pub stores-field : (f : ℕ) (c : Cell) → writeOf read r ≡ cellWrite f c → hasField s (fieldOf (r .action)) ≡ true → hasField s f ≡ true
+  stores-field f c e h = ap (hasField s) (told-cell read r f c e .field-is) ∙ h
 
   pub offends-field : {f : ℕ} → writeOf read r ≡ OutOfRange f → hasField s (fieldOf (r .action)) ≡ true → hasField s f ≡ true
   offends-field e h = ap (hasField s) (told read r e .field-is) ∙ h
 
-  pub rule-stores : {f : ℕ} {c : Cell} {j : ℕ} {values′ : List ℤ} {marks′ : List ℕ} → writeOf read r ≡ Store f c → Limits s → u < s .records
-      → hasField s (fieldOf (r .action)) ≡ true → Room base (cellCount s) values marks → j ≡ base + cellIndex s u (column s f)
-      → values′ ≡ set values j (valueOf c) → marks′ ≡ set marks j (markOf c) → SFits w32 (valueOf c) → LocalRule s cells base u r values marks values′ marks′ Nowhere
-  rule-stores {f} {c} {j} {values′} {marks′} e limits row field room at v m fits =
-      let t = told read r e in
+  pub rule-stores : (f : ℕ) (c : Cell) {values′ : List ℤ} {marks′ : List ℕ} → writeOf read r ≡ cellWrite f c → Limits s → u < s .records
+      → hasField s (fieldOf (r .action)) ≡ true → Room base (cellCount s) values marks → Put (base + cellIndex s u (column s f)) c values marks values′ marks′ → SFits w32 (valueOf c)
+      → LocalRule s cells base u r values marks values′ marks′ Nowhere
+  rule-stores f c e limits row field room p fits =
+      let t = told-cell read r f c e in
       let k = cellIndex s u (column s f) in
-      let below : k < cellCount s = cellIndex-below s u (column s f) row (column-below s limits f (stores-field e field)) in
-      let p : Put (base + k) c values marks values′ marks′ = subst (λ (i : ℕ). Put i c values marks values′ marks′) at (put-stored v m) in (
+      let below : k < cellCount s = cellIndex-below s u (column s f) row (column-below s limits f (stores-field f c e field)) in (
         same-put base k p,
         record {
           in-range = t .in-range;

@@ -1,5 +1,5 @@
 -- The working cells as places are stored to: which cells the buffers then hold, and how large their values are.
-use Prim.Native.Nat.{ℕ, _+_, _≤_, _<_}
+use Prim.Native.Nat.{ℕ, _+_, _*_, _≤_, _<_}
 use mathlib.Core.Path.{_≡_, refl, sym, ap, ap₂, _∙_}
 use mathlib.Core.Logic.{_≢_}
 use mathlib.Core.List.{List}
@@ -11,7 +11,8 @@ use lib.Seq.{getD-set-same, getD-set-other, set-getD, take-set-le}
 use lib.Signed.{mag}
 use mir.Syntax.{w32}
 use mir.Val.{SFits}
-use Rattle.register.specs.Cells.{valueOf, markOf, cellOf}
+use Rattle.integers.specs.Bytes.{valueAt}
+use Rattle.register.specs.Cells.{valueOf, markOf, cellOf, cellAt}
 use Rattle.register.specs.declared.cells.Cell.{Cell}
 use Rattle.register.specs.declared.cells.Cell.the-variants.{Missing}
 use Rattle.register.proofs.Arrays.{cellOf-kept}
@@ -47,6 +48,18 @@ put-stored {c} v m = record {
   values-are = v;
   marks-are = m;
   cell-is = cellOf-kept c;
+}
+
+-- a cell of the register is copied
+pub put-copied : (cells filled : List ℕ) (k : ℕ) {j : ℕ} {values values′ : List ℤ} {marks marks′ : List ℕ} → values′ ≡ set values j (valueAt cells (4 * k)) → marks′ ≡ set marks j (getD filled k 0)
+    → Put j (cellAt cells filled k) values marks values′ marks′
+unfolding cellAt
+put-copied cells filled k v m = record {
+  value = valueAt cells (4 * k);
+  mark = getD filled k 0;
+  values-are = v;
+  marks-are = m;
+  cell-is = refl;
 }
 
 -- a place keeps its cell

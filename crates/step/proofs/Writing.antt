@@ -9,14 +9,15 @@ use lib.ListN.{set}
 use Rattle.register.specs.File.{cellIndex}
 use Rattle.register.specs.declared.Sizes.{Sizes}
 use Rattle.register.specs.declared.cells.Cell.{Cell}
+use Rattle.register.specs.declared.cells.Cell.the-variants.{Missing, Value}
 use Rattle.chain.specs.Word.{column}
 use Rattle.rules.specs.Program as P
 use Rattle.rules.specs.Program.{Rule, Action}
 use Rattle.machine.specs.Value.{holds}
 use Rattle.machine.specs.Local.{stored, fieldOf, store, offends, localRule}
-use Rattle.evaluate.specs.Answers.{writeStored, writeOf}
+use Rattle.evaluate.specs.Answers.{cellWrite, writeStored, writeOf}
 use Rattle.evaluate.specs.declared.rule.Write.{Write}
-use Rattle.evaluate.specs.declared.rule.Write.the-variants.{Nothing, Store, OutOfRange}
+use Rattle.evaluate.specs.declared.rule.Write.the-variants.{Nothing, Clear, Store, OutOfRange}
 
 -- the rule stores nothing
 pub record Idles (read : List ℕ → Cell) (r : Rule) : Type 0 where
@@ -36,7 +37,8 @@ pub record Offends (read : List ℕ → Cell) (r : Rule) (f : ℕ) : Type 0 wher
 
 abbrev pub Tells : (List ℕ → Cell) → Rule → Write → Type 0
 Tells read r Nothing = Idles read r
-Tells read r (Store f c) = Stores read r f c
+Tells read r (Clear f) = Stores read r f Missing
+Tells read r (Store f z) = Stores read r f (Value z)
 Tells read r (OutOfRange f) = Offends read r f
 
 -- the field that is stored to is the rule's
@@ -64,12 +66,14 @@ module _ (read : List ℕ → Cell) (r : Rule) where
 
   tells : (o h : Bool) (x : Option (ℕ × Cell)) → offends read r ≡ o → holds read (r .test) ≡ h → stored read (r .action) ≡ x
       → Tells read r (cond o (OutOfRange (fieldOf (r .action))) (cond h (writeStored x) Nothing))
-  unfolding writeStored store
+  unfolding writeStored cellWrite store
   tells true h x p q k = record { out-of-range = p; field-is = refl }
   tells false false x p q k = record { in-range = p; cells-are = idle q }
   tells false true none p q k = record { in-range = p; cells-are = done q none k }
-  tells false true (some (f, c)) p q k =
-      record { in-range = p; field-is = stored-field read (r .action) k; cells-are = done q (some (f, c)) k }
+  tells false true (some (f, Missing)) p q k =
+      record { in-range = p; field-is = stored-field read (r .action) k; cells-are = done q (some (f, Missing)) k }
+  tells false true (some (f, Value z)) p q k =
+      record { in-range = p; field-is = stored-field read (r .action) k; cells-are = done q (some (f, Value z)) k }
 
   pub write-tells : Tells read r (writeOf read r)
   unfolding writeOf
@@ -77,3 +81,9 @@ module _ (read : List ℕ → Cell) (r : Rule) where
 
   pub told : {w : Write} → writeOf read r ≡ w → Tells read r w
   told e = subst (Tells read r) e write-tells
+
+  -- a cell, missing or not
+  pub told-cell : (f : ℕ) (c : Cell) → writeOf read r ≡ cellWrite f c → Stores read r f c
+  unfolding cellWrite
+  told-cell f Missing e = told e
+  told-cell f (Value z) e = told e

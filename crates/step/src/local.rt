@@ -1,10 +1,14 @@
 // A local rule of a step at one record.
-ghost use Prim.Native.Nat.{_<_};
+ghost use mathlib.Core.Path.{_≡_};
+ghost use mathlib.Core.Bool.{true};
+ghost use Prim.Native.Nat.{_+_, _<_};
 ghost use lib.ListN.{length, take};
-ghost use Rattle.register.specs.Cells.{cellsOf};
-ghost use Rattle.register.specs.Shape.{Parts};
+ghost use Rattle.register.specs.Cells.{cellOf, cellsOf};
+ghost use Rattle.register.specs.File.{cellCount, cellIndex};
+ghost use Rattle.register.specs.Shape.{Limits, Parts};
+ghost use Rattle.chain.specs.Word.{hasField, column as columnOf};
 ghost use Rattle.step_plan.specs.Stored.{ruleOf};
-ghost use Rattle.step.specs.Work.{Room};
+ghost use Rattle.step.specs.Work.{Room, Put};
 ghost use Rattle.step.specs.Ready.{Ready, LocalRule};
 use crate::work;
 use actions::rule::Slot;
@@ -18,6 +22,24 @@ use register::Sizes;
 pub enum Stop {
     Nowhere,
     At(usize, usize),
+}
+
+// Stores a value and a mark in the working cell of record u and a field.
+fn store(
+    values: &mut [i64],
+    marks: &mut [u8],
+    sizes: Sizes,
+    base: usize,
+    u: usize,
+    field: u64,
+    value: i64,
+    mark: u8,
+)
+    requires { ⌜ Limits sizes × (u < sizes .records) × (hasField sizes field ≡ true) × Room base (cellCount sizes) (now values) (now marks) ⌝ }
+    ensures { λ _. ⌜ Put (base + cellIndex sizes u (columnOf sizes field)) (cellOf value mark) (now (values .entry)) (now (marks .entry)) (now (values .exit)) (now (marks .exit)) ⌝ }
+{
+    let place = work::place(sizes, base, u, field);
+    places::put(values, marks, place, value, mark);
 }
 
 // One rule at record u.
@@ -44,8 +66,13 @@ pub fn apply_rule(
         slot,
     ) {
         Write::Nothing => Stop::Nowhere,
-        Write::Store(field, cell) => {
-            places::put_cell(values, marks, work::place(sizes, base, u, field), cell);
+        Write::Clear(field) => {
+            store(values, marks, sizes, base, u, field, 0, 0);
+            Stop::Nowhere
+        }
+        Write::Store(field, value) => {
+            let wide = integers::widen(value);
+            store(values, marks, sizes, base, u, field, wide, 1);
             Stop::Nowhere
         }
         Write::OutOfRange(field) => Stop::At(u, follow::column(sizes, field as usize)),

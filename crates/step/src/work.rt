@@ -16,7 +16,6 @@ use chain::follow;
 use evaluate::places;
 use machine::message::Sort;
 use register::Sizes;
-use register::cells;
 use register::cells::Cell;
 
 // They begin as the register's cells.
@@ -25,7 +24,7 @@ pub fn begin(cells: &[u8], filled: &[u8], values: &mut [i64], marks: &mut [u8], 
     ensures { λ _. ⌜ Holds base (cellsOf (now (cells .entry)) (now (filled .entry))) (now (values .exit)) (now (marks .exit)) × Same base (now (values .entry)) (now (marks .entry)) (now (values .exit)) (now (marks .exit)) ⌝ }
 {
     for j in 0..filled.len() {
-        places::put_cell(values, marks, base + j, cells::cell_at(cells, filled, j));
+        places::copy_cell(cells, filled, j, values, marks, base + j);
     }
 }
 

@@ -7,7 +7,7 @@ use mathlib.Core.Logic.{⊎-elim}
 use native.Mathlib.Nat.{mul-le-mul-right}
 use native.Mathlib.Omega.{arith}
 use borrow.Author.Needs.{needs}
-use lib.ListN.{getD}
+use lib.ListN.{length, getD}
 use denote.Ref.{now}
 use Rattle.register.specs.Cells.{cellsOf}
 use Rattle.plan.specs.Plan.{word, line}
@@ -16,6 +16,7 @@ use Rattle.plan.specs.declared.key.Kind.{Kind}
 use Rattle.plan.proofs.Search.{facts-length}
 use Rattle.fill.specs.Filled.{Filled}
 use Rattle.fill.proofs.Filling.{factOf, line-by-key, plan-none, plan-back, plan-read}
+use Rattle.fill.proofs.Hopping.{two-hops}
 use Rattle.fill.proofs.fill.Statement.{statement}
 use Rattle.fill.proofs.fill.Tie as tie
 
@@ -67,8 +68,15 @@ fill-line-requires c κs =
     let listed : at k .loop .i < start k .args .count = omega arith in
     let room = mul-le-mul-right (start k .args .sizes .records) listed in
     let count-is = facts-length (now (start k .args .keys)) (start k .args .count) (omega arith) in
-    let follows = pre .3 .each (at k .loop .i) _ (omega (arith, count-is)) (this-line k (c .before .before .before .enum-told2 .given .1) (c .chain-of .ensures)) in
-    (pre .0, pre .1, follows, omega (arith, room, inv .values-length), omega (arith, room, inv .marks-length))
+    let this = this-line k (c .before .before .before .enum-told2 .given .1) (c .chain-of .ensures) in
+    let inside : at k .loop .i < length (facts-in (now (start k .args .keys)) (start k .args .count)) = omega (arith, count-is) in (
+      pre .0,
+      pre .1,
+      pre .3 .each (at k .loop .i) _ inside this,
+      two-hops _ (pre .3 .two (at k .loop .i) _ inside this),
+      omega (arith, room, inv .values-length),
+      omega (arith, room, inv .marks-length),
+    )
 
 add-i : tie.Need-add-i Inv-loop μ-loop
 add-i c = omega arith

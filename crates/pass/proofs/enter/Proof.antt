@@ -23,10 +23,16 @@ values-part-requires c κs = search needs
 marks-part-requires : tie.Need-marks-part-requires
 marks-part-requires c κs = search needs
 
-keep-requires : tie.Need-keep-requires
-keep-requires c κs =
-    rw (c .before .before .before .values-part .ensures, c .before .before .marks-part .ensures)
-    (file-parts (now (c .before .before .before .before .before .before .before .before .before .before .args .file)) (c .before .before .before .before .before .before .before .before .before .before .args .sizes) (c .before .before .before .before .before .before .before .before .before .before .pre .0) (c .before .before .before .before .before .before .before .before .before .before .pre .1), subst (SettingPasses (c .before .before .before .before .before .before .before .before .before .before .args .sizes)) (c .before .before .before .before .before .before .setting .given .1) (c .before .before .before .before .before .before .before .before .before .before .pre .2), c .before .before .before .before .before .before .before .before .before .before .pre .3)
+copy-column-requires : tie.Need-copy-column-requires
+copy-column-requires c κs =
+    let k = c .before .before .before .before .before .before in
+    let s = k .before .before .before .before in
+    rw (c .before .before .before .values-part .ensures, c .before .before .marks-part .ensures) (
+      file-parts (now (s .args .file)) (s .args .sizes) (s .pre .0) (s .pre .1),
+      subst (SettingPasses (s .args .sizes)) (k .setting .given .1) (s .pre .2),
+      s .pre .3 .values-room,
+      s .pre .3 .marks-room,
+    )
 
 same-length : tie.Need-same-length
 same-length c = search needs
@@ -37,8 +43,10 @@ same-length-2 c = search needs
 returns : tie.Need-returns
 unfolding cellsOfFile
 returns c =
-    let kept = rw (c .before .before .before .before .before .before .before .values-part .ensures, c .before .before .before .before .before .before .marks-part .ensures) at (c .before .before .before .keep .ensures) in
-    entered-first _ _ (c .before .before .before .before .before .before .before .before .before .before .setting .given .1) (c .before .before .before .before .before .before .before .before .if1 .taken) (kept .0) (kept .1)
+    let p = c .before .before .before in
+    let m = p .before .before .before in
+    let i = m .before .before in
+    entered-first _ _ (i .before .before .setting .given .1) (i .if1 .taken) (rw (m .before .values-part .ensures, m .marks-part .ensures) at (p .copy-column .ensures))
 
 returns-2 : tie.Need-returns-2
 returns-2 c = entered-on _ _ (ap begins (c .enum-told .given .1))
@@ -54,7 +62,7 @@ enter-spec =
     enum-known-setting
     values-part-requires
     marks-part-requires
-    keep-requires
+    copy-column-requires
     same-length
     same-length-2
     returns

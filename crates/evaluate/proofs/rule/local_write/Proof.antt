@@ -29,37 +29,26 @@ term-value-requires c κs =
     let s = c .before .before .before .before .before .before .before .before .before .before in
     (s .pre .0, s .pre .1, rw (c .before .rule .given .1) at (s .pre .2 .rule))
 
+write-cell-requires : tie.Need-write-cell-requires
+write-cell-requires c κs = search needs
+
 enum-known-rule-2 : tie.Need-enum-known-rule-2
 enum-known-rule-2 c = search needs
 
-term-value-requires-2 : tie.Need-term-value-requires-2
-term-value-requires-2 c κs =
-    let s = c .before .before .before .before .before .before .before .before .before .before in
-    (s .pre .0, s .pre .1, (rw (c .before .rule2 .given .1) at (s .pre .2 .rule)) .0)
-
-term-value-requires-3 : tie.Need-term-value-requires-3
-term-value-requires-3 c κs =
-    let s = c .before .before .before .before .before .before .before .before .before .before .before in
-    (s .pre .0, s .pre .1, (rw (c .before .before .rule2 .given .1) at (s .pre .2 .rule)) .1)
-
 add-requires : tie.Need-add-requires
-add-requires c κs = search needs
+add-requires c κs =
+    let s = c .before .before .before .before .before .before .before .before .before .before in
+    let reaches = rw (c .before .rule2 .given .1) at (s .pre .2 .rule) in
+    (s .pre .0, s .pre .1, reaches .0, reaches .1)
 
 enum-known-rule-3 : tie.Need-enum-known-rule-3
 enum-known-rule-3 c = search needs
 
-term-value-requires-4 : tie.Need-term-value-requires-4
-term-value-requires-4 c κs =
-    let s = c .before .before .before .before .before .before .before .before .before .before in
-    (s .pre .0, s .pre .1, (rw (c .before .rule3 .given .1) at (s .pre .2 .rule)) .0)
-
-term-value-requires-5 : tie.Need-term-value-requires-5
-term-value-requires-5 c κs =
-    let s = c .before .before .before .before .before .before .before .before .before .before .before in
-    (s .pre .0, s .pre .1, (rw (c .before .before .rule3 .given .1) at (s .pre .2 .rule)) .1)
-
 subtract-requires : tie.Need-subtract-requires
-subtract-requires c κs = search needs
+subtract-requires c κs =
+    let s = c .before .before .before .before .before .before .before .before .before .before in
+    let reaches = rw (c .before .rule3 .given .1) at (s .pre .2 .rule) in
+    (s .pre .0, s .pre .1, reaches .0, reaches .1)
 
 enum-told : tie.Need-enum-told
 enum-told c = search needs
@@ -70,25 +59,23 @@ enum-told-2 c = search needs
 returns-3 : tie.Need-returns-3
 unfolding actionOf done formed stored writeStored fieldOf cellInRange
 returns-3 c =
-    let r = c .before .before in
+    let r = c .before .before .before in
     let e = r .before .before in
-    rw (c .term-value .ensures) (write-done _ _ (e .before .holds .ensures) (e .if2 .left) (r .rule .given .1))
+    rw (c .write-cell .ensures, c .before .term-value .ensures) (write-done _ _ (e .before .holds .ensures) (e .if2 .left) (r .rule .given .1))
 
 returns-4 : tie.Need-returns-4
 unfolding actionOf done formed stored writeStored fieldOf sumWrite
 returns-4 c =
-    let r = c .before .before .before .before in
+    let r = c .before .before in
     let e = r .before .before in
-    rw (c .add .ensures, c .before .before .term-value2 .ensures, c .before .term-value3 .ensures)
-    (write-done _ _ (e .before .holds .ensures) (e .if2 .left) (r .rule2 .given .1))
+    rw (c .add .ensures) (write-done _ _ (e .before .holds .ensures) (e .if2 .left) (r .rule2 .given .1))
 
 returns-5 : tie.Need-returns-5
 unfolding actionOf done formed stored writeStored fieldOf sumWrite
 returns-5 c =
-    let r = c .before .before .before .before in
+    let r = c .before .before in
     let e = r .before .before in
-    rw (c .subtract .ensures, c .before .before .term-value4 .ensures, c .before .term-value5 .ensures)
-    (write-done _ _ (e .before .holds .ensures) (e .if2 .left) (r .rule3 .given .1))
+    rw (c .subtract .ensures) (write-done _ _ (e .before .holds .ensures) (e .if2 .left) (r .rule3 .given .1))
 
 returns-6 : tie.Need-returns-6
 unfolding actionOf done formed stored writeStored fieldOf cellInRange
@@ -112,13 +99,10 @@ local-write-spec =
     returns-2
     enum-known-rule
     term-value-requires
+    write-cell-requires
     enum-known-rule-2
-    term-value-requires-2
-    term-value-requires-3
     add-requires
     enum-known-rule-3
-    term-value-requires-4
-    term-value-requires-5
     subtract-requires
     enum-told
     enum-told-2

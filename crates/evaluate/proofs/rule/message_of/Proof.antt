@@ -1,10 +1,8 @@
 -- `evaluate::rule::message_of` meets its contract.
 -- Assumes nothing.
-use mathlib.Core.Path.{sym, ap₂, subst, _∙_}
+use mathlib.Core.Path.{_∙_}
 use Rattle.step_plan.specs.Stored.{actionOf}
-use Rattle.machine.specs.Remote.{sentTo, actionMessages}
-use Rattle.machine.specs.declared.message.Sort.the-variants.{Least, Total}
-use Rattle.evaluate.specs.Located.{Names}
+use Rattle.machine.specs.Remote.{actionMessages}
 use Rattle.evaluate.specs.Answers.{messagesIn}
 use Rattle.evaluate.proofs.Answering.{send-local, send-nothing, send-done}
 use borrow.Author.Needs.{needs}
@@ -37,40 +35,22 @@ enum-told-3 c = search needs
 enum-known-rule : tie.Need-enum-known-rule
 enum-known-rule c = search needs
 
-chain-value-requires : tie.Need-chain-value-requires
-chain-value-requires c κs =
-    let s = c .before .before .before .before .before .before .before .before .before .before in
-    (s .pre .0, s .pre .1, (rw (c .before .rule .given .1) at (s .pre .2 .rule)) .0)
-
-term-value-requires : tie.Need-term-value-requires
-term-value-requires c κs =
-    let s = c .before .before .before .before .before .before .before .before .before .before .before in
-    (s .pre .0, s .pre .1, (rw (c .before .before .rule .given .1) at (s .pre .2 .rule)) .1)
-
 send-requires : tie.Need-send-requires
 unfolding actionOf
 send-requires c κs =
-    let r = c .before .before .before in
-    subst Names (sym (c .before .chain-value .ensures)) (rw (r .rule .given .1) at (r .before .before .before .before .before .before .before .before .before .pre .3))
+    let s = c .before .before .before .before .before .before .before .before .before .before in
+    let reaches = rw (c .before .rule .given .1) at (s .pre .2 .rule) in
+    (s .pre .0, s .pre .1, reaches .0, reaches .1, rw (c .before .rule .given .1) at (s .pre .3))
 
 enum-known-rule-2 : tie.Need-enum-known-rule-2
 enum-known-rule-2 c = search needs
 
-chain-value-requires-2 : tie.Need-chain-value-requires-2
-chain-value-requires-2 c κs =
-    let s = c .before .before .before .before .before .before .before .before .before .before in
-    (s .pre .0, s .pre .1, (rw (c .before .rule2 .given .1) at (s .pre .2 .rule)) .0)
-
-term-value-requires-2 : tie.Need-term-value-requires-2
-term-value-requires-2 c κs =
-    let s = c .before .before .before .before .before .before .before .before .before .before .before in
-    (s .pre .0, s .pre .1, (rw (c .before .before .rule2 .given .1) at (s .pre .2 .rule)) .1)
-
 send-requires-2 : tie.Need-send-requires-2
 unfolding actionOf
 send-requires-2 c κs =
-    let r = c .before .before .before in
-    subst Names (sym (c .before .chain-value2 .ensures)) (rw (r .rule2 .given .1) at (r .before .before .before .before .before .before .before .before .before .pre .3))
+    let s = c .before .before .before .before .before .before .before .before .before .before in
+    let reaches = rw (c .before .rule2 .given .1) at (s .pre .2 .rule) in
+    (s .pre .0, s .pre .1, reaches .0, reaches .1, rw (c .before .rule2 .given .1) at (s .pre .3))
 
 returns-3 : tie.Need-returns-3
 unfolding actionOf actionMessages messagesIn
@@ -93,18 +73,16 @@ returns-5 c =
 returns-6 : tie.Need-returns-6
 unfolding actionOf actionMessages
 returns-6 c =
-    let r = c .before .before .before .before in
+    let r = c .before .before in
     let e = r .before .before in
-    c .send .ensures ∙ ap₂ (sentTo Least _) (c .before .before .chain-value .ensures) (c .before .term-value .ensures)
-    ∙ send-done _ _ (e .before .holds .ensures) (e .if2 .left) (r .rule .given .1)
+    c .send .ensures ∙ send-done _ _ (e .before .holds .ensures) (e .if2 .left) (r .rule .given .1)
 
 returns-7 : tie.Need-returns-7
 unfolding actionOf actionMessages
 returns-7 c =
-    let r = c .before .before .before .before in
+    let r = c .before .before in
     let e = r .before .before in
-    c .send2 .ensures ∙ ap₂ (sentTo Total _) (c .before .before .chain-value2 .ensures) (c .before .term-value2 .ensures)
-    ∙ send-done _ _ (e .before .holds .ensures) (e .if2 .left) (r .rule2 .given .1)
+    c .send2 .ensures ∙ send-done _ _ (e .before .holds .ensures) (e .if2 .left) (r .rule2 .given .1)
 
 pub message-of-spec : {M : Type 1} → statement M
 message-of-spec =
@@ -118,12 +96,8 @@ message-of-spec =
     enum-told-2
     enum-told-3
     enum-known-rule
-    chain-value-requires
-    term-value-requires
     send-requires
     enum-known-rule-2
-    chain-value-requires-2
-    term-value-requires-2
     send-requires-2
     returns-3
     returns-4

@@ -1,9 +1,7 @@
 -- `evaluate::rule::write_sum` meets its contract.
 -- Assumes nothing.
 use mathlib.Core.Path.{sym, ap, _∙_}
-use lib.IntN.{ℤ}
 use Rattle.integers.proofs.Complement.{kept}
-use Rattle.register.specs.declared.cells.Cell.the-variants.{Value}
 use Rattle.evaluate.specs.Answers.{sumAnswer}
 use Rattle.evaluate.specs.declared.rule.Write.the-variants.{Store}
 use borrow.Author.Needs.{needs}
@@ -20,7 +18,7 @@ returns : tie.Need-returns
 unfolding sumAnswer
 returns c =
     let f = c .before .before .before .args .field in
-    ap (λ (z : ℤ). Store f (Value z)) (kept _ (c .known-told .given .0 .1)) ∙ sym (ap (sumAnswer f) (c .before .sum .given .1))
+    ap (Store f) (kept _ (c .known-told .given .0 .1)) ∙ sym (ap (sumAnswer f) (c .before .sum .given .1))
 
 returns-2 : tie.Need-returns-2
 unfolding sumAnswer

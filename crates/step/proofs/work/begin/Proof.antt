@@ -11,7 +11,7 @@ use Rattle.register.specs.declared.cells.Cell.the-variants.{Missing}
 use Rattle.register.proofs.Arrays.{cellsOf-length, cellsOf-at}
 use Rattle.evaluate.specs.Places.{placeAt}
 use Rattle.step.specs.Work.{Room, Same}
-use Rattle.step.proofs.Working.{same-refl, same-then, room-same, put-stored, same-put, put-there, put-other}
+use Rattle.step.proofs.Working.{same-refl, same-then, room-same, put-copied, same-put, put-there, put-other}
 use Rattle.step.proofs.work.begin.Statement.{statement}
 use Rattle.step.proofs.work.begin.Tie as tie
 
@@ -29,16 +29,13 @@ loop-holds c = (same-refl, below-none _)
 room : (c : tie.At-loop Inv-loop μ-loop) → let s = c .before .before .before .before in Room (s .args .base) (length (now (s .args .filled))) (c .loop .values) (c .loop .marks)
 room c = room-same (c .loop .inv .0) (c .before .before .before .before .pre .1)
 
-add-put-cell : tie.Need-add-put-cell Inv-loop μ-loop
-add-put-cell c = omega (arith, c .before .before .before .before .before .before .before .pre .1 .values-room)
+add-copy-cell : tie.Need-add-copy-cell Inv-loop μ-loop
+add-copy-cell c = omega (arith, c .before .before .before .before .before .before .before .pre .1 .values-room)
 
-cell-at-requires : tie.Need-cell-at-requires Inv-loop μ-loop
-cell-at-requires c κs = omega arith
-
-put-cell-requires : tie.Need-put-cell-requires Inv-loop μ-loop
-put-cell-requires c κs =
-    let r = room (c .before .before .before .before) in
-    (omega (arith, r .values-room), omega (arith, r .marks-room))
+copy-cell-requires : tie.Need-copy-cell-requires Inv-loop μ-loop
+copy-cell-requires c κs =
+    let r = room (c .before .before .before) in
+    (omega arith, omega arith, omega (arith, r .values-room), omega (arith, r .marks-room))
 
 add-j : tie.Need-add-j Inv-loop μ-loop
 add-j c = omega arith
@@ -49,16 +46,14 @@ loop-less c = omega arith
 loop-again : tie.Need-loop-again Inv-loop μ-loop
 loop-again c =
     let p = c .before .before .before in
-    let l = p .before .before .before .before .before in
+    let l = p .before .before .before .before in
     let a = l .before .before .before .before .args in
     let r = room l in
-    let e = p .put-cell .ensures in
-    let q = put-stored (e .0) (e .1) in (
+    let q = put-copied (now (a .cells)) (now (a .filled)) (l .loop .j) (p .copy-cell .ensures .0) (p .copy-cell .ensures .1) in (
       same-then (l .loop .inv .0) (same-put (a .base) (l .loop .j) q),
       below-more _ (l .loop .j)
           (λ i h. put-other (a .base) (l .loop .j) q (a .base + i) (λ q. omega arith) ∙ l .loop .inv .1 i h)
           (put-there (a .base) (l .loop .j) q (omega (arith, r .values-room)) (omega (arith, r .marks-room))
-          ∙ p .before .cell-at .ensures
           ∙ sym (cellsOf-at (now (a .cells)) (now (a .filled)) (l .loop .j) (omega arith))),
     )
 
@@ -81,9 +76,8 @@ begin-spec =
     Inv-loop
     μ-loop
     loop-holds
-    add-put-cell
-    cell-at-requires
-    put-cell-requires
+    add-copy-cell
+    copy-cell-requires
     add-j
     loop-less
     loop-again
