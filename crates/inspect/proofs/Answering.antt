@@ -5,20 +5,18 @@ use mathlib.Core.Bool.{true, false}
 use mathlib.Core.List.{List}
 use native.Mathlib.Omega.{arith}
 use native.Mathlib.Nat.{mul-le-mul-right}
-use borrow.Author.Tests.{ltb-false}
-use lib.Dec.{ltb}
 use lib.IntN.{ℤ}
 use lib.ListN.{length}
-use Rattle.integers.proofs.Bools.{or-neither}
 use Rattle.register.specs.Outcome.{Outcome, done, refused, after}
 use Rattle.register.specs.File.{sizesOf}
 use Rattle.register.specs.declared.Sizes.{Sizes}
 use Rattle.plan.specs.Plan.{Fact}
 use Rattle.rules.specs.Program.{Rule, Program, mostLines, stepPlan}
 use Rattle.rules.specs.Text.{check, rulesAt}
-use Rattle.machine.specs.Run.{scratch}
+use Rattle.machine.specs.Run.{scratch, isShort}
 use Rattle.program.proofs.Checks.{no-step, past-step}
-use Rattle.inspect.specs.Inspection.{isShort, stepLines, inspection}
+use Rattle.program.proofs.Room.{room}
+use Rattle.inspect.specs.Inspection.{stepLines, inspection}
 use Rattle.inspect.specs.Answer.{refusedWith, StepAnswered, Answered}
 use Rattle.inspect.specs.declared.InspectAnswer.{InspectAnswer}
 
@@ -57,11 +55,10 @@ module _ (file text : List ℕ) (step values marks : ℕ) where
 -- both buffers have room for the lines of a step
 pub lines-room : (s : Sizes) {lines most values marks : ℕ} → lines ≤ most → isShort (scratch s most) values marks ≡ false
     → (lines * s .records ≤ values) × (lines * s .records ≤ marks)
-unfolding isShort scratch
+unfolding scratch
 lines-room s {most = most} {values = values} {marks = marks} h e =
-    let k = scratch s most in
-    let (v, m) = or-neither (ltb values k) (ltb marks k) e in
-    (omega (arith, mul-le-mul-right (s .records) h, ltb-false values k v), omega (arith, mul-le-mul-right (s .records) h, ltb-false marks k m))
+    let (v, m) = room (scratch s most) values marks e in
+    (omega (arith, mul-le-mul-right (s .records) h, v), omega (arith, mul-le-mul-right (s .records) h, m))
 
 -- an answer by its outcome
 module _ (file : List ℕ) (t : ℕ) (values : List ℤ) (marks : List ℕ) {o : Outcome (List Fact)} {r : InspectAnswer} where

@@ -1,18 +1,13 @@
 -- Document 01's look: which step's lines are shown, or why none are.
-use mathlib.Core.Bool.{Bool, cond, _||_}
+use mathlib.Core.Bool.{cond}
 use mathlib.Core.List.{List}
 use Prim.Native.Nat.{ℕ}
-use lib.Dec.{ltb}
 use Rattle.register.specs.Outcome.{Outcome, done, refused, after}
 use Rattle.register.specs.File.{sizesOf}
 use Rattle.plan.specs.Plan.{Fact}
 use Rattle.rules.specs.Program.{Program, mostLines, stepPlan}
 use Rattle.rules.specs.Text.{check, rulesAt}
-use Rattle.machine.specs.Run.{scratch}
-
--- "19 a working array too short", values or marks, each having to have k places
-unfoldable pub isShort : ℕ → ℕ → ℕ → Bool
-isShort k values marks = ltb values k || ltb marks k
+use Rattle.machine.specs.Run.{scratch, isShort}
 
 -- the lines of a step, 17 first: "plan or look asked for a step that is not there"
 unfoldable pub stepLines : List ℕ → ℕ → ℕ → ℕ → Program → Outcome (List Fact)

@@ -3,15 +3,15 @@ ghost use mathlib.Core.Path.{_≡_};
 ghost use Prim.Native.Nat.{_+_, _*_, _≤_, min};
 ghost use lib.ListN.{length};
 ghost use Rattle.register.specs.File.{cellCount, cellsOfFile};
-ghost use Rattle.register.specs.Shape.{Limits, Valid};
+ghost use Rattle.register.specs.Shape.{Valid};
 ghost use Rattle.plan.specs.Held.{facts-in, plan-of};
-ghost use Rattle.machine.specs.Run.{scratch};
 ghost use Rattle.messages.specs.Lines.{Planned};
-ghost use Rattle.inspect.specs.Inspection.{isShort, inspection};
+ghost use Rattle.inspect.specs.Inspection.{inspection};
 ghost use Rattle.inspect.specs.Answer.{refusedWith, Shown, Answered};
 use messages;
 use plan;
 use program::check;
+use program::scratch;
 use register;
 use register::Sizes;
 use register::cells;
@@ -31,18 +31,6 @@ fn refused(refusal: u32, line: usize) -> InspectAnswer
         line,
         lines: 0,
     }
-}
-
-// Whether one of two scratch buffers of these lengths is too short for plans of this many lines.
-fn is_short(sizes: Sizes, lines: usize, values: usize, marks: usize) -> bool
-    requires { ⌜ Limits sizes × (lines ≤ 64) ⌝ }
-    ensures { λ r. ⌜ r ≡ isShort (scratch sizes lines) values marks ⌝ }
-{
-    let places = sizes.records * (lines + (sizes.references + sizes.measures) + 1);
-    if values < places {
-        return true;
-    }
-    marks < places
 }
 
 // The exchanges to make: t of them, or all where t is past the last round.
@@ -113,7 +101,7 @@ pub fn inspect(
         return refused(17, 0);
     }
     let sizes = register::sizes_of(file);
-    if is_short(sizes, program.lines, values.len(), marks.len()) {
+    if scratch::is_short(sizes, program.lines, values.len(), marks.len()) {
         return refused(19, 0);
     }
     let frames = program.frames;

@@ -2,6 +2,7 @@
 use mathlib.Core.Bool.{Bool, true, false, cond, not, _&&_, _||_}
 use mathlib.Core.List.{List, [], _∷_}
 use Prim.Native.Nat.{ℕ, zero, suc, _+_, _*_}
+use lib.Dec.{ltb}
 use Rattle.integers.specs.Range.{eqZ}
 use Rattle.register.specs.File.{width}
 use Rattle.register.specs.declared.Sizes.{Sizes}
@@ -99,3 +100,7 @@ run s reader program budget cells = runFrom s reader budget program (record { st
 -- the places that a scratch buffer (document 01's working array) has at least, for plans of this many lines: "n × (L + r + m + 1)"
 unfoldable pub scratch : Sizes → ℕ → ℕ
 scratch s lines = s .records * (lines + width s + 1)
+
+-- "19 a working array too short", values or marks, each having to have k places
+unfoldable pub isShort : ℕ → ℕ → ℕ → Bool
+isShort k values marks = ltb values k || ltb marks k

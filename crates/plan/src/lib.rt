@@ -1,11 +1,11 @@
 // The plan of a step's readings: its lines, their rounds, and which lines their needs are. `planner` adds a reading to one.
 ghost use mathlib.Core.Path.{_≡_};
 ghost use mathlib.Core.List.{[]};
-ghost use Prim.Native.Nat.{_≤_, _<_};
+ghost use Prim.Native.Nat.{_≤_};
 ghost use lib.ListN.{length};
 ghost use Rattle.chain.specs.Word.{unpack};
 ghost use Rattle.plan.specs.Plan.{read};
-ghost use Rattle.plan.specs.Held.{facts-in, settled, found, line-at as lineAt, Keyed, LastOf, Holds};
+ghost use Rattle.plan.specs.Held.{facts-in, settled, found, Keyed, LastOf, Holds};
 
 pub mod key;
 pub mod lines;
@@ -50,18 +50,6 @@ impl Plan {
             backs: [0; 64],
             reads: [0; 64],
             count: 0,
-        }
-    }
-
-    pub fn line(self, i: usize) -> Line
-        requires { ⌜ i < 64 ⌝ }
-        ensures { λ r. ⌜ r ≡ lineAt self i ⌝ }
-    {
-        Line {
-            key: self.keys[i],
-            round: self.rounds[i],
-            back: self.backs[i],
-            read: self.reads[i],
         }
     }
 }

@@ -1,5 +1,5 @@
 -- What is known of a register that loads, for the code that works on it.
-use Prim.Native.Nat.{ℕ, _*_, _≤_, _<_}
+use Prim.Native.Nat.{ℕ, _+_, _*_, _≤_, _<_}
 use mathlib.Core.Path.{_≡_}
 use mathlib.Core.Bool.{Bool, true}
 use mathlib.Core.List.{List}
@@ -13,7 +13,7 @@ use Rattle.register.specs.Cells.{valueOf}
 use Rattle.register.specs.declared.Sizes.{Sizes}
 use Rattle.register.specs.declared.cells.Cell.{Cell}
 use Rattle.register.specs.declared.cells.Cell.the-variants.{Missing, Value}
-use Rattle.register.specs.File.{width, cellCount, cellIndex}
+use Rattle.register.specs.File.{width, cellCount, cellIndex, fileOf, cellsOfFile}
 use Rattle.register.specs.Load.{refusalAt}
 
 -- the limits of the sizes, as bounds
@@ -39,6 +39,12 @@ pub record Valid (s : Sizes) (cells : List Cell) : Type 0 where
   pub count : length cells ≡ cellCount s
   pub values : (j : ℕ) → SFits w32 (valueOf (getD cells j Missing))
   pub references : (u f : ℕ) → u < s .records → f < s .references → refersWithin (s .records) (getD cells (cellIndex s u f) Missing) ≡ true
+
+-- a file that is a register of these sizes
+pub record Register (s : Sizes) (file : List ℕ) : Type 0 where
+  pub valid : Valid s (cellsOfFile s file)
+  pub file-is : file ≡ fileOf s (cellsOfFile s file)
+  pub whole : length file ≡ 12 + 5 * cellCount s
 
 -- the fields from a to b of record u are all references or all measures, and no field before them is refused
 pub record Fields (s : Sizes) (values marks : List ℕ) (u a b : ℕ) (reference : Bool) : Type 0 where

@@ -1,29 +1,28 @@
 -- The answer of a run: by the check, by the lengths of the buffers, and by how the run ends.
-use Prim.Native.Nat.{ℕ, _+_, _*_, _≤_, _<_}
-use mathlib.Core.Path.{_≡_, refl, sym, ap, ap₂, subst, _∙_}
+use Prim.Native.Nat.{ℕ}
+use mathlib.Core.Path.{_≡_, refl, sym, ap, subst, _∙_}
 use mathlib.Core.Logic.{_≢_}
-use mathlib.Core.Bool.{Bool, true, false, cond, _&&_}
-use mathlib.Core.List.{List, [], _∷_}
+use mathlib.Core.Bool.{true, false}
+use mathlib.Core.List.{List}
 use native.Mathlib.Omega.{arith}
-use borrow.Author.Tests.{eq-eqb, ne-eqb, le-leb, lt-leb}
+use borrow.Author.Tests.{eq-eqb, ne-eqb}
 use lib.IntN.{ℤ}
 use lib.ListN.{length}
 use Rattle.register.specs.Outcome.{Outcome, done, refused, after}
-use Rattle.register.specs.File.{width, sizesOf, cellsOfFile}
-use Rattle.register.specs.Load.{load}
+use Rattle.register.specs.File.{sizesOf, cellsOfFile}
+use Rattle.register.specs.Shape.{Register}
 use Rattle.register.specs.declared.Sizes.{Sizes}
 use Rattle.register.specs.declared.cells.Cell.{Cell}
 use Rattle.register.proofs.Roundtrip.{Bytes, encode-decode, cells-valid}
 use Rattle.rules.specs.Program.{Program, mostLines}
 use Rattle.rules.specs.Text.{check}
-use Rattle.machine.specs.Run.{Ending, complete, spent, offended, Run, direct, run, scratch}
-use Rattle.step.specs.Stepped.{Register}
+use Rattle.machine.specs.Run.{Ending, complete, spent, offended, Run, direct, run, scratch, isShort}
 use Rattle.program.proofs.Passed.{loaded}
 use Rattle.message_machine.specs.declared.Machine.{Machine}
 use Rattle.run_program.specs.Answer.{EndsBy, EndsAs}
 use Rattle.run_program.specs.declared.RunAnswer.{RunAnswer}
 use Rattle.runs.specs.Direct.{Lengths, runProgram, directRun}
-use Rattle.runs.specs.Answer.{refusedWith, Ended, RunAnswered, RefusalAnswered, Answered}
+use Rattle.runs.specs.Answer.{refusedWith, Ended, RunAnswered, Answered}
 
 module _ (file text : List ℕ) (budget : ℕ) (n : Lengths) where
   -- the check refuses
@@ -41,18 +40,14 @@ module _ (file text : List ℕ) (budget : ℕ) (n : Lengths) where
     run-18 h = program ∙ simp (ne-eqb (n .out) (length file) h)
 
     module _ (o : n .out ≡ length file) where
-      pub run-19-values : n .values < scratch (sizesOf file) (mostLines p) → directRun file text budget n ≡ refused 19 0
+      pub run-19 : isShort (scratch (sizesOf file) (mostLines p)) (n .values) (n .marks) ≡ true → directRun file text budget n ≡ refused 19 0
       unfolding runProgram
-      run-19-values h = program ∙ simp (eq-eqb (n .out) (length file) o, lt-leb _ _ h)
+      run-19 h = program ∙ simp (eq-eqb (n .out) (length file) o, h)
 
-      pub run-19-marks : scratch (sizesOf file) (mostLines p) ≤ n .values → n .marks < scratch (sizesOf file) (mostLines p) → directRun file text budget n ≡ refused 19 0
-      unfolding runProgram
-      run-19-marks v h = program ∙ simp (eq-eqb (n .out) (length file) o, le-leb _ _ v, lt-leb _ _ h)
-
-      pub run-done : scratch (sizesOf file) (mostLines p) ≤ n .values → scratch (sizesOf file) (mostLines p) ≤ n .marks
+      pub run-done : isShort (scratch (sizesOf file) (mostLines p)) (n .values) (n .marks) ≡ false
           → directRun file text budget n ≡ done (run (sizesOf file) (direct (sizesOf file)) p budget (cellsOfFile (sizesOf file) file))
       unfolding runProgram
-      run-done v m = program ∙ simp (eq-eqb (n .out) (length file) o, le-leb _ _ v, le-leb _ _ m)
+      run-done h = program ∙ simp (eq-eqb (n .out) (length file) o, h)
 
 -- what is known of a register and a text that passed
 module _ (file text : List ℕ) {p : Program} (e : check file text ≡ done p) where
@@ -92,8 +87,3 @@ refused-answered m file out values marks {r = r} e h =
 pub run-answered : (m : Machine) (file out : List ℕ) (values : List ℤ) (marks : List ℕ) {o : Outcome Run} {x : Run} {out′ marks′ : List ℕ} {values′ : List ℤ} {r : RunAnswer} → o ≡ done x → RunAnswered m x file out′ values marks values′ marks′ r
     → Answered m o file out values marks out′ values′ marks′ r
 run-answered m file out values marks {out′ = out′} {marks′ = marks′} {values′ = values′} {r = r} e h = subst (λ (o : Outcome Run). Answered m o file out values marks out′ values′ marks′ r) (sym e) h
-
--- the places that the code asks for
-pub places-are : (file : List ℕ) (s : Sizes) (lines most : ℕ) → s ≡ sizesOf file → lines ≡ most → s .records * (lines + (s .references + s .measures) + 1) ≡ scratch (sizesOf file) most
-unfolding scratch width
-places-are file s lines most e q = ap₂ (λ (s : Sizes) (n : ℕ). s .records * (n + (s .references + s .measures) + 1)) e q

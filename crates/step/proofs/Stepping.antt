@@ -8,6 +8,7 @@ use lib.IntN.{ℤ}
 use lib.ListN.{length, getD}
 use Rattle.integers.proofs.Bools.{or-left, or-right}
 use Rattle.register.specs.File.{width, cellCount, cellIndex, cellsOfFile}
+use Rattle.register.specs.Shape.{Register}
 use Rattle.register.specs.declared.Sizes.{Sizes}
 use Rattle.register.specs.declared.cells.Cell.{Cell}
 use Rattle.register.specs.declared.cells.Cell.the-variants.{Missing}
@@ -25,7 +26,7 @@ use Rattle.step.specs.Work.{Holds, Same}
 use Rattle.step.specs.Ready.{reads, LocalDone, LocalStops}
 use Rattle.step.specs.Delivered.{Delivered}
 use Rattle.step.specs.Committed.{AllCommitted, CommitStops}
-use Rattle.step.specs.Stepped.{Register, GoesThrough, StopsAt}
+use Rattle.step.specs.Stepped.{GoesThrough, StopsAt}
 
 -- all records read what they read before the stores
 readers-same : (s : Sizes) (cells : List Cell) {base : ℕ} {v v′ : List ℤ} {m m′ : List ℕ} → Same base v m v′ m′ → reads s cells base v′ m′ ≡ reads s cells base v m

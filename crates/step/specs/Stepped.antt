@@ -2,23 +2,16 @@
 use mathlib.Core.Path.{_≡_}
 use mathlib.Core.Bool.{true, false}
 use mathlib.Core.List.{List}
-use Prim.Native.Nat.{ℕ, _+_, _*_, _<_}
+use Prim.Native.Nat.{ℕ, _<_}
 use lib.IntN.{ℤ}
 use lib.ListN.{length}
-use Rattle.register.specs.File.{width, cellCount, fileOf, cellsOfFile}
-use Rattle.register.specs.Shape.{Valid}
+use Rattle.register.specs.File.{width, fileOf, cellsOfFile}
 use Rattle.register.specs.declared.Sizes.{Sizes}
 use Rattle.register.specs.declared.cells.Cell.{Cell}
 use Rattle.rules.specs.Program.{Rule}
 use Rattle.machine.specs.Remote.{recordMessages}
 use Rattle.machine.specs.Step.{stepCells, offendsAt, stops}
 use Rattle.step.specs.Work.{Holds}
-
--- a file that is a register of these sizes
-pub record Register (s : Sizes) (file : List ℕ) : Type 0 where
-  pub valid : Valid s (cellsOfFile s file)
-  pub file-is : file ≡ fileOf s (cellsOfFile s file)
-  pub whole : length file ≡ 12 + 5 * cellCount s
 
 -- a step that goes through: the file and the working cells hold the cells behind it, and it has sent n messages
 pub record GoesThrough (s : Sizes) (read : ℕ → List ℕ → Cell) (rs : List Rule) (file file′ : List ℕ) (base : ℕ) (values : List ℤ) (marks : List ℕ) (n : ℕ) : Type 0 where

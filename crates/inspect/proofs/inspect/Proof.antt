@@ -18,13 +18,13 @@ use Rattle.plan.proofs.Appending.{holds-count}
 use Rattle.rules.specs.declared.around.Setting.the-variants.{Single}
 use Rattle.rules.specs.Program.{mostLines}
 use Rattle.rules.specs.Text.{check}
-use Rattle.machine.specs.Run.{scratch}
+use Rattle.machine.specs.Run.{scratch, isShort}
 use Rattle.reader_state.specs.declared.state.Frame.{Frame}
 use Rattle.reader.specs.Kept.{programOf, Complete}
 use Rattle.reader.specs.declared.Program as R
 use Rattle.program.proofs.Checks.{FrameAt, answered-refused, answered-program, step-frame}
 use Rattle.program.proofs.Passed.{StepThere, step-passes, loaded, passed, few-lines}
-use Rattle.inspect.specs.Inspection.{isShort, inspection}
+use Rattle.inspect.specs.Inspection.{inspection}
 use Rattle.inspect.specs.Answer.{refusedWith, shownLines, Answered}
 use Rattle.inspect.specs.declared.InspectAnswer.{InspectAnswer}
 use Rattle.inspect.proofs.Answering.{look-refused, look-zero, look-past, look-short, look-done, lines-room, refused-answered, step-answered}

@@ -1,4 +1,4 @@
--- `inspect::is_short` meets its contract.
+-- `program::scratch::is_short` meets its contract.
 -- Assumes nothing.
 use Prim.Native.Nat.{_+_}
 use native.Mathlib.Omega.{arith}
@@ -6,10 +6,9 @@ use native.Mathlib.Nat.{mul-le-mul-right}
 use borrow.Author.Needs.{needs}
 use borrow.Author.Tests.{lt-ltb, le-ltb}
 use Rattle.register.specs.File.{width}
-use Rattle.machine.specs.Run.{scratch}
-use Rattle.inspect.specs.Inspection.{isShort}
-use Rattle.inspect.proofs.is_short.Statement.{statement}
-use Rattle.inspect.proofs.is_short.Tie as tie
+use Rattle.machine.specs.Run.{scratch, isShort}
+use Rattle.program.proofs.scratch.is_short.Statement.{statement}
+use Rattle.program.proofs.scratch.is_short.Tie as tie
 
 add-places : tie.Need-add-places
 add-places c = search needs
