@@ -10,14 +10,14 @@ use Rattle.plan.specs.Plan.{Fact, back, read, round, rounds, tree, tree-within,
 use Rattle.rules.specs.Program.{Step, Program, stepPlan, readings, ruleReadings, actionReadings, testReadings, termReadings, isRemote, hasRemote}
 use Rattle.machine.specs.Run.{Run, run}
 use Rattle.message_machine.specs.Held.{knows, writer, needed, written, sent, heldAfter}
-use Rattle.message_machine.specs.Counts.{mostRounds, heldIn, byMessages, isSent, lineMessages, planMessages, stepExchanges, stepMessages, exchanges, messages}
+use Rattle.message_machine.specs.Counts.{mostRounds, heldIn, byMessages, lineMessages, planMessages, stepExchanges, stepMessages, exchanges, messages}
 use Rattle.examples.specs.Printed.{printedSizes, printedCells}
 use Rattle.examples.specs.Programs.{printedStep}
 use Rattle.examples.specs.Runs.{directRun, printedRun, printedResult}
 
 -- the lines of a step's plan, each with its messages over the cells before the step
 unfoldable pub lineCounts : Sizes → Step → List Cell → List (Fact × ℕ)
-unfolding width cellIndex isReference column cell round rounds tree tree-within half doubled front rest plan add add-readings lines listed place stepPlan readings ruleReadings actionReadings testReadings termReadings knows writer needed written sent heldAfter mostRounds heldIn isSent lineMessages
+unfolding width cellIndex isReference column cell round rounds tree tree-within half doubled front rest plan add add-readings lines listed place stepPlan readings ruleReadings actionReadings testReadings termReadings knows writer needed written sent heldAfter mostRounds heldIn lineMessages
 lineCounts s x cells = map (λ f. (f, lineMessages (heldIn s (x .rules) cells f) (s .records))) (stepPlan (x .rules))
 
 -- the exchanges and the messages of a run

@@ -27,7 +27,7 @@ unfoldable pub byMessages : Sizes → Reader
 byMessages s rs cells u w = knows s cells (heldIn s rs cells) u w
 
 -- 1 for a message, whomever it goes to: "Letters to oneself count."; 0 for none
-unfoldable pub isSent : Cell → ℕ
+abbrev pub isSent : Cell → ℕ
 isSent Missing = 0
 isSent (Value z) = 1
 

@@ -20,7 +20,6 @@ use Rattle.messages.specs.Exchanged.{roundMessages}
 use Rattle.message_machine.proofs.Settling.{held-same, held-before}
 
 pub sent-le : (c : Cell) → isSent c ≤ 1
-unfolding isSent
 sent-le Missing = omega arith
 sent-le (Value z) = omega arith
 
@@ -48,7 +47,7 @@ line-alike held other zero h = refl
 line-alike held other (suc n) h = ap₂ _+_ (line-alike held other n (λ u l. h u (omega arith))) (ap isSent (h n (omega arith)))
 
 line-missing : (held : ℕ → Cell) (n : ℕ) → ((u : ℕ) → held u ≡ Missing) → lineMessages held n ≡ 0
-unfolding lineMessages isSent
+unfolding lineMessages
 line-missing held zero h = refl
 line-missing held (suc n) h = simp (h n) (omega (arith, line-missing held n h))
 

@@ -4,6 +4,7 @@
 use Prim.Native.Nat.{ℕ, _-_, _≤_}
 use mathlib.Core.Path.{_≡_, _∙_}
 use native.Mathlib.Omega.{arith}
+use borrow.Author.Needs.{needs}
 use denote.Ref.{now}
 use Rattle.register.specs.declared.cells.Cell.{Cell}
 use Rattle.register.specs.Cells.{cellsOf}
@@ -57,7 +58,7 @@ message-is c =
     c .message .ensures ∙ message-kept _ _ _ _ _ _ (at c .loop .inv .1 .before) _ _ _ _ _ (r .back-before) (r .read-before) (r .back-held) (omega arith)
 
 is-sent-requires : tie.Need-is-sent-requires Inv-loop μ-loop
-is-sent-requires c κs = tt
+is-sent-requires c κs = search needs
 
 add-sent : tie.Need-add-sent Inv-loop μ-loop
 add-sent c =
