@@ -1,6 +1,6 @@
 -- Readings gathered by messages are those that following gives.
-use Prim.Native.Nat.{ℕ, _*_, _≤_}
-use mathlib.Core.Path.{_≡_, sym, ap, subst, _∙_}
+use Prim.Native.Nat.{ℕ, _≤_}
+use mathlib.Core.Path.{_≡_, sym, ap, ap₂, subst, _∙_}
 use mathlib.Core.List.{List}
 use lib.IntN.{ℤ}
 use lib.ListN.{length}
@@ -13,11 +13,14 @@ use Rattle.plan.specs.Kept.{plan-promise}
 use Rattle.rules.specs.Program.{Rule, readings, stepPlan}
 use Rattle.rules.specs.Passed.{RulesPass}
 use Rattle.message_machine.proofs.Telling.{lines-told}
+use Rattle.message_machine.specs.declared.Machine.the-variants.{Messages}
 use Rattle.fill.specs.Filled.{Filled}
 use Rattle.messages.specs.Exchanged.{ExchangedTo}
+use Rattle.messages.proofs.Counting.{plan-below}
 use Rattle.messages.proofs.Places.{stored-place, stored-fits}
+use Rattle.gather.specs.Gathered.{GatheredBy}
 
-pub told-filled : {s : Sizes} {rs : List Rule} {cells : List Cell} {values values′ : List ℤ} {marks marks′ : List ℕ} {n : ℕ} → Valid s cells → RulesPass s rs
+told-filled : {s : Sizes} {rs : List Rule} {cells : List Cell} {values values′ : List ℤ} {marks marks′ : List ℕ} {n : ℕ} → Valid s cells → RulesPass s rs
     → ExchangedTo s cells (stepPlan rs) (last-round (stepPlan rs)) values marks values′ marks′ n
     → Filled s cells (stepPlan rs) (length (stepPlan rs)) values marks values′ marks′
 unfolding stepPlan
@@ -33,3 +36,17 @@ told-filled {s} {rs} {cells} v k x =
           record { place-is = stored-place at ∙ lines-told v k i (last-round l) u h last b ∙ reads-there; fits = stored-fits at };
       behind = x .behind;
     }
+
+-- the exchanges of all rounds
+module _ {s : Sizes} {rs : List Rule} {cells : List Cell} {l : List Fact} {last n : ℕ} {values values′ : List ℤ} {marks marks′ : List ℕ} where
+  pub told-gathered : Valid s cells → RulesPass s rs → l ≡ stepPlan rs → last ≡ last-round l → last ≤ 255 → ExchangedTo s cells l last values marks values′ marks′ n
+      → GatheredBy Messages s cells l values marks values′ marks′ (record { exchanges = last; messages = n })
+  told-gathered v k e h few x =
+      let told = subst (λ (t : ℕ). ExchangedTo s cells l t values marks values′ marks′ n) h x in
+      let planned = subst (λ (l : List Fact). ExchangedTo s cells l (last-round l) values marks values′ marks′ n) e told in
+      record {
+        filled = subst (λ (l : List Fact). Filled s cells l (length l) values marks values′ marks′) (sym e) (told-filled v k planned);
+        counted = ap₂ (λ (a b : ℕ). record { exchanges = a; messages = b }) h (told .messages);
+        few-exchanges = few;
+        few-messages = plan-below _ _ _ _ (x .messages);
+      }

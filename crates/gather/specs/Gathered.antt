@@ -12,15 +12,15 @@ use Rattle.message_machine.specs.Counts.{planMessages}
 use Rattle.message_machine.specs.declared.Machine.{Machine}
 use Rattle.message_machine.specs.declared.Machine.the-variants.{Direct, Messages}
 use Rattle.fill.specs.Filled.{Filled}
-use Rattle.gather.specs.declared.Gathered.{Gathered}
+use Rattle.gather.specs.declared.counts.Counts.{Counts}
 
 -- the exchanges and messages that bring these lines about
-abbrev pub countedBy : Machine → Sizes → List Cell → List Fact → Gathered
+abbrev pub countedBy : Machine → Sizes → List Cell → List Fact → Counts
 countedBy Direct s cells l = record { exchanges = 0; messages = 0 }
 countedBy Messages s cells l = record { exchanges = last-round l; messages = planMessages (heldAfter s cells (last-round l)) l (s .records) }
 
 -- every Read line's places hold what is had by following, whichever machine it was
-pub record GatheredBy (m : Machine) (s : Sizes) (cells : List Cell) (l : List Fact) (values : List ℤ) (marks : List ℕ) (values′ : List ℤ) (marks′ : List ℕ) (r : Gathered) : Type 0 where
+pub record GatheredBy (m : Machine) (s : Sizes) (cells : List Cell) (l : List Fact) (values : List ℤ) (marks : List ℕ) (values′ : List ℤ) (marks′ : List ℕ) (r : Counts) : Type 0 where
   pub filled : Filled s cells l (length l) values marks values′ marks′
   pub counted : r ≡ countedBy m s cells l
   pub few-exchanges : r .exchanges ≤ 255

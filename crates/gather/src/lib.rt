@@ -1,12 +1,12 @@
 // The readings of a step: the places of its plan's Read lines, filled by following references or by messages.
-ghost use mathlib.Core.Path.{_≡_};
 ghost use Prim.Native.Nat.{_*_, _≤_};
 ghost use lib.ListN.{length};
 ghost use Rattle.register.specs.File.{cellsOfFile};
+ghost use Rattle.register.specs.Shape.{Register};
 ghost use Rattle.plan.specs.Held.{facts-in, plan-of};
-ghost use Rattle.step.specs.Stepped.{Register};
 ghost use Rattle.messages.specs.Lines.{Planned};
 ghost use Rattle.gather.specs.Gathered.{GatheredBy};
+use crate::counts::Counts;
 use fill;
 use message_machine::Machine;
 use messages;
@@ -14,12 +14,9 @@ use plan;
 use register::Sizes;
 use register::cells;
 
-// The exchanges that were made, and the messages sent in them.
-pub struct Gathered {
-    pub exchanges: usize,
-    pub messages: usize,
-}
+pub mod counts;
 
+// Fills the places of a plan's Read lines; what that took.
 pub fn gather<'a>(
     file: &[u8],
     values: &mut [i64],
@@ -31,7 +28,7 @@ pub fn gather<'a>(
     backs: &'a [u8; 64],
     reads: &'a [u8; 64],
     count: usize,
-) -> Gathered
+) -> Counts
     requires { ⌜ Register sizes (now file) × Planned sizes (plan-of (now keys) (now rounds) (now backs) (now reads) count) × (count * sizes .records ≤ length (now values)) × (count * sizes .records ≤ length (now marks)) ⌝ }
     ensures { λ r. ⌜ GatheredBy machine sizes (cellsOfFile sizes (now (file .entry))) (facts-in (now (keys .entry)) count) (now (values .entry)) (now (marks .entry)) (now (values .exit)) (now (marks .exit)) r ⌝ }
 {
@@ -40,14 +37,14 @@ pub fn gather<'a>(
     match machine {
         Machine::Direct => {
             fill::fill(cells, filled, values, marks, sizes, keys, count);
-            Gathered {
+            Counts {
                 exchanges: 0,
                 messages: 0,
             }
         }
         Machine::Messages => {
             let last = plan::last_round(rounds, count);
-            Gathered {
+            Counts {
                 exchanges: last as usize,
                 messages: messages::exchange_to(
                     cells,

@@ -14,9 +14,8 @@ use Rattle.machine.specs.Value.{both, holds}
 use Rattle.machine.specs.Remote.{sentTo, actionMessages, ruleMessages, messages, recordMessages}
 use Rattle.message_machine.specs.declared.Machine.{Machine}
 use Rattle.message_machine.specs.declared.Machine.the-variants.{Direct, Messages}
-use Rattle.gather.specs.declared.Gathered.{Gathered}
-use Rattle.run_program.specs.Answer.{countsAfter}
-use Rattle.run_program.specs.declared.Counts.{Counts}
+use Rattle.gather.specs.Counted.{countsAfter}
+use Rattle.gather.specs.declared.counts.Counts.{Counts}
 
 sent-few : (k : Sort) (f : ℕ) (c x : Cell) → length (sentTo k f c x) ≤ 1
 unfolding sentTo both
@@ -60,7 +59,7 @@ pub record Few (finished : ℕ) (c : Counts) : Type 0 where
   pub exchanges≤ : c .exchanges ≤ finished * 256
   pub messages≤ : c .messages ≤ finished * 524288
 
-pub few-more : (m : Machine) {n : ℕ} {c : Counts} (g : Gathered) (sends : Bool) {sent : ℕ} → Few n c → g .exchanges ≤ 255 → g .messages ≤ 262144 → sent ≤ 131072
+pub few-more : (m : Machine) {n : ℕ} {c : Counts} (g : Counts) (sends : Bool) {sent : ℕ} → Few n c → g .exchanges ≤ 255 → g .messages ≤ 262144 → sent ≤ 131072
     → Few (suc n) (countsAfter m c g sends sent)
 few-more Direct g sends f a b s = record { exchanges≤ = omega (arith, f .exchanges≤); messages≤ = omega (arith, f .messages≤) }
 few-more Messages g true f a b s = record { exchanges≤ = omega (arith, f .exchanges≤); messages≤ = omega (arith, f .messages≤) }

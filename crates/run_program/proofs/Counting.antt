@@ -23,9 +23,9 @@ use Rattle.message_machine.proofs.Rounds.{most-last}
 use Rattle.message_machine.proofs.Same.{step-writes}
 use Rattle.message_machine.proofs.Counting.{exchanges-more, messages-more}
 use Rattle.gather.specs.Gathered.{countedBy}
-use Rattle.gather.specs.declared.Gathered.{Gathered}
-use Rattle.run_program.specs.Answer.{noCounts, countsAfter, countsOf}
-use Rattle.run_program.specs.declared.Counts.{Counts}
+use Rattle.gather.specs.Counted.{noCounts, countsAfter}
+use Rattle.run_program.specs.Answer.{countsOf}
+use Rattle.gather.specs.declared.counts.Counts.{Counts}
 
 -- no step is finished
 pub counts-none : (m : Machine) (s : Sizes) → noCounts ≡ countsOf m s []
@@ -51,7 +51,7 @@ counts-more Messages {s} trace x {cells} k v =
 
 -- the same, by what the code has of them
 pub counts-step : (m : Machine) {s : Sizes} (trace : Trace) (x : Step) {cells : List Cell} → RulesPass s (x .rules) → Valid s cells
-    → {c : Counts} {g : Gathered} {l : List Fact} {sends : Bool} {sent : ℕ} → c ≡ countsOf m s trace → g ≡ countedBy m s cells l → l ≡ stepPlan (x .rules)
+    → {c : Counts} {g : Counts} {l : List Fact} {sends : Bool} {sent : ℕ} → c ≡ countsOf m s trace → g ≡ countedBy m s cells l → l ≡ stepPlan (x .rules)
     → sends ≡ hasRemote (x .rules) → sent ≡ length (recordMessages (direct s (x .rules) cells) (x .rules) (s .records))
     → countsAfter m c g sends sent ≡ countsOf m s (trace ++ ((x, cells) ∷ []))
 counts-step m trace x k v c g l b n = rw (c, g, l, b, n) (counts-more m trace x k v)

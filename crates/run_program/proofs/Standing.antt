@@ -11,6 +11,7 @@ use lib.ListN.{length, getD, drop}
 use lib.Seq.{drop-cons}
 use Rattle.integers.proofs.Bools.{true-false}
 use Rattle.register.specs.File.{width, cellCount, fileOf, cellsOfFile}
+use Rattle.register.specs.Shape.{Register}
 use Rattle.register.specs.declared.Sizes.{Sizes}
 use Rattle.register.specs.declared.cells.Cell.{Cell}
 use Rattle.register.proofs.Roundtrip.{decode-encode}
@@ -26,11 +27,12 @@ use Rattle.machine.proofs.Stops.{stops-at}
 use Rattle.evaluate.specs.Places.{Kept}
 use Rattle.evaluate.proofs.Placed.{placeAt-kept}
 use Rattle.step.specs.Work.{Holds}
-use Rattle.step.specs.Stepped.{Register, GoesThrough, StopsAt}
+use Rattle.step.specs.Stepped.{GoesThrough, StopsAt}
 use Rattle.pass.specs.Column.{Column, InPass, HasPass, Entered, NextIs}
 use Rattle.message_machine.specs.declared.Machine.{Machine}
-use Rattle.run_program.specs.Answer.{noCounts, countsOf, endedWith, Ends}
-use Rattle.run_program.specs.declared.Counts.{Counts}
+use Rattle.gather.specs.Counted.{noCounts}
+use Rattle.run_program.specs.Answer.{countsOf, endedWith, Ends}
+use Rattle.gather.specs.declared.counts.Counts.{Counts}
 use Rattle.run_program.proofs.Counting.{counts-none}
 use Rattle.run_program.proofs.Bounds.{Few}
 

@@ -44,9 +44,9 @@ use Rattle.step.proofs.Stepping.{AllDone, all-done, local-stops, goes-through, 
 use Rattle.pass.specs.Column.{Entered}
 use Rattle.messages.specs.Lines.{Planned}
 use Rattle.gather.specs.Gathered.{GatheredBy}
-use Rattle.gather.specs.declared.Gathered.{Gathered}
-use Rattle.run_program.specs.Answer.{countsAfter, countsOf}
-use Rattle.run_program.specs.declared.Counts.{Counts}
+use Rattle.gather.specs.Counted.{countsAfter}
+use Rattle.run_program.specs.Answer.{countsOf}
+use Rattle.gather.specs.declared.counts.Counts.{Counts}
 use Rattle.run_program.proofs.Arrays.{noFrame, StepAt, step-at, slotsAt, slots-length, slot-at}
 use Rattle.run_program.proofs.Locating.{short-at, located-next, all-short, located-remote}
 use Rattle.run_program.proofs.Counting.{counts-step}
@@ -156,13 +156,13 @@ module _ {m : Machine} {s : Sizes} {p : R.Program} {budget : ℕ} {file : List �
       (h ∙ ap (locatedSlot (facts (frame .plan))) (sym (slot-at p step (a .complete) few j d (omega (arith, few-rules))))) so-far
 
   -- all of them located, the pass entered and the readings gathered
-  pub record Prepared (places : List Slot) (values₁ : List ℤ) (marks₁ : List ℕ) (values₂ : List ℤ) (marks₂ : List ℕ) (r : Gathered) : Type 0 where
+  pub record Prepared (places : List Slot) (values₁ : List ℤ) (marks₁ : List ℕ) (values₂ : List ℤ) (marks₂ : List ℕ) (r : Counts) : Type 0 where
     pub is-located : LocatedTo (facts (frame .plan)) (frame .rules) (slotsAt p step) places
     pub entered : Entered s (frame .setting) cells at values marks values₁ marks₁
     pub gathered : GatheredBy m s cells (facts (frame .plan)) values₁ marks₁ values₂ marks₂ r
 
   -- then the step can be run
-  module _ {places : List Slot} {values₁ values₂ : List ℤ} {marks₁ marks₂ : List ℕ} {r : Gathered} (b : Prepared places values₁ marks₁ values₂ marks₂ r) where
+  module _ {places : List Slot} {values₁ values₂ : List ℤ} {marks₁ marks₂ : List ℕ} {r : Counts} (b : Prepared places values₁ marks₁ values₂ marks₂ r) where
     abbrev rs : List Rule
     rs = here t inside .rules
 

@@ -1,6 +1,6 @@
 -- How the code's answer tells a run.
 use mathlib.Core.Path.{_≡_}
-use mathlib.Core.Bool.{Bool, true, cond}
+use mathlib.Core.Bool.{true}
 use mathlib.Core.List.{List}
 use Prim.Native.Nat.{ℕ, _+_, _*_, _≤_, _<_}
 use lib.IntN.{ℤ}
@@ -13,19 +13,8 @@ use Rattle.machine.specs.Step.{offendsAt}
 use Rattle.machine.specs.Run.{Ending, complete, spent, offended, Run, direct, run, scratch}
 use Rattle.message_machine.specs.By.{exchangesBy, messagesBy}
 use Rattle.message_machine.specs.declared.Machine.{Machine}
-use Rattle.message_machine.specs.declared.Machine.the-variants.{Direct, Messages}
-use Rattle.gather.specs.declared.Gathered.{Gathered}
-use Rattle.run_program.specs.declared.Counts.{Counts}
+use Rattle.gather.specs.declared.counts.Counts.{Counts}
 use Rattle.run_program.specs.declared.RunAnswer.{RunAnswer}
-
--- no exchange and no message
-abbrev pub noCounts : Counts
-noCounts = record { exchanges = 0; messages = 0 }
-
--- with those of a step that is finished, "and 1 more if it holds a remote rule"
-abbrev pub countsAfter : Machine → Counts → Gathered → Bool → ℕ → Counts
-countsAfter Direct c g sends sent = c
-countsAfter Messages c g sends sent = record { exchanges = c .exchanges + g .exchanges + cond sends 1 0; messages = c .messages + g .messages + sent }
 
 -- an answer that names no place
 abbrev pub endedWith : ℕ → ℕ → Counts → RunAnswer

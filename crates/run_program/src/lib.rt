@@ -1,13 +1,12 @@
 // The run of a program, by either machine: step after step, within the budget.
 ghost use mathlib.Core.Path.{_≡_};
-ghost use mathlib.Core.Bool.{cond};
-ghost use Prim.Native.Nat.{_≤_};
+ghost use Rattle.register.specs.Shape.{Register};
 ghost use Rattle.rules.specs.Passed.{ProgramPasses};
 ghost use Rattle.reader.specs.Kept.{programOf, Complete};
-ghost use Rattle.step.specs.Stepped.{Register};
-ghost use Rattle.run_program.specs.Answer.{endedWith, stoppedAt, countsAfter, Scratch, Ends};
+ghost use Rattle.run_program.specs.Answer.{endedWith, stoppedAt, Scratch, Ends};
 use gather;
-use gather::Gathered;
+use gather::counts;
+use gather::counts::Counts;
 use locate;
 use message_machine::Machine;
 use pass;
@@ -20,13 +19,7 @@ use step::local::Stop;
 use step::remote;
 use step::work;
 
-// Exchanges and messages of the finished steps: none in a direct run.
-pub struct Counts {
-    pub exchanges: usize,
-    pub messages: usize,
-}
-
-// The refusal's number, 0 for none, with its line where it has one; the finished steps; for 21 the record and the column where
+// The refusal's number, 0 for none, with its line where it has one; the finished steps and what they count; for 21 the record and the column where
 // it happened.
 pub struct RunAnswer {
     pub refusal: u32,
@@ -35,27 +28,6 @@ pub struct RunAnswer {
     pub counts: Counts,
     pub row: usize,
     pub column: usize,
-}
-
-// "1 more if it holds a remote rule".
-fn own_exchange(sends: bool) -> usize
-    ensures { λ r. ⌜ (r ≡ cond sends 1 0) × (r ≤ 1) ⌝ }
-{
-    if sends { 1 } else { 0 }
-}
-
-// With those of a step that is finished: what its lines took, and its remote messages in an exchange of their own.
-fn count(machine: Machine, counts: Counts, gathered: Gathered, sends: bool, sent: usize) -> Counts
-    requires { ⌜ (counts .exchanges ≤ 4611686018427387904) × (counts .messages ≤ 4611686018427387904) × (gathered .exchanges ≤ 65536) × (gathered .messages ≤ 1048576) × (sent ≤ 1048576) ⌝ }
-    ensures { λ r. ⌜ r ≡ countsAfter machine counts gathered sends sent ⌝ }
-{
-    match machine {
-        Machine::Direct => counts,
-        Machine::Messages => Counts {
-            exchanges: counts.exchanges + gathered.exchanges + own_exchange(sends),
-            messages: counts.messages + gathered.messages + sent,
-        },
-    }
 }
 
 fn ended(refusal: u32, finished: u16, counts: Counts) -> RunAnswer
@@ -181,7 +153,7 @@ pub fn run_program(
         if let Stop::At(row, column) = total {
             return out_of_range(finished, counts, row, column);
         }
-        counts = count(machine, counts, gathered, frame.remote, sent);
+        counts = counts::count(machine, counts, gathered, frame.remote, sent);
         finished += 1;
         step = pass::next(out, values, marks, sizes, at, setting, step, first);
     }

@@ -10,7 +10,8 @@ use Rattle.register.specs.declared.Sizes.{Sizes}
 use Rattle.register.specs.declared.cells.Cell.{Cell}
 use Rattle.machine.specs.Run.{Ending, complete, spent, offended, Run}
 use Rattle.message_machine.specs.declared.Machine.{Machine}
-use Rattle.run_program.specs.Answer.{noCounts, countsOf, endedWith, Offence}
+use Rattle.gather.specs.Counted.{noCounts}
+use Rattle.run_program.specs.Answer.{countsOf, endedWith, Offence}
 use Rattle.run_program.specs.declared.RunAnswer.{RunAnswer}
 use Rattle.runs.specs.Direct.{Lengths}
 

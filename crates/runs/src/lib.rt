@@ -4,10 +4,11 @@ ghost use lib.ListN.{length};
 ghost use Rattle.message_machine.specs.declared.Machine.the-variants.{Direct, Messages};
 ghost use Rattle.runs.specs.Direct.{directRun};
 ghost use Rattle.runs.specs.Answer.{lengths, refusedWith, Answered};
+use gather::counts::Counts;
 use message_machine::Machine;
 use program::check;
+use program::scratch;
 use run_program;
-use run_program::Counts;
 use run_program::RunAnswer;
 
 // A refusal before running.
@@ -57,11 +58,7 @@ fn run_text(
     }
     let sizes = register::sizes_of(file);
     let program = checked.program;
-    let places = sizes.records * (program.lines + (sizes.references + sizes.measures) + 1);
-    if values.len() < places {
-        return refused(19, 0);
-    }
-    if marks.len() < places {
+    if scratch::is_short(sizes, program.lines, values.len(), marks.len()) {
         return refused(19, 0);
     }
     copy(file, out);

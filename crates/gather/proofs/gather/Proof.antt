@@ -1,7 +1,6 @@
 -- `gather::gather` meets its contract: by following, or by the exchanges of all rounds.
 -- Assumes nothing.
-use Prim.Native.Nat.{ℕ, _≤_, _*_}
-use mathlib.Core.Path.{_≡_, refl, sym, ap, ap₂, subst, _∙_}
+use mathlib.Core.Path.{_≡_, refl, sym, subst}
 use native.Mathlib.Omega.{arith}
 use borrow.Author.Needs.{needs}
 use denote.Ref.{now}
@@ -10,11 +9,10 @@ use Rattle.register.proofs.Loading.{file-parts}
 use Rattle.plan.specs.Plan.{last-round}
 use Rattle.plan.specs.Held.{facts-in}
 use Rattle.rules.specs.Program.{stepPlan}
-use Rattle.fill.specs.Filled.{FollowLines, Filled}
+use Rattle.fill.specs.Filled.{FollowLines}
 use Rattle.fill.proofs.Readings.{lines-follow}
-use Rattle.messages.proofs.Counting.{plan-below}
 use Rattle.messages.proofs.Planned.{planned-lines, planned-followable, planned-count, planned-rounds}
-use Rattle.gather.proofs.Gathering.{told-filled}
+use Rattle.gather.proofs.Gathering.{told-gathered}
 use Rattle.gather.proofs.gather.Statement.{statement}
 use Rattle.gather.proofs.gather.Tie as tie
 
@@ -87,16 +85,12 @@ last-is c = c .last-round .ensures .last-is _ (planned-count (c .before .before 
 returns-2 : tie.Need-returns-2
 unfolding cellsOfFile
 returns-2 c =
-    let done = rw (c .before .before .before .before .before .before .before .before .before .before .values-part .ensures, c .before .before .before .before .before .before .before .before .before .marks-part .ensures) at (c .before .before .before .exchange-to .ensures) in
-    let last = last-is (c .before .before .before .before .before .before) in
-    let told = rw (last, facts-are (c .before .before .before .before .before .before .before .before .before .before .before .before .before)) at done in
-    rw (c .before .before .before .before .before .before .before .enum-told2 .given .1)
-    (record {
-      filled = rw (facts-are (c .before .before .before .before .before .before .before .before .before .before .before .before .before)) (told-filled (c .before .before .before .before .before .before .before .before .before .before .before .before .before .pre .0 .valid) (c .before .before .before .before .before .before .before .before .before .before .before .before .before .pre .1 .passes) told);
-      counted = rw last (ap (λ (k : ℕ). record { exchanges = last-round (facts-in (now (c .before .before .before .before .before .before .before .before .before .before .before .before .before .args .keys)) (c .before .before .before .before .before .before .before .before .before .before .before .before .before .args .count)); messages = k }) (rw last at (done .messages)));
-      few-exchanges = omega (arith, c .before .before .before .before .before .before .last-round .ok);
-      few-messages = plan-below _ _ _ _ (done .messages);
-    })
+    let r = c .before .before .before .before .before .before in
+    let m = r .before .before .before in
+    let s = m .before .before .before .before in
+    let done = rw (m .before .values-part .ensures, m .marks-part .ensures) at (c .before .before .before .exchange-to .ensures) in
+    rw (r .before .enum-told2 .given .1)
+    (told-gathered (s .pre .0 .valid) (s .pre .1 .passes) (facts-are s) (last-is r) (omega (arith, r .last-round .ok)) done)
 
 pub gather-spec : {M : Type 1} → statement M
 gather-spec =

@@ -1,9 +1,9 @@
--- `run_program::count` meets its contract.
+-- `gather::counts::count` meets its contract.
 -- Assumes nothing.
 use mathlib.Core.Path.{_≡_, refl}
 use borrow.Author.Needs.{needs}
-use Rattle.run_program.proofs.count.Statement.{statement}
-use Rattle.run_program.proofs.count.Tie as tie
+use Rattle.gather.proofs.counts.count.Statement.{statement}
+use Rattle.gather.proofs.counts.count.Tie as tie
 
 enum-told : tie.Need-enum-told
 enum-told c = search needs
