@@ -1,6 +1,7 @@
 // The library's run, and what of its answer is printed.
 ghost use mathlib.Core.Path.{_≡_};
 ghost use Rattle.plotprint.specs.Behind.{behindAt};
+ghost use Rattle.plotprint.specs.RanBy.{RanBy};
 
 // "allowance 1,000"
 const BUDGET: u16 = 1000;
@@ -16,7 +17,9 @@ pub struct Ran {
 
 // The run of a text over a register file of at most 512 bytes. That has at most 100 cells, so 100 records and 100 × (64 + 1) + 100
 // places; or no field, so no plan line, and 4,096 records.
-pub fn run(file: &[u8], text: &[u8], out: &mut [u8]) -> Ran {
+pub fn run(file: &[u8], text: &[u8], out: &mut [u8]) -> Ran
+    ensures { λ r. ⌜ RanBy (now (file .entry)) (now (text .entry)) (now (out .entry)) (now (out .exit)) r ⌝ }
+{
     let mut values = [0i64; 6600];
     let mut marks = [0u8; 6600];
     let answer = runs::run_messages(file, text, BUDGET, out, &mut values, &mut marks);
