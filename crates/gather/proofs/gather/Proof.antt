@@ -32,15 +32,18 @@ enum-told c = search needs
 fill-requires : tie.Need-fill-requires
 unfolding cellsOfFile
 fill-requires c κs =
-    let follows = subst (FollowLines (c .before .before .before .before .before .before .before .before .args .sizes)) (sym (facts-are (c .before .before .before .before .before .before .before .before))) (lines-follow (c .before .before .before .before .before .before .before .before .args .sizes) (c .before .before .before .before .before .before .before .before .pre .1 .passes)) in
+    let b = c .before .before .before .before .before .before .before .before in
+    let follows = subst (FollowLines (b .args .sizes)) (sym (facts-are b)) (lines-follow (b .args .sizes) (b .pre .1 .passes)) in
     rw (c .before .before .before .before .before .values-part .ensures, c .before .before .before .before .marks-part .ensures)
-    (file-parts (now (c .before .before .before .before .before .before .before .before .args .file)) (c .before .before .before .before .before .before .before .before .args .sizes) (c .before .before .before .before .before .before .before .before .pre .0 .valid .limits) (c .before .before .before .before .before .before .before .before .pre .0 .whole), c .before .before .before .before .before .before .before .before .pre .0 .valid, c .before .before .before .before .before .before .before .before .pre .1 .holds .keyed, follows, c .before .before .before .before .before .before .before .before .pre .2, c .before .before .before .before .before .before .before .before .pre .3)
+    (file-parts (now (b .args .file)) (b .args .sizes) (b .pre .0 .valid .limits) (b .pre .0 .whole), b .pre .0 .valid, b .pre .1 .holds .keyed, follows, b .pre .2, b .pre .3)
 
 enum-told-2 : tie.Need-enum-told-2
 enum-told-2 c = search needs
 
 last-round-requires : tie.Need-last-round-requires
-last-round-requires c κs = (c .before .before .before .before .before .before .pre .1 .holds .rounds-are .places, c .before .before .before .before .before .before .pre .1 .holds .keyed .taken≤)
+last-round-requires c κs =
+    let b = c .before .before .before .before .before .before in
+    (b .pre .1 .holds .rounds-are .places, b .pre .1 .holds .keyed .taken≤)
 
 cast-t20 : tie.Need-cast-t20
 cast-t20 c = search needs
@@ -48,10 +51,11 @@ cast-t20 c = search needs
 exchange-to-requires : tie.Need-exchange-to-requires
 unfolding cellsOfFile
 exchange-to-requires c κs =
+    let b = c .before .before .before .before .before .before .before .before .before in
     rw (c .before .before .before .before .before .before .values-part .ensures, c .before .before .before .before .before .marks-part .ensures) (
-      file-parts (now (c .before .before .before .before .before .before .before .before .before .args .file)) (c .before .before .before .before .before .before .before .before .before .args .sizes) (c .before .before .before .before .before .before .before .before .before .pre .0 .valid .limits) (c .before .before .before .before .before .before .before .before .before .pre .0 .whole),
-      c .before .before .before .before .before .before .before .before .before .pre .0 .valid,
-      record { lines = planned-lines (c .before .before .before .before .before .before .before .before .before .pre .1); follow = planned-followable (c .before .before .before .before .before .before .before .before .before .pre .1); values-room = c .before .before .before .before .before .before .before .before .before .pre .2; marks-room = c .before .before .before .before .before .before .before .before .before .pre .3 },
+      file-parts (now (b .args .file)) (b .args .sizes) (b .pre .0 .valid .limits) (b .pre .0 .whole),
+      b .pre .0 .valid,
+      record { lines = planned-lines (b .pre .1); follow = planned-followable (b .pre .1); values-room = b .pre .2; marks-room = b .pre .3 },
     )
 
 same-length : tie.Need-same-length
@@ -80,7 +84,9 @@ same-length-4 c = search needs
 
 -- the last round, and what the exchanges up to it make
 last-is : (c : tie.After-last-round) → c .last-round .result ≡ last-round (facts-in (now (c .before .before .before .before .before .before .before .args .keys)) (c .before .before .before .before .before .before .before .args .count))
-last-is c = c .last-round .ensures .last-is _ (planned-count (c .before .before .before .before .before .before .before .pre .1)) (planned-rounds (c .before .before .before .before .before .before .before .pre .1))
+last-is c =
+    let b = c .before .before .before .before .before .before .before in
+    c .last-round .ensures .last-is _ (planned-count (b .pre .1)) (planned-rounds (b .pre .1))
 
 returns-2 : tie.Need-returns-2
 unfolding cellsOfFile

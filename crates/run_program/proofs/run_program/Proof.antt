@@ -69,6 +69,43 @@ Inv-loop out₀ values₀ marks₀ sizes machine budget slots frames steps at ba
 abbrev μ-loop : tie.MeasureT-loop
 μ-loop out₀ values₀ marks₀ sizes machine budget slots frames steps at base rules₀ step₀ first₀ finished₀ counts₀ out values marks rules step first finished counts = budget - finished
 
+-- back to the states that the answers speak of
+abbrev begins : tie.After-begin Inv-loop2 μ-loop2 Inv-loop3 μ-loop3 Inv-records μ-records Inv-loop μ-loop → tie.Start Inv-loop2 μ-loop2 Inv-loop3 μ-loop3 Inv-records μ-records Inv-loop μ-loop
+begins c = c .before .before .before .before .before .before .before .before .before .before .before .before .before
+
+abbrev starts : tie.At-loop Inv-loop2 μ-loop2 Inv-loop3 μ-loop3 Inv-records μ-records Inv-loop μ-loop → tie.Start Inv-loop2 μ-loop2 Inv-loop3 μ-loop3 Inv-records μ-records Inv-loop μ-loop
+starts c = c .before .before .before .before .before .before .before .before .before .before .before .before .before .before .before .before .before .before
+
+abbrev enters-loop : tie.At-loop Inv-loop2 μ-loop2 Inv-loop3 μ-loop3 Inv-records μ-records Inv-loop μ-loop → tie.After-begin Inv-loop2 μ-loop2 Inv-loop3 μ-loop3 Inv-records μ-records Inv-loop μ-loop
+enters-loop c = c .before .before .before .before .before
+
+abbrev tops : tie.Else1 Inv-loop2 μ-loop2 Inv-loop3 μ-loop3 Inv-records μ-records Inv-loop μ-loop → tie.At-loop Inv-loop2 μ-loop2 Inv-loop3 μ-loop3 Inv-records μ-records Inv-loop μ-loop
+tops c = c .before .before
+
+abbrev takes : tie.At-loop2 Inv-loop2 μ-loop2 Inv-loop3 μ-loop3 Inv-records μ-records Inv-loop μ-loop → tie.Else1 Inv-loop2 μ-loop2 Inv-loop3 μ-loop3 Inv-records μ-records Inv-loop μ-loop
+takes c = c .before .before
+
+abbrev locates : tie.After-enter Inv-loop2 μ-loop2 Inv-loop3 μ-loop3 Inv-records μ-records Inv-loop μ-loop → tie.At-loop2 Inv-loop2 μ-loop2 Inv-loop3 μ-loop3 Inv-records μ-records Inv-loop μ-loop
+locates c = c .before .before .before .before .before
+
+abbrev enters : tie.After-gather Inv-loop2 μ-loop2 Inv-loop3 μ-loop3 Inv-records μ-records Inv-loop μ-loop → tie.After-enter Inv-loop2 μ-loop2 Inv-loop3 μ-loop3 Inv-records μ-records Inv-loop μ-loop
+enters c = c .before .before .before .before .before .before .before .before .before .before .before .before
+
+abbrev turns : tie.After-gather Inv-loop2 μ-loop2 Inv-loop3 μ-loop3 Inv-records μ-records Inv-loop μ-loop → tie.Else1 Inv-loop2 μ-loop2 Inv-loop3 μ-loop3 Inv-records μ-records Inv-loop μ-loop
+turns c = c .before .before .before .before .before .before .before .before .before .before .before .before .before .before .before .before .before .before .before
+
+abbrev leaves : tie.Left-records Inv-loop2 μ-loop2 Inv-loop3 μ-loop3 Inv-records μ-records Inv-loop μ-loop → tie.After-gather Inv-loop2 μ-loop2 Inv-loop3 μ-loop3 Inv-records μ-records Inv-loop μ-loop
+leaves c = c .before .before .before .before .before
+
+abbrev readies : tie.Joined2 Inv-loop2 μ-loop2 Inv-loop3 μ-loop3 Inv-records μ-records Inv-loop μ-loop → tie.After-gather Inv-loop2 μ-loop2 Inv-loop3 μ-loop3 Inv-records μ-records Inv-loop μ-loop
+readies c = c .before .before .before .before .before .before .before .before
+
+abbrev writes : tie.Joined2 Inv-loop2 μ-loop2 Inv-loop3 μ-loop3 Inv-records μ-records Inv-loop μ-loop → tie.Left-records Inv-loop2 μ-loop2 Inv-loop3 μ-loop3 Inv-records μ-records Inv-loop μ-loop
+writes c = c .before .before .before
+
+abbrev commits : tie.After-enum-told4 Inv-loop2 μ-loop2 Inv-loop3 μ-loop3 Inv-records μ-records Inv-loop μ-loop → tie.Joined2 Inv-loop2 μ-loop2 Inv-loop3 μ-loop3 Inv-records μ-records Inv-loop μ-loop
+commits c = c .before .before .before .before .before .before .before .before
+
 -- the entry: at most 32 steps and 64 lines, and room for what stands behind the lines
 module _ (c : tie.Start Inv-loop2 μ-loop2 Inv-loop3 μ-loop3 Inv-records μ-records Inv-loop μ-loop) where
   abbrev program : R.Program
@@ -93,22 +130,29 @@ mul-at : tie.Need-mul-at Inv-loop2 μ-loop2 Inv-loop3 μ-loop3 Inv-records μ-re
 mul-at c = record { fits = omega (arith, at≤ (c .before .before .before .before .before .before)) }
 
 add-base : tie.Need-add-base Inv-loop2 μ-loop2 Inv-loop3 μ-loop3 Inv-records μ-records Inv-loop μ-loop
-add-base c = record { fits = omega (arith, at≤ (c .before .before .before .before .before .before .before), c .before .before .before .before .before .before .before .pre .0 .valid .limits .records≤) }
+add-base c =
+    let b = c .before .before .before .before .before .before .before in
+    record { fits = omega (arith, at≤ b, b .pre .0 .valid .limits .records≤) }
 
 values-part-requires : tie.Need-values-part-requires Inv-loop2 μ-loop2 Inv-loop3 μ-loop3 Inv-records μ-records Inv-loop μ-loop
-values-part-requires c κs = (c .before .before .before .before .before .before .before .before .pre .0 .valid .limits, c .before .before .before .before .before .before .before .before .pre .0 .whole)
+values-part-requires c κs =
+    let b = c .before .before .before .before .before .before .before .before in
+    (b .pre .0 .valid .limits, b .pre .0 .whole)
 
 marks-part-requires : tie.Need-marks-part-requires Inv-loop2 μ-loop2 Inv-loop3 μ-loop3 Inv-records μ-records Inv-loop μ-loop
-marks-part-requires c κs = (c .before .before .before .before .before .before .before .before .before .pre .0 .valid .limits, c .before .before .before .before .before .before .before .before .before .pre .0 .whole)
+marks-part-requires c κs =
+    let b = c .before .before .before .before .before .before .before .before .before in
+    (b .pre .0 .valid .limits, b .pre .0 .whole)
 
 begin-requires : tie.Need-begin-requires Inv-loop2 μ-loop2 Inv-loop3 μ-loop3 Inv-records μ-records Inv-loop μ-loop
 begin-requires c κs =
-    let parts = file-parts (now (c .before .before .before .before .before .before .before .before .before .before .before .before .args .out)) (c .before .before .before .before .before .before .before .before .before .before .before .before .args .sizes) (c .before .before .before .before .before .before .before .before .before .before .before .before .pre .0 .valid .limits) (c .before .before .before .before .before .before .before .before .before .before .before .before .pre .0 .whole) in
-    let room = behind (c .before .before .before .before .before .before .before .before .before .before .before .before) in
+    let b = c .before .before .before .before .before .before .before .before .before .before .before .before in
+    let parts = file-parts (now (b .args .out)) (b .args .sizes) (b .pre .0 .valid .limits) (b .pre .0 .whole) in
+    let room = behind b in
     rw (c .before .before .before .values-part .ensures, c .before .before .marks-part .ensures) (
       parts .values-length ∙ ap (λ (n : ℕ). 4 * n) (sym (parts .marks-length)),
       record {
-        base≤ = omega (arith, at≤ (c .before .before .before .before .before .before .before .before .before .before .before .before), c .before .before .before .before .before .before .before .before .before .before .before .before .pre .0 .valid .limits .records≤);
+        base≤ = omega (arith, at≤ b, b .pre .0 .valid .limits .records≤);
         values-room = rw (parts .marks-length) (room .values-room);
         marks-room = rw (parts .marks-length) (room .marks-room);
       },
@@ -118,17 +162,18 @@ array-copy-out-rules : tie.Need-array-copy-out-rules Inv-loop2 μ-loop2 Inv-loop
 array-copy-out-rules c = omega arith
 
 -- the working cells hold those of the register
-begun : (c : tie.After-begin Inv-loop2 μ-loop2 Inv-loop3 μ-loop3 Inv-records μ-records Inv-loop μ-loop) → Holds (at (c .before .before .before .before .before .before .before .before .before .before .before .before .before) + c .before .before .before .before .before .before .before .before .before .before .before .before .before .args .sizes .records) (cellsOfFile (c .before .before .before .before .before .before .before .before .before .before .before .before .before .args .sizes) (now (c .before .before .before .before .before .before .before .before .before .before .before .before .before .args .out))) (c .begin .last .1 .1 .0) (c .begin .last .1 .1 .1 .0)
+begun : (c : tie.After-begin Inv-loop2 μ-loop2 Inv-loop3 μ-loop3 Inv-records μ-records Inv-loop μ-loop) → Holds (at (begins c) + begins c .args .sizes .records) (cellsOfFile (begins c .args .sizes) (now (begins c .args .out))) (c .begin .last .1 .1 .0) (c .begin .last .1 .1 .1 .0)
 unfolding cellsOfFile
 begun c = rw (c .before .before .before .before .values-part .ensures, c .before .before .before .marks-part .ensures) at (c .begin .ensures .0)
 
 loop-holds : tie.Need-loop-holds Inv-loop2 μ-loop2 Inv-loop3 μ-loop3 Inv-records μ-records Inv-loop μ-loop
 unfolding programOf
 loop-holds c =
-    let room = behind (c .before .before .before .before .before .before .before .before .before .before .before .before .before .before .before .before .before) in
-    let kept = c .before .before .before .before .begin .ensures .1 in (
-      stands-start (c .before .before .before .before .before .before .before .before .before .before .before .before .before .before .before .before .before .pre .0) (begun (c .before .before .before .before))
-          (record { values-room = rw (kept .values-length) (room .values-room); marks-room = rw (kept .marks-length) (room .marks-room) }) (c .before .before .before .before .before .before .before .before .before .before .before .before .before .before .before .before .before .pre .3) (c .before .before .before .before .before .before .before .before .before .before .before .before .before .before .before .before .before .pre .2 .steps-are),
+    let b = c .before .before .before .before in
+    let room = behind (begins b) in
+    let kept = b .begin .ensures .1 in (
+      stands-start (begins b .pre .0) (begun b)
+          (record { values-room = rw (kept .values-length) (room .values-room); marks-room = rw (kept .marks-length) (room .marks-room) }) (begins b .pre .3) (begins b .pre .2 .steps-are),
       refl,
       refl,
       refl,
@@ -138,98 +183,117 @@ ended-requires : tie.Need-ended-requires Inv-loop2 μ-loop2 Inv-loop3 μ-loop3 I
 ended-requires c κs = tt
 
 same-length : tie.Need-same-length Inv-loop2 μ-loop2 Inv-loop3 μ-loop3 Inv-records μ-records Inv-loop μ-loop
-same-length c = c .before .before .before .loop .inv .0 .register .whole ∙ sym (c .before .before .before .before .before .before .before .before .before .before .before .before .before .before .before .before .before .before .before .before .before .pre .0 .whole)
+same-length c =
+    let b = c .before .before .before in
+    b .loop .inv .0 .register .whole ∙ sym (starts b .pre .0 .whole)
 
 same-length-2 : tie.Need-same-length-2 Inv-loop2 μ-loop2 Inv-loop3 μ-loop3 Inv-records μ-records Inv-loop μ-loop
-same-length-2 c = c .before .before .before .loop .inv .2 ∙ c .before .before .before .before .before .before .before .before .begin .ensures .1 .values-length
+same-length-2 c =
+    let b = c .before .before .before in
+    b .loop .inv .2 ∙ enters-loop b .begin .ensures .1 .values-length
 
 same-length-3 : tie.Need-same-length-3 Inv-loop2 μ-loop2 Inv-loop3 μ-loop3 Inv-records μ-records Inv-loop μ-loop
-same-length-3 c = c .before .before .before .loop .inv .3 ∙ c .before .before .before .before .before .before .before .before .begin .ensures .1 .marks-length
+same-length-3 c =
+    let b = c .before .before .before in
+    b .loop .inv .3 ∙ enters-loop b .begin .ensures .1 .marks-length
 
 returns : tie.Need-returns Inv-loop2 μ-loop2 Inv-loop3 μ-loop3 Inv-records μ-records Inv-loop μ-loop
 unfolding programOf
-returns c = rw (c .ended .ensures) (stands-spent (c .before .before .before .loop .inv .0) (omega (arith, c .before .before .loop-test .taken, c .before .before .before .before .before .before .before .before .before .before .before .before .before .before .before .before .before .before .before .before .before .pre .2 .steps-are)) (c .before .if1 .taken))
+returns c =
+    let b = c .before .before .before in
+    rw (c .ended .ensures) (stands-spent (b .loop .inv .0) (omega (arith, c .before .before .loop-test .taken, starts b .pre .2 .steps-are)) (c .before .if1 .taken))
 
 mul-frame : tie.Need-mul-frame Inv-loop2 μ-loop2 Inv-loop3 μ-loop3 Inv-records μ-records Inv-loop μ-loop
-mul-frame c = record { fits = omega (arith, few-steps (c .before .before .before .before .before .before .before .before .before .before .before .before .before .before .before .before .before .before .before .before), c .before .loop-test .taken) }
+mul-frame c = record { fits = omega (arith, few-steps (starts (tops c)), c .before .loop-test .taken) }
 
 array-copy-out-frame : tie.Need-array-copy-out-frame Inv-loop2 μ-loop2 Inv-loop3 μ-loop3 Inv-records μ-records Inv-loop μ-loop
-array-copy-out-frame c = omega (arith, few-steps (c .before .before .before .before .before .before .before .before .before .before .before .before .before .before .before .before .before .before .before .before), c .before .loop-test .taken)
+array-copy-out-frame c = omega (arith, few-steps (starts (tops c)), c .before .loop-test .taken)
 
 -- a turn of the loop
 module _ (c : tie.Else1 Inv-loop2 μ-loop2 Inv-loop3 μ-loop3 Inv-records μ-records Inv-loop μ-loop) where
-  turn : Turn (c .before .before .before .before .before .before .before .before .before .before .before .before .before .before .before .before .before .before .before .before .args .machine) (c .before .before .before .before .before .before .before .before .before .before .before .before .before .before .before .before .before .before .before .before .args .sizes) (c .before .before .before .before .before .before .before .before .before .before .before .before .before .before .before .before .before .before .before .before .args .program) (c .before .before .before .before .before .before .before .before .before .before .before .before .before .before .before .before .before .before .before .before .args .budget) (now (c .before .before .before .before .before .before .before .before .before .before .before .before .before .before .before .before .before .before .before .before .args .out)) (c .before .before .loop .step) (c .before .before .loop .first) (c .before .before .loop .finished) (c .before .before .loop .counts) (c .before .before .loop .out) (c .before .before .loop .values) (c .before .before .loop .marks)
+  turn : Turn (starts (tops c) .args .machine) (starts (tops c) .args .sizes) (starts (tops c) .args .program) (starts (tops c) .args .budget) (now (starts (tops c) .args .out)) (tops c .loop .step) (tops c .loop .first) (tops c .loop .finished) (tops c .loop .counts) (tops c .loop .out) (tops c .loop .values) (tops c .loop .marks)
   unfolding programOf
-  turn = record { complete = c .before .before .before .before .before .before .before .before .before .before .before .before .before .before .before .before .before .before .before .before .pre .2; passes = c .before .before .before .before .before .before .before .before .before .before .before .before .before .before .before .before .before .before .before .before .pre .3; few-lines = c .before .before .before .before .before .before .before .before .before .before .before .before .before .before .before .before .before .before .before .before .pre .1 .lines≤; stands = c .before .before .loop .inv .0; more = c .before .loop-test .taken }
+  turn = record { complete = starts (tops c) .pre .2; passes = starts (tops c) .pre .3; few-lines = starts (tops c) .pre .1 .lines≤; stands = tops c .loop .inv .0; more = c .before .loop-test .taken }
 
-  later : c .before .before .loop .finished < c .before .before .before .before .before .before .before .before .before .before .before .before .before .before .before .before .before .before .before .before .args .budget
-  later = omega (arith, c .before .before .loop .inv .0 .running .within, c .if1 .left)
+  later : tops c .loop .finished < starts (tops c) .args .budget
+  later = omega (arith, tops c .loop .inv .0 .running .within, c .if1 .left)
 
-  few-rules : getD (c .before .before .before .before .before .before .before .before .before .before .before .before .before .before .before .before .before .before .before .before .args .program .frames) (c .before .before .loop .step) noFrame .rules ≤ 32
+  few-rules : getD (starts (tops c) .args .program .frames) (tops c .loop .step) noFrame .rules ≤ 32
   few-rules = at-step turn .frame .few
 
 loop2-holds : tie.Need-loop2-holds Inv-loop2 μ-loop2 Inv-loop3 μ-loop3 Inv-records μ-records Inv-loop μ-loop
-loop2-holds c = (refl, c .before .before .before .loop .inv .1, omega arith)
+loop2-holds c = (refl, tops (c .before) .loop .inv .1, omega arith)
 
 mul-slot : tie.Need-mul-slot Inv-loop2 μ-loop2 Inv-loop3 μ-loop3 Inv-records μ-records Inv-loop μ-loop
-mul-slot c = record { fits = omega (arith, few-steps (c .before .before .before .before .before .before .before .before .before .before .before .before .before .before .before .before .before .before .before .before .before .before .before), c .before .before .before .before .loop-test .taken) }
+mul-slot c = record { fits = omega (arith, few-steps (starts (tops (takes (c .before)))), takes (c .before) .before .loop-test .taken) }
 
 add-slot : tie.Need-add-slot Inv-loop2 μ-loop2 Inv-loop3 μ-loop3 Inv-records μ-records Inv-loop μ-loop
-add-slot c = record { fits = omega (arith, few-steps (c .before .before .before .before .before .before .before .before .before .before .before .before .before .before .before .before .before .before .before .before .before .before .before), c .before .before .before .before .loop-test .taken, few-rules (c .before .before .before), c .loop2-test .taken) }
+add-slot c = record { fits = omega (arith, few-steps (starts (tops (takes (c .before)))), takes (c .before) .before .loop-test .taken, few-rules (takes (c .before)), c .loop2-test .taken) }
 
 mul-slot-2 : tie.Need-mul-slot-2 Inv-loop2 μ-loop2 Inv-loop3 μ-loop3 Inv-records μ-records Inv-loop μ-loop
-mul-slot-2 c = record { fits = omega (arith, few-steps (c .before .before .before .before .before .before .before .before .before .before .before .before .before .before .before .before .before .before .before .before .before .before .before), c .before .before .before .before .loop-test .taken, few-rules (c .before .before .before), c .loop2-test .taken) }
+mul-slot-2 c = record { fits = omega (arith, few-steps (starts (tops (takes (c .before)))), takes (c .before) .before .loop-test .taken, few-rules (takes (c .before)), c .loop2-test .taken) }
 
 array-copy-out-slot : tie.Need-array-copy-out-slot Inv-loop2 μ-loop2 Inv-loop3 μ-loop3 Inv-records μ-records Inv-loop μ-loop
-array-copy-out-slot c = omega (arith, few-steps (c .before .before .before .before .before .before .before .before .before .before .before .before .before .before .before .before .before .before .before .before .before .before .before), c .before .before .before .before .loop-test .taken, few-rules (c .before .before .before), c .loop2-test .taken)
+array-copy-out-slot c = omega (arith, few-steps (starts (tops (takes (c .before)))), takes (c .before) .before .loop-test .taken, few-rules (takes (c .before)), c .loop2-test .taken)
 
 locate-requires : tie.Need-locate-requires Inv-loop2 μ-loop2 Inv-loop3 μ-loop3 Inv-records μ-records Inv-loop μ-loop
-locate-requires c κs = (at-step (turn (c .before .before .before .before .before .before)) .frame .holds .keyed, slot-short (turn (c .before .before .before .before .before .before)) (c .before .before .before .before .loop2 .k) _ (c .before .before .before .loop2-test .taken))
+locate-requires c κs =
+    let b = c .before .before .before .before in
+    (at-step (turn (takes b)) .frame .holds .keyed, slot-short (turn (takes b)) (b .loop2 .k) _ (c .before .before .before .loop2-test .taken))
 
 mul-rules : tie.Need-mul-rules Inv-loop2 μ-loop2 Inv-loop3 μ-loop3 Inv-records μ-records Inv-loop μ-loop
-mul-rules c = record { fits = omega (arith, few-rules (c .before .before .before .before .before .before .before), c .before .before .before .before .loop2-test .taken) }
+mul-rules c = record { fits = omega (arith, few-rules (takes (c .before .before .before .before .before)), c .before .before .before .before .loop2-test .taken) }
 
 array-set-from-rules : tie.Need-array-set-from-rules Inv-loop2 μ-loop2 Inv-loop3 μ-loop3 Inv-records μ-records Inv-loop μ-loop
-array-set-from-rules c = omega (arith, few-rules (c .before .before .before .before .before .before .before), c .before .before .before .before .loop2-test .taken)
+array-set-from-rules c = omega (arith, few-rules (takes (c .before .before .before .before .before)), c .before .before .before .before .loop2-test .taken)
 
 add-k : tie.Need-add-k Inv-loop2 μ-loop2 Inv-loop3 μ-loop3 Inv-records μ-records Inv-loop μ-loop
-add-k c = record { fits = omega (arith, few-rules (c .before .before .before .before .before .before .before), c .before .before .before .before .loop2-test .taken) }
+add-k c = record { fits = omega (arith, few-rules (takes (c .before .before .before .before .before)), c .before .before .before .before .loop2-test .taken) }
 
 loop2-less : tie.Need-loop2-less Inv-loop2 μ-loop2 Inv-loop3 μ-loop3 Inv-records μ-records Inv-loop μ-loop
 loop2-less c = omega (arith, c .before .before .before .before .loop2-test .taken)
 
 loop2-again : tie.Need-loop2-again Inv-loop2 μ-loop2 Inv-loop3 μ-loop3 Inv-records μ-records Inv-loop μ-loop
 loop2-again c =
-    let i = (c .before .before .before .before .before) .loop2 in (
-      slot-located (turn (c .before .before .before .before .before .before .before)) (i .rules) (i .k) _ (c .before .before .before .before .loop2-test .taken) (i .inv .1) (c .locate .ensures) (i .inv .0),
+    let b = c .before .before .before .before .before in
+    let d = c .before .before .before .before in
+    let i = b .loop2 in (
+      slot-located (turn (takes b)) (i .rules) (i .k) _ (d .loop2-test .taken) (i .inv .1) (c .locate .ensures) (i .inv .0),
       length-set (i .rules) (i .k) _ ∙ i .inv .1,
-      omega (arith, c .before .before .before .before .loop2-test .taken),
+      omega (arith, d .loop2-test .taken),
     )
 
 enter-requires : tie.Need-enter-requires Inv-loop2 μ-loop2 Inv-loop3 μ-loop3 Inv-records μ-records Inv-loop μ-loop
 enter-requires c κs =
-    let room = c .before .before .before .before .before .before .before .before .loop .inv .0 .room in
-    (c .before .before .before .before .before .before .before .before .before .before .before .before .before .before .before .before .before .before .before .before .before .before .before .before .before .before .pre .0 .valid .limits, c .before .before .before .before .before .before .before .before .loop .inv .0 .register .whole, setting-passes (turn (c .before .before .before .before .before .before)), record { values-room = omega (arith, room .values-room); marks-room = omega (arith, room .marks-room) })
+    let b = c .before .before .before .before in
+    let room = tops (takes b) .loop .inv .0 .room in
+    (starts (tops (takes b)) .pre .0 .valid .limits, tops (takes b) .loop .inv .0 .register .whole, setting-passes (turn (takes b)), record { values-room = omega (arith, room .values-room); marks-room = omega (arith, room .marks-room) })
 
 -- the pass is entered
-entered : (c : tie.After-enter Inv-loop2 μ-loop2 Inv-loop3 μ-loop3 Inv-records μ-records Inv-loop μ-loop) → Entered (c .before .before .before .before .before .before .before .before .before .before .before .before .before .before .before .before .before .before .before .before .before .before .before .before .before .before .before .args .sizes) (getD (c .before .before .before .before .before .before .before .before .before .before .before .before .before .before .before .before .before .before .before .before .before .before .before .before .before .before .before .args .program .frames) (c .before .before .before .before .before .before .before .before .before .loop .step) noFrame .setting) (cellsOfFile (c .before .before .before .before .before .before .before .before .before .before .before .before .before .before .before .before .before .before .before .before .before .before .before .before .before .before .before .args .sizes) (c .before .before .before .before .before .before .before .before .before .loop .out)) (at (c .before .before .before .before .before .before .before .before .before .before .before .before .before .before .before .before .before .before .before .before .before .before .before .before .before .before .before)) (c .before .before .before .before .before .before .before .before .before .loop .values) (c .before .before .before .before .before .before .before .before .before .loop .marks) (c .enter .last .1 .0) (c .enter .last .1 .1 .0)
+entered : (c : tie.After-enter Inv-loop2 μ-loop2 Inv-loop3 μ-loop3 Inv-records μ-records Inv-loop μ-loop) → Entered (starts (tops (takes (locates c))) .args .sizes) (getD (starts (tops (takes (locates c))) .args .program .frames) (tops (takes (locates c)) .loop .step) noFrame .setting) (cellsOfFile (starts (tops (takes (locates c))) .args .sizes) (tops (takes (locates c)) .loop .out)) (at (starts (tops (takes (locates c))))) (tops (takes (locates c)) .loop .values) (tops (takes (locates c)) .loop .marks) (c .enter .last .1 .0) (c .enter .last .1 .1 .0)
 entered c = c .enter .ensures .1
 
 gather-requires : tie.Need-gather-requires Inv-loop2 μ-loop2 Inv-loop3 μ-loop3 Inv-records μ-records Inv-loop μ-loop
 gather-requires c κs =
-    let t = turn (c .before .before .before .before .before .before .before .before .before .before .before .before .before .before .before .before .before .before) in
-    let kept = entered (c .before .before .before .before .before .before .before .before .before .before .before) .behind in
-    let room = c .before .before .before .before .before .before .before .before .before .before .before .before .before .before .before .before .before .before .before .before .loop .inv .0 .room in
+    let b = c .before .before .before .before .before .before .before .before .before .before .before in
+    let t = turn (takes (locates b)) in
+    let kept = entered b .behind in
+    let room = tops (takes (locates b)) .loop .inv .0 .room in
     (t .stands .register, planned t, omega (arith, lines-room t, room .values-room, kept .values-length), omega (arith, lines-room t, room .marks-room, kept .marks-length))
 
 -- the step can be run
-prepared : (c : tie.After-gather Inv-loop2 μ-loop2 Inv-loop3 μ-loop3 Inv-records μ-records Inv-loop μ-loop) → Prepared (turn (c .before .before .before .before .before .before .before .before .before .before .before .before .before .before .before .before .before .before .before)) (c .before .before .before .before .before .before .before .before .before .before .before .before .before .before .before .before .before .loop2 .rules) (c .before .before .before .before .before .before .before .before .before .before .before .before .enter .last .1 .0) (c .before .before .before .before .before .before .before .before .before .before .before .before .enter .last .1 .1 .0) (c .gather .last .1 .0) (c .gather .last .1 .1 .0) (c .gather .result)
+prepared : (c : tie.After-gather Inv-loop2 μ-loop2 Inv-loop3 μ-loop3 Inv-records μ-records Inv-loop μ-loop) → Prepared (turn (turns c)) (locates (enters c) .loop2 .rules) (enters c .enter .last .1 .0) (enters c .enter .last .1 .1 .0) (c .gather .last .1 .0) (c .gather .last .1 .1 .0) (c .gather .result)
 prepared c =
-    let all : c .before .before .before .before .before .before .before .before .before .before .before .before .before .before .before .before .before .loop2 .k ≡ getD (c .before .before .before .before .before .before .before .before .before .before .before .before .before .before .before .before .before .before .before .before .before .before .before .before .before .before .before .before .before .before .before .before .before .before .before .before .before .before .before .args .program .frames) (c .before .before .before .before .before .before .before .before .before .before .before .before .before .before .before .before .before .before .before .before .before .loop .step) noFrame .rules = omega (arith, c .before .before .before .before .before .before .before .before .before .before .before .before .before .before .before .before .loop2-test .left, c .before .before .before .before .before .before .before .before .before .before .before .before .before .before .before .before .before .loop2 .inv .2) in
-    record { is-located = rw all at (c .before .before .before .before .before .before .before .before .before .before .before .before .before .before .before .before .before .loop2 .inv .0); entered = entered (c .before .before .before .before .before .before .before .before .before .before .before .before); gathered = c .gather .ensures }
+    let b = c .before .before .before .before .before .before .before .before .before .before .before .before .before .before .before .before .before in
+    let all : b .loop2 .k ≡ getD (c .before .before .before .before .before .before .before .before .before .before .before .before .before .before .before .before .before .before .before .before .before .before .before .before .before .before .before .before .before .before .before .before .before .before .before .before .before .before .before .args .program .frames) (c .before .before .before .before .before .before .before .before .before .before .before .before .before .before .before .before .before .before .before .before .before .loop .step) noFrame .rules = omega (arith, c .before .before .before .before .before .before .before .before .before .before .before .before .before .before .before .before .loop2-test .left, b .loop2 .inv .2) in
+    record { is-located = rw all at (b .loop2 .inv .0); entered = entered (c .before .before .before .before .before .before .before .before .before .before .before .before); gathered = c .gather .ensures }
+
+-- the buffers keep their lengths
+gathered-lengths : (c : tie.After-gather Inv-loop2 μ-loop2 Inv-loop3 μ-loop3 Inv-records μ-records Inv-loop μ-loop) → (length (c .gather .last .1 .0) ≡ length (enters-loop (tops (turns c)) .begin .last .1 .1 .0)) × (length (c .gather .last .1 .1 .0) ≡ length (enters-loop (tops (turns c)) .begin .last .1 .1 .1 .0))
+gathered-lengths c = (c .gather .kept .1 .0 ∙ enters c .enter .kept .1 .0 ∙ tops (turns c) .loop .inv .2, c .gather .kept .1 .1 .0 ∙ enters c .enter .kept .1 .1 .0 ∙ tops (turns c) .loop .inv .3)
 
 -- the register's parts, before the local rules
-here-parts : (c : tie.Else1 Inv-loop2 μ-loop2 Inv-loop3 μ-loop3 Inv-records μ-records Inv-loop μ-loop) → Parts (c .before .before .before .before .before .before .before .before .before .before .before .before .before .before .before .before .before .before .before .before .args .sizes) (valuesPart (c .before .before .before .before .before .before .before .before .before .before .before .before .before .before .before .before .before .before .before .before .args .sizes) (c .before .before .loop .out)) (marksPart (c .before .before .before .before .before .before .before .before .before .before .before .before .before .before .before .before .before .before .before .before .args .sizes) (c .before .before .loop .out))
+here-parts : (c : tie.Else1 Inv-loop2 μ-loop2 Inv-loop3 μ-loop3 Inv-records μ-records Inv-loop μ-loop) → Parts (starts (tops c) .args .sizes) (valuesPart (starts (tops c) .args .sizes) (tops c .loop .out)) (marksPart (starts (tops c) .args .sizes) (tops c .loop .out))
 here-parts c = parts (turn c)
 
 records-holds : tie.Need-records-holds Inv-loop2 μ-loop2 Inv-loop3 μ-loop3 Inv-records μ-records Inv-loop μ-loop
@@ -239,25 +303,31 @@ loop3-holds : tie.Need-loop3-holds Inv-loop2 μ-loop2 Inv-loop3 μ-loop3 Inv-rec
 loop3-holds c = (record-start, c .before .records .inv .2, omega arith)
 
 values-part-requires-2 : tie.Need-values-part-requires-2 Inv-loop2 μ-loop2 Inv-loop3 μ-loop3 Inv-records μ-records Inv-loop μ-loop
-values-part-requires-2 c κs = (c .before .before .before .before .before .before .before .before .before .before .before .before .before .before .before .before .before .before .before .before .before .before .before .before .before .before .before .before .before .before .before .before .before .before .before .before .before .before .before .before .before .before .before .before .before .before .before .pre .0 .valid .limits, c .before .before .before .before .before .before .before .before .before .before .before .before .before .before .before .before .before .before .before .before .before .before .before .before .before .before .before .before .before .loop .inv .0 .register .whole)
+values-part-requires-2 c κs =
+    let b = c .before .before .before .before .before .before .before .before in
+    (starts (tops (turns b)) .pre .0 .valid .limits, tops (turns b) .loop .inv .0 .register .whole)
 
 marks-part-requires-2 : tie.Need-marks-part-requires-2 Inv-loop2 μ-loop2 Inv-loop3 μ-loop3 Inv-records μ-records Inv-loop μ-loop
-marks-part-requires-2 c κs = (c .before .before .before .before .before .before .before .before .before .before .before .before .before .before .before .before .before .before .before .before .before .before .before .before .before .before .before .before .before .before .before .before .before .before .before .before .before .before .before .before .before .before .before .before .before .before .before .before .pre .0 .valid .limits, c .before .before .before .before .before .before .before .before .before .before .before .before .before .before .before .before .before .before .before .before .before .before .before .before .before .before .before .before .before .before .loop .inv .0 .register .whole)
+marks-part-requires-2 c κs =
+    let b = c .before .before .before .before .before .before .before .before .before in
+    (starts (tops (turns b)) .pre .0 .valid .limits, tops (turns b) .loop .inv .0 .register .whole)
 
 mul-apply-rule : tie.Need-mul-apply-rule Inv-loop2 μ-loop2 Inv-loop3 μ-loop3 Inv-records μ-records Inv-loop μ-loop
-mul-apply-rule c = record { fits = omega (arith, few-rules (c .before .before .before .before .before .before .before .before .before .before .before .before .before .before .before .before .before .before .before .before .before .before .before .before .before .before .before .before .before .before .before), c .before .before .before .before .before .loop3-test .taken) }
+mul-apply-rule c = record { fits = omega (arith, few-rules (turns (c .before .before .before .before .before .before .before .before .before .before .before .before)), c .before .before .before .before .before .loop3-test .taken) }
 
 array-copy-out-apply-rule : tie.Need-array-copy-out-apply-rule Inv-loop2 μ-loop2 Inv-loop3 μ-loop3 Inv-records μ-records Inv-loop μ-loop
-array-copy-out-apply-rule c = omega (arith, few-rules (c .before .before .before .before .before .before .before .before .before .before .before .before .before .before .before .before .before .before .before .before .before .before .before .before .before .before .before .before .before .before .before), c .before .before .before .before .before .loop3-test .taken)
+array-copy-out-apply-rule c = omega (arith, few-rules (turns (c .before .before .before .before .before .before .before .before .before .before .before .before)), c .before .before .before .before .before .loop3-test .taken)
 
 apply-rule-requires : tie.Need-apply-rule-requires Inv-loop2 μ-loop2 Inv-loop3 μ-loop3 Inv-records μ-records Inv-loop μ-loop
 unfolding cellsOfFile
 apply-rule-requires c κs =
-    let p = prepared (c .before .before .before .before .before .before .before .before .before .before .before .before .before) in
-    let t = turn (c .before .before .before .before .before .before .before .before .before .before .before .before .before .before .before .before .before .before .before .before .before .before .before .before .before .before .before .before .before .before .before .before) in
-    let q = here-parts (c .before .before .before .before .before .before .before .before .before .before .before .before .before .before .before .before .before .before .before .before .before .before .before .before .before .before .before .before .before .before .before .before) in
+    let b = c .before .before .before .before .before .before .before .before .before .before .before .before .before in
+    let d = c .before .before .before .before .before .before in
+    let p = prepared b in
+    let t = turn (turns b) in
+    let q = here-parts (turns b) in
     let same = same-then (c .before .before .before .before .before .before .before .before .before .records .inv .0) (c .before .before .before .before .before .before .before .loop3 .inv .0 .same) in
-    let ready = ready-at (c .before .before .before .before .before .before .before .before .before .before .before .before .before .before .before .before .before .before .before .before .before .before .before .before .before .before .before .before .before .before .loop2 .rules) _ _ (omega (arith, few-rules (c .before .before .before .before .before .before .before .before .before .before .before .before .before .before .before .before .before .before .before .before .before .before .before .before .before .before .before .before .before .before .before .before), c .before .before .before .before .before .before .before .before .before .before .before .before .before .before .before .before .before .before .before .before .before .before .before .before .before .before .before .before .before .before .loop2 .inv .1, c .before .before .before .before .before .before .loop3-test .taken)) (c .before .before .before .before .before .before .loop3-test .taken) (step-ready t p) in
+    let ready = ready-at (locates (enters b) .loop2 .rules) _ _ (omega (arith, few-rules (turns b), locates (enters b) .loop2 .inv .1, d .loop3-test .taken)) (d .loop3-test .taken) (step-ready t p) in
     rw (c .before .before .before .before .values-part2 .ensures, c .before .before .before .marks-part2 .ensures)
     (q, c .before .before .before .before .before .before .before .before .records-test .taken, rw (q .marks-length) (room-same same (step-room t p)), rw (same .values-same, same .marks-same) ready)
 
@@ -268,7 +338,7 @@ enum-told-2 : tie.Need-enum-told-2 Inv-loop2 μ-loop2 Inv-loop3 μ-loop3 Inv-rec
 enum-told-2 c = search needs
 
 add-k-2 : tie.Need-add-k-2 Inv-loop2 μ-loop2 Inv-loop3 μ-loop3 Inv-records μ-records Inv-loop μ-loop
-add-k-2 c = record { fits = omega (arith, few-rules (c .before .before .before .before .before .before .before .before .before .before .before .before .before .before .before .before .before .before .before .before .before .before .before .before .before .before .before .before .before .before .before .before .before .before .before .before .before .before), c .before .before .before .before .before .before .before .before .before .before .before .before .loop3-test .taken) }
+add-k-2 c = record { fits = omega (arith, few-rules (turns (c .before .before .before .before .before .before .before .before .before .before .before .before .before .before .before .before .before .before .before)), c .before .before .before .before .before .before .before .before .before .before .before .before .loop3-test .taken) }
 
 loop3-less : tie.Need-loop3-less Inv-loop2 μ-loop2 Inv-loop3 μ-loop3 Inv-records μ-records Inv-loop μ-loop
 loop3-less c = omega (arith, c .before .before .before .before .before .before .before .before .before .before .before .before .loop3-test .taken)
@@ -276,11 +346,13 @@ loop3-less c = omega (arith, c .before .before .before .before .before .before .
 loop3-again : tie.Need-loop3-again Inv-loop2 μ-loop2 Inv-loop3 μ-loop3 Inv-records μ-records Inv-loop μ-loop
 unfolding cellsOfFile
 loop3-again c =
+    let b = c .before .before .before .before .before .before .before .before .before .before .before .before .before .before .before .before .before .before .before in
+    let d = c .before .before .before .before .before .before .before .before .before .before .before .before in
     let done = rw (c .before .before .before .before .before .before .before .before .before .before .values-part2 .ensures, c .before .before .before .before .before .before .before .before .before .marks-part2 .ensures, c .enum-told2 .given .1) at (c .before .before .before .before .before .apply-rule .ensures) in
-    (record-more (c .before .before .before .before .before .before .before .before .before .before .before .before .before .loop3 .inv .0) _ (omega (arith, few-rules (c .before .before .before .before .before .before .before .before .before .before .before .before .before .before .before .before .before .before .before .before .before .before .before .before .before .before .before .before .before .before .before .before .before .before .before .before .before .before), c .before .before .before .before .before .before .before .before .before .before .before .before .before .before .before .before .before .before .before .before .before .before .before .before .before .before .before .before .before .before .before .before .before .before .before .before .loop2 .inv .1, c .before .before .before .before .before .before .before .before .before .before .before .before .loop3-test .taken)) done (omega arith), c .enum-told2 .given .1, omega (arith, c .before .before .before .before .before .before .before .before .before .before .before .before .loop3-test .taken))
+    (record-more (c .before .before .before .before .before .before .before .before .before .before .before .before .before .loop3 .inv .0) _ (omega (arith, few-rules (turns b), locates (enters b) .loop2 .inv .1, d .loop3-test .taken)) done (omega arith), c .enum-told2 .given .1, omega (arith, d .loop3-test .taken))
 
 add-u : tie.Need-add-u Inv-loop2 μ-loop2 Inv-loop3 μ-loop3 Inv-records μ-records Inv-loop μ-loop
-add-u c = record { fits = omega (arith, c .before .before .before .before .before .before .before .before .before .before .before .before .before .before .before .before .before .before .before .before .before .before .before .before .before .before .before .before .before .before .before .before .before .before .before .before .before .before .before .before .before .before .before .before .before .before .pre .0 .valid .limits .records≤, c .before .before .records-test .taken) }
+add-u c = record { fits = omega (arith, starts (tops (turns (c .before .before .before .before .before .before .before))) .pre .0 .valid .limits .records≤, c .before .before .records-test .taken) }
 
 records-less : tie.Need-records-less Inv-loop2 μ-loop2 Inv-loop3 μ-loop3 Inv-records μ-records Inv-loop μ-loop
 records-less c = omega (arith, c .before .before .records-test .taken)
@@ -295,15 +367,17 @@ records-again c =
 applied : (c : tie.Left-records Inv-loop2 μ-loop2 Inv-loop3 μ-loop3 Inv-records μ-records Inv-loop μ-loop) {r : Stop} → c .records-test .stop ≡ r → LocalAnswer (c .before .before .before .before .before .before .before .before .before .before .before .before .before .before .before .before .before .before .before .before .before .before .before .before .before .before .before .before .before .before .before .before .before .before .before .before .before .before .before .before .before .before .before .before .args .sizes) (cellsOfFile (c .before .before .before .before .before .before .before .before .before .before .before .before .before .before .before .before .before .before .before .before .before .before .before .before .before .before .before .before .before .before .before .before .before .before .before .before .before .before .before .before .before .before .before .before .args .sizes) (c .before .before .before .before .before .before .before .before .before .before .before .before .before .before .before .before .before .before .before .before .before .before .before .before .before .before .loop .out)) (at (c .before .before .before .before .before .before .before .before .before .before .before .before .before .before .before .before .before .before .before .before .before .before .before .before .before .before .before .before .before .before .before .before .before .before .before .before .before .before .before .before .before .before .before .before) + c .before .before .before .before .before .before .before .before .before .before .before .before .before .before .before .before .before .before .before .before .before .before .before .before .before .before .before .before .before .before .before .before .before .before .before .before .before .before .before .before .before .before .before .before .args .sizes .records) (rulesIn (getD (c .before .before .before .before .before .before .before .before .before .before .before .before .before .before .before .before .before .before .before .before .before .before .before .before .before .before .before .before .before .before .before .before .before .before .before .before .before .before .before .before .before .before .before .before .args .program .frames) (c .before .before .before .before .before .before .before .before .before .before .before .before .before .before .before .before .before .before .before .before .before .before .before .before .before .before .loop .step) noFrame .rules) (c .before .before .before .before .before .before .before .before .before .before .before .before .before .before .before .before .before .before .before .before .before .before .loop2 .rules)) (c .before .before .before .before .before .gather .last .1 .0) (c .before .before .before .before .before .gather .last .1 .1 .0) (c .records-test .values) (c .records-test .marks) r
 unfolding cellsOfFile ruleOf
 applied c e =
+    let b = c .before .before .before .before .before .before .before .before .before .before .before .before .before .before .before .before .before .before .before .before .before .before in
+    let d = c .before .before .before .before .before .before .before .before .before .before .before .before .before .before .before .before .before .before .before .before .before .before .before .before in
     let p = prepared (c .before .before .before .before .before) in
-    let t = turn (c .before .before .before .before .before .before .before .before .before .before .before .before .before .before .before .before .before .before .before .before .before .before .before .before) in
+    let t = turn d in
     let i = c .before .records .inv in
     ⊎-elim
     (λ w. rw (sym e ∙ w .3 ∙ i .2, w .1, w .2) (i .0, records-all (omega (arith, i .3, w .0 .left)) (i .1)))
     (λ w.
     let stop = rw (w .4 .ensures, w .5 .ensures, w .14 .given .1) at (w .9 .ensures) in
-    let inside-rules : w .1 .k < length (c .before .before .before .before .before .before .before .before .before .before .before .before .before .before .before .before .before .before .before .before .before .before .loop2 .rules) = omega (arith, few-rules (c .before .before .before .before .before .before .before .before .before .before .before .before .before .before .before .before .before .before .before .before .before .before .before .before), c .before .before .before .before .before .before .before .before .before .before .before .before .before .before .before .before .before .before .before .before .before .before .loop2 .inv .1, w .2 .taken) in
-    let ready = ready-at (c .before .before .before .before .before .before .before .before .before .before .before .before .before .before .before .before .before .before .before .before .before .before .loop2 .rules) _ _ inside-rules (w .2 .taken) (step-ready t p) in
+    let inside-rules : w .1 .k < length (b .loop2 .rules) = omega (arith, few-rules d, b .loop2 .inv .1, w .2 .taken) in
+    let ready = ready-at (b .loop2 .rules) _ _ inside-rules (w .2 .taken) (step-ready t p) in
     rw (sym e ∙ w .17 ∙ w .14 .given .1, w .15, w .16)
     (same-then (same-then (i .0) (w .1 .inv .0 .same)) (stop .0), records-stop (i .0) (record-stops (w .1 .inv .0) _ inside-rules (w .2 .taken) (c .before .before .before .before .before .before .before .before .before .before .before .before .before .before .before .before .before .before .before .before .before .before .before .before .before .before .before .before .before .before .before .before .before .before .before .before .before .before .before .before .before .before .before .before .pre .0 .valid .limits) (w .0 .taken) (ready .field) stop)))
     (c .records-test .came)
@@ -315,47 +389,59 @@ out-of-range-requires : tie.Need-out-of-range-requires Inv-loop2 μ-loop2 Inv-lo
 out-of-range-requires c κs = tt
 
 same-length-4 : tie.Need-same-length-4 Inv-loop2 μ-loop2 Inv-loop3 μ-loop3 Inv-records μ-records Inv-loop μ-loop
-same-length-4 c = c .before .before .before .before .before .before .before .before .before .before .before .before .before .before .before .before .before .before .before .before .before .before .before .before .before .before .before .before .before .before .loop .inv .0 .register .whole ∙ sym (c .before .before .before .before .before .before .before .before .before .before .before .before .before .before .before .before .before .before .before .before .before .before .before .before .before .before .before .before .before .before .before .before .before .before .before .before .before .before .before .before .before .before .before .before .before .before .before .before .pre .0 .whole)
+same-length-4 c =
+    let b = c .before .before .before .before in
+    tops (turns (leaves b)) .loop .inv .0 .register .whole ∙ sym (starts (tops (turns (leaves b))) .pre .0 .whole)
 
 same-length-5 : tie.Need-same-length-5 Inv-loop2 μ-loop2 Inv-loop3 μ-loop3 Inv-records μ-records Inv-loop μ-loop
-same-length-5 c = applied (c .before .before .before .before) (c .before .before .stop .given .1) .0 .values-length ∙ c .before .before .before .before .before .before .before .before .before .gather .kept .1 .0 ∙ c .before .before .before .before .before .before .before .before .before .before .before .before .before .before .before .before .before .before .before .before .before .enter .kept .1 .0 ∙ c .before .before .before .before .before .before .before .before .before .before .before .before .before .before .before .before .before .before .before .before .before .before .before .before .before .before .before .before .before .before .loop .inv .2 ∙ c .before .before .before .before .before .before .before .before .before .before .before .before .before .before .before .before .before .before .before .before .before .before .before .before .before .before .before .before .before .before .before .before .before .before .before .begin .ensures .1 .values-length
+same-length-5 c =
+    let b = c .before .before .before .before in
+    applied b (c .before .before .stop .given .1) .0 .values-length ∙ gathered-lengths (leaves b) .0 ∙ enters-loop (tops (turns (leaves b))) .begin .ensures .1 .values-length
 
 same-length-6 : tie.Need-same-length-6 Inv-loop2 μ-loop2 Inv-loop3 μ-loop3 Inv-records μ-records Inv-loop μ-loop
-same-length-6 c = applied (c .before .before .before .before) (c .before .before .stop .given .1) .0 .marks-length ∙ c .before .before .before .before .before .before .before .before .before .gather .kept .1 .1 .0 ∙ c .before .before .before .before .before .before .before .before .before .before .before .before .before .before .before .before .before .before .before .before .before .enter .kept .1 .1 .0 ∙ c .before .before .before .before .before .before .before .before .before .before .before .before .before .before .before .before .before .before .before .before .before .before .before .before .before .before .before .before .before .before .loop .inv .3 ∙ c .before .before .before .before .before .before .before .before .before .before .before .before .before .before .before .before .before .before .before .before .before .before .before .before .before .before .before .before .before .before .before .before .before .before .before .begin .ensures .1 .marks-length
+same-length-6 c =
+    let b = c .before .before .before .before in
+    applied b (c .before .before .stop .given .1) .0 .marks-length ∙ gathered-lengths (leaves b) .1 ∙ enters-loop (tops (turns (leaves b))) .begin .ensures .1 .marks-length
 
 returns-2 : tie.Need-returns-2 Inv-loop2 μ-loop2 Inv-loop3 μ-loop3 Inv-records μ-records Inv-loop μ-loop
 unfolding programOf
 returns-2 c =
-    let t = turn (c .before .before .before .before .before .before .before .before .before .before .before .before .before .before .before .before .before .before .before .before .before .before .before .before .before .before .before .before) in
+    let b = c .before .before .before .before in
+    let t = turn (turns (leaves b)) in
     rw (c .out-of-range .ensures)
-    (stands-offended (t .stands) (inside t) (later (c .before .before .before .before .before .before .before .before .before .before .before .before .before .before .before .before .before .before .before .before .before .before .before .before .before .before .before .before)) (local-turn t (prepared (c .before .before .before .before .before .before .before .before .before)) (applied (c .before .before .before .before) (c .before .before .stop .given .1) .1)))
+    (stands-offended (t .stands) (inside t) (later (turns (leaves b))) (local-turn t (prepared (leaves b)) (applied b (c .before .before .stop .given .1) .1)))
 
 enum-told-3 : tie.Need-enum-told-3 Inv-loop2 μ-loop2 Inv-loop3 μ-loop3 Inv-records μ-records Inv-loop μ-loop
 enum-told-3 c = search needs
 
 -- all local sums are in range
-locals : (c : tie.After-enum-told3 Inv-loop2 μ-loop2 Inv-loop3 μ-loop3 Inv-records μ-records Inv-loop μ-loop) → Same (at (c .before .before .before .before .before .before .before .before .before .before .before .before .before .before .before .before .before .before .before .before .before .before .before .before .before .before .before .before .before .before .before .before .before .before .before .before .before .before .before .before .before .before .before .before .before .before) + c .before .before .before .before .before .before .before .before .before .before .before .before .before .before .before .before .before .before .before .before .before .before .before .before .before .before .before .before .before .before .before .before .before .before .before .before .before .before .before .before .before .before .before .before .before .before .args .sizes .records) (c .before .before .before .before .before .before .before .gather .last .1 .0) (c .before .before .before .before .before .before .before .gather .last .1 .1 .0) (c .before .before .records-test .values) (c .before .before .records-test .marks) × LocalDone (c .before .before .before .before .before .before .before .before .before .before .before .before .before .before .before .before .before .before .before .before .before .before .before .before .before .before .before .before .before .before .before .before .before .before .before .before .before .before .before .before .before .before .before .before .before .before .args .sizes) (cellsOfFile (c .before .before .before .before .before .before .before .before .before .before .before .before .before .before .before .before .before .before .before .before .before .before .before .before .before .before .before .before .before .before .before .before .before .before .before .before .before .before .before .before .before .before .before .before .before .before .args .sizes) (c .before .before .before .before .before .before .before .before .before .before .before .before .before .before .before .before .before .before .before .before .before .before .before .before .before .before .before .before .loop .out)) (at (c .before .before .before .before .before .before .before .before .before .before .before .before .before .before .before .before .before .before .before .before .before .before .before .before .before .before .before .before .before .before .before .before .before .before .before .before .before .before .before .before .before .before .before .before .before .before) + c .before .before .before .before .before .before .before .before .before .before .before .before .before .before .before .before .before .before .before .before .before .before .before .before .before .before .before .before .before .before .before .before .before .before .before .before .before .before .before .before .before .before .before .before .before .before .args .sizes .records) (rulesIn (getD (c .before .before .before .before .before .before .before .before .before .before .before .before .before .before .before .before .before .before .before .before .before .before .before .before .before .before .before .before .before .before .before .before .before .before .before .before .before .before .before .before .before .before .before .before .before .before .args .program .frames) (c .before .before .before .before .before .before .before .before .before .before .before .before .before .before .before .before .before .before .before .before .before .before .before .before .before .before .before .before .loop .step) noFrame .rules) (c .before .before .before .before .before .before .before .before .before .before .before .before .before .before .before .before .before .before .before .before .before .before .before .before .loop2 .rules)) (c .before .before .before .before .before .before .before .before .before .before .before .before .before .before .before .before .before .before .before .before .before .before .before .before .before .before .before .before .before .before .before .before .before .before .before .before .before .before .before .before .before .before .before .before .before .before .args .sizes .records) (c .before .before .before .before .before .before .before .gather .last .1 .0) (c .before .before .before .before .before .before .before .gather .last .1 .1 .0) (c .before .before .records-test .values) (c .before .before .records-test .marks)
+locals : (c : tie.After-enum-told3 Inv-loop2 μ-loop2 Inv-loop3 μ-loop3 Inv-records μ-records Inv-loop μ-loop) → Same (at (starts (tops (turns (leaves (c .before .before))))) + starts (tops (turns (leaves (c .before .before)))) .args .sizes .records) (leaves (c .before .before) .gather .last .1 .0) (leaves (c .before .before) .gather .last .1 .1 .0) (c .before .before .records-test .values) (c .before .before .records-test .marks) × LocalDone (starts (tops (turns (leaves (c .before .before)))) .args .sizes) (cellsOfFile (starts (tops (turns (leaves (c .before .before)))) .args .sizes) (tops (turns (leaves (c .before .before))) .loop .out)) (at (starts (tops (turns (leaves (c .before .before))))) + starts (tops (turns (leaves (c .before .before)))) .args .sizes .records) (rulesIn (getD (starts (tops (turns (leaves (c .before .before)))) .args .program .frames) (tops (turns (leaves (c .before .before))) .loop .step) noFrame .rules) (locates (enters (leaves (c .before .before))) .loop2 .rules)) (starts (tops (turns (leaves (c .before .before)))) .args .sizes .records) (leaves (c .before .before) .gather .last .1 .0) (leaves (c .before .before) .gather .last .1 .1 .0) (c .before .before .records-test .values) (c .before .before .records-test .marks)
 locals c = applied (c .before .before) (c .enum-told3 .given .1)
 
 values-part-requires-3 : tie.Need-values-part-requires-3 Inv-loop2 μ-loop2 Inv-loop3 μ-loop3 Inv-records μ-records Inv-loop μ-loop
-values-part-requires-3 c κs = (c .before .before .before .before .before .before .before .before .before .before .before .before .before .before .before .before .before .before .before .before .before .before .before .before .before .before .before .before .before .before .before .before .before .before .before .before .before .before .before .before .before .before .before .before .before .before .before .before .pre .0 .valid .limits, c .before .before .before .before .before .before .before .before .before .before .before .before .before .before .before .before .before .before .before .before .before .before .before .before .before .before .before .before .before .before .loop .inv .0 .register .whole)
+values-part-requires-3 c κs =
+    let b = c .before .before .before .before in
+    (starts (tops (turns (leaves b))) .pre .0 .valid .limits, tops (turns (leaves b)) .loop .inv .0 .register .whole)
 
 marks-part-requires-3 : tie.Need-marks-part-requires-3 Inv-loop2 μ-loop2 Inv-loop3 μ-loop3 Inv-records μ-records Inv-loop μ-loop
-marks-part-requires-3 c κs = (c .before .before .before .before .before .before .before .before .before .before .before .before .before .before .before .before .before .before .before .before .before .before .before .before .before .before .before .before .before .before .before .before .before .before .before .before .before .before .before .before .before .before .before .before .before .before .before .before .before .pre .0 .valid .limits, c .before .before .before .before .before .before .before .before .before .before .before .before .before .before .before .before .before .before .before .before .before .before .before .before .before .before .before .before .before .before .before .loop .inv .0 .register .whole)
+marks-part-requires-3 c κs =
+    let b = c .before .before .before .before .before in
+    (starts (tops (turns (leaves b))) .pre .0 .valid .limits, tops (turns (leaves b)) .loop .inv .0 .register .whole)
 
 apply-requires : tie.Need-apply-requires Inv-loop2 μ-loop2 Inv-loop3 μ-loop3 Inv-records μ-records Inv-loop μ-loop
 unfolding cellsOfFile
 apply-requires c κs =
-    let p = prepared (c .before .before .before .before .before .before .before .before .before .before .before .before .before) in
-    let t = turn (c .before .before .before .before .before .before .before .before .before .before .before .before .before .before .before .before .before .before .before .before .before .before .before .before .before .before .before .before .before .before .before .before) in
-    let q = here-parts (c .before .before .before .before .before .before .before .before .before .before .before .before .before .before .before .before .before .before .before .before .before .before .before .before .before .before .before .before .before .before .before .before) in
+    let b = c .before .before .before .before .before .before .before .before in
+    let p = prepared (leaves b) in
+    let t = turn (turns (leaves b)) in
+    let q = here-parts (turns (leaves b)) in
     let l = locals (c .before .before .before .before .before .before) in
     let valid = t .stands .register .valid in
     rw (c .before .before .before .values-part3 .ensures, c .before .before .marks-part3 .ensures) (
       q,
       rw (q .marks-length) (room-same (l .0) (step-room t p)),
-      few-rules (c .before .before .before .before .before .before .before .before .before .before .before .before .before .before .before .before .before .before .before .before .before .before .before .before .before .before .before .before .before .before .before .before),
-      c .before .before .before .before .before .before .before .before .before .before .before .before .before .before .before .before .before .before .before .before .before .before .before .before .before .before .before .before .before .before .loop2 .inv .1,
+      few-rules (turns (leaves b)),
+      locates (enters (leaves b)) .loop2 .inv .1,
       rw (l .0 .values-same, l .0 .marks-same) (step-ready t p),
       rw (q .marks-length) (l .1 .small (small-held (valid .count) (valid .values) (step-working t p))),
     )
@@ -364,16 +450,19 @@ apply-requires c κs =
 delivered : (c : tie.Joined2 Inv-loop2 μ-loop2 Inv-loop3 μ-loop3 Inv-records μ-records Inv-loop μ-loop) → Delivered (c .before .before .before .before .before .before .before .before .before .before .before .before .before .before .before .before .before .before .before .before .before .before .before .before .before .before .before .before .before .before .before .before .before .before .before .before .before .before .before .before .before .before .before .before .before .before .before .args .sizes) (cellsOfFile (c .before .before .before .before .before .before .before .before .before .before .before .before .before .before .before .before .before .before .before .before .before .before .before .before .before .before .before .before .before .before .before .before .before .before .before .before .before .before .before .before .before .before .before .before .before .before .before .args .sizes) (c .before .before .before .before .before .before .before .before .before .before .before .before .before .before .before .before .before .before .before .before .before .before .before .before .before .before .before .before .before .loop .out)) (at (c .before .before .before .before .before .before .before .before .before .before .before .before .before .before .before .before .before .before .before .before .before .before .before .before .before .before .before .before .before .before .before .before .before .before .before .before .before .before .before .before .before .before .before .before .before .before .before) + c .before .before .before .before .before .before .before .before .before .before .before .before .before .before .before .before .before .before .before .before .before .before .before .before .before .before .before .before .before .before .before .before .before .before .before .before .before .before .before .before .before .before .before .before .before .before .before .args .sizes .records) (rulesIn (getD (c .before .before .before .before .before .before .before .before .before .before .before .before .before .before .before .before .before .before .before .before .before .before .before .before .before .before .before .before .before .before .before .before .before .before .before .before .before .before .before .before .before .before .before .before .before .before .before .args .program .frames) (c .before .before .before .before .before .before .before .before .before .before .before .before .before .before .before .before .before .before .before .before .before .before .before .before .before .before .before .before .before .loop .step) noFrame .rules) (c .before .before .before .before .before .before .before .before .before .before .before .before .before .before .before .before .before .before .before .before .before .before .before .before .before .loop2 .rules)) (c .before .before .before .records-test .values) (c .before .before .before .records-test .marks) (c .if2 .values) (c .if2 .marks) (c .if2 .sent)
 unfolding cellsOfFile
 delivered c =
+    let b = c .before .before .before .before .before .before .before .before .before .before .before .before .before .before .before .before .before .before .before .before .before .before .before .before .before .before .before .before .before .before .before .before .before .before .before .before .before .before .before .before .before .before .before .before .before .before .before in
     ⊎-elim
     (λ w. rw (w .10, w .11, w .12) (rw (w .2 .ensures, w .3 .ensures) at (w .6 .ensures)))
-    (λ w. rw (w .1, w .2, w .3) (silent-step (c .before .before .before .before .before .before .before .before .before .before .before .before .before .before .before .before .before .before .before .before .before .before .before .before .before .before .before .before .before .before .before .before .before .before .before .before .before .before .before .before .before .before .before .before .before .before .before .args .sizes) (cellsOfFile (c .before .before .before .before .before .before .before .before .before .before .before .before .before .before .before .before .before .before .before .before .before .before .before .before .before .before .before .before .before .before .before .before .before .before .before .before .before .before .before .before .before .before .before .before .before .before .before .args .sizes) (c .before .before .before .before .before .before .before .before .before .before .before .before .before .before .before .before .before .before .before .before .before .before .before .before .before .before .before .before .before .loop .out)) _ (sym (step-sends (turn (c .before .before .before .before .before .before .before .before .before .before .before .before .before .before .before .before .before .before .before .before .before .before .before .before .before .before .before)) (prepared (c .before .before .before .before .before .before .before .before))) ∙ w .0 .left)))
+    (λ w. rw (w .1, w .2, w .3) (silent-step (b .args .sizes) (cellsOfFile (b .args .sizes) (c .before .before .before .before .before .before .before .before .before .before .before .before .before .before .before .before .before .before .before .before .before .before .before .before .before .before .before .before .before .loop .out)) _ (sym (step-sends (turn (c .before .before .before .before .before .before .before .before .before .before .before .before .before .before .before .before .before .before .before .before .before .before .before .before .before .before .before)) (prepared (c .before .before .before .before .before .before .before .before))) ∙ w .0 .left)))
     (c .if2 .came)
 
-done-same : (c : tie.Joined2 Inv-loop2 μ-loop2 Inv-loop3 μ-loop3 Inv-records μ-records Inv-loop μ-loop) → Same (at (c .before .before .before .before .before .before .before .before .before .before .before .before .before .before .before .before .before .before .before .before .before .before .before .before .before .before .before .before .before .before .before .before .before .before .before .before .before .before .before .before .before .before .before .before .before .before .before) + c .before .before .before .before .before .before .before .before .before .before .before .before .before .before .before .before .before .before .before .before .before .before .before .before .before .before .before .before .before .before .before .before .before .before .before .before .before .before .before .before .before .before .before .before .before .before .before .args .sizes .records) (c .before .before .before .before .before .before .before .before .gather .last .1 .0) (c .before .before .before .before .before .before .before .before .gather .last .1 .1 .0) (c .if2 .values) (c .if2 .marks)
-done-same c = turn-same (turn (c .before .before .before .before .before .before .before .before .before .before .before .before .before .before .before .before .before .before .before .before .before .before .before .before .before .before .before)) (prepared (c .before .before .before .before .before .before .before .before)) (locals (c .before)) (delivered c)
+done-same : (c : tie.Joined2 Inv-loop2 μ-loop2 Inv-loop3 μ-loop3 Inv-records μ-records Inv-loop μ-loop) → Same (at (starts (tops (turns (readies c)))) + starts (tops (turns (readies c))) .args .sizes .records) (readies c .gather .last .1 .0) (readies c .gather .last .1 .1 .0) (c .if2 .values) (c .if2 .marks)
+done-same c = turn-same (turn (turns (readies c))) (prepared (readies c)) (locals (c .before)) (delivered c)
 
 commit-requires : tie.Need-commit-requires Inv-loop2 μ-loop2 Inv-loop3 μ-loop3 Inv-records μ-records Inv-loop μ-loop
-commit-requires c κs = (c .before .before .before .before .before .before .before .before .before .before .before .before .before .before .before .before .before .before .before .before .before .before .before .before .before .before .before .before .before .before .before .before .before .before .before .before .before .before .before .before .before .before .before .before .before .before .before .before .before .before .pre .0 .valid .limits, c .before .before .before .before .before .before .before .before .before .before .before .before .before .before .before .before .before .before .before .before .before .before .before .before .before .before .before .before .before .before .before .before .loop .inv .0 .register .whole, room-same (done-same (c .before .before .before)) (step-room (turn (c .before .before .before .before .before .before .before .before .before .before .before .before .before .before .before .before .before .before .before .before .before .before .before .before .before .before .before .before .before .before)) (prepared (c .before .before .before .before .before .before .before .before .before .before .before))))
+commit-requires c κs =
+    let b = c .before .before .before in
+    (starts (tops (turns (readies b))) .pre .0 .valid .limits, tops (turns (readies b)) .loop .inv .0 .register .whole, room-same (done-same b) (step-room (turn (turns (readies b))) (prepared (readies b))))
 
 enum-known-total : tie.Need-enum-known-total Inv-loop2 μ-loop2 Inv-loop3 μ-loop3 Inv-records μ-records Inv-loop μ-loop
 enum-known-total c = search needs
@@ -382,93 +471,103 @@ out-of-range-requires-2 : tie.Need-out-of-range-requires-2 Inv-loop2 μ-loop2 In
 out-of-range-requires-2 c κs = tt
 
 same-length-7 : tie.Need-same-length-7 Inv-loop2 μ-loop2 Inv-loop3 μ-loop3 Inv-records μ-records Inv-loop μ-loop
-same-length-7 c = c .before .before .before .before .before .before .commit .kept .0 ∙ c .before .before .before .before .before .before .before .before .before .before .before .before .before .before .before .before .before .before .before .before .before .before .before .before .before .before .before .before .before .before .before .before .before .before .before .before .before .before .before .loop .inv .0 .register .whole ∙ sym (c .before .before .before .before .before .before .before .before .before .before .before .before .before .before .before .before .before .before .before .before .before .before .before .before .before .before .before .before .before .before .before .before .before .before .before .before .before .before .before .before .before .before .before .before .before .before .before .before .before .before .before .before .before .before .before .before .before .pre .0 .whole)
+same-length-7 c =
+    let b = c .before .before .before .before .before .before .before .before .before .before in
+    c .before .before .before .before .before .before .commit .kept .0 ∙ tops (turns (readies b)) .loop .inv .0 .register .whole ∙ sym (starts (tops (turns (readies b))) .pre .0 .whole)
 
 same-length-8 : tie.Need-same-length-8 Inv-loop2 μ-loop2 Inv-loop3 μ-loop3 Inv-records μ-records Inv-loop μ-loop
-same-length-8 c = done-same (c .before .before .before .before .before .before .before .before .before .before) .values-length ∙ c .before .before .before .before .before .before .before .before .before .before .before .before .before .before .before .before .before .before .gather .kept .1 .0 ∙ c .before .before .before .before .before .before .before .before .before .before .before .before .before .before .before .before .before .before .before .before .before .before .before .before .before .before .before .before .before .before .enter .kept .1 .0 ∙ c .before .before .before .before .before .before .before .before .before .before .before .before .before .before .before .before .before .before .before .before .before .before .before .before .before .before .before .before .before .before .before .before .before .before .before .before .before .before .before .loop .inv .2 ∙ c .before .before .before .before .before .before .before .before .before .before .before .before .before .before .before .before .before .before .before .before .before .before .before .before .before .before .before .before .before .before .before .before .before .before .before .before .before .before .before .before .before .before .before .before .begin .ensures .1 .values-length
+same-length-8 c =
+    let b = c .before .before .before .before .before .before .before .before .before .before in
+    done-same b .values-length ∙ gathered-lengths (readies b) .0 ∙ enters-loop (tops (turns (readies b))) .begin .ensures .1 .values-length
 
 same-length-9 : tie.Need-same-length-9 Inv-loop2 μ-loop2 Inv-loop3 μ-loop3 Inv-records μ-records Inv-loop μ-loop
-same-length-9 c = done-same (c .before .before .before .before .before .before .before .before .before .before) .marks-length ∙ c .before .before .before .before .before .before .before .before .before .before .before .before .before .before .before .before .before .before .gather .kept .1 .1 .0 ∙ c .before .before .before .before .before .before .before .before .before .before .before .before .before .before .before .before .before .before .before .before .before .before .before .before .before .before .before .before .before .before .enter .kept .1 .1 .0 ∙ c .before .before .before .before .before .before .before .before .before .before .before .before .before .before .before .before .before .before .before .before .before .before .before .before .before .before .before .before .before .before .before .before .before .before .before .before .before .before .before .loop .inv .3 ∙ c .before .before .before .before .before .before .before .before .before .before .before .before .before .before .before .before .before .before .before .before .before .before .before .before .before .before .before .before .before .before .before .before .before .before .before .before .before .before .before .before .before .before .before .before .begin .ensures .1 .marks-length
+same-length-9 c =
+    let b = c .before .before .before .before .before .before .before .before .before .before in
+    done-same b .marks-length ∙ gathered-lengths (readies b) .1 ∙ enters-loop (tops (turns (readies b))) .begin .ensures .1 .marks-length
 
 returns-3 : tie.Need-returns-3 Inv-loop2 μ-loop2 Inv-loop3 μ-loop3 Inv-records μ-records Inv-loop μ-loop
 unfolding programOf
 returns-3 c =
-    let t = turn (c .before .before .before .before .before .before .before .before .before .before .before .before .before .before .before .before .before .before .before .before .before .before .before .before .before .before .before .before .before .before .before .before .before .before .before .before .before) in
+    let b = c .before .before .before .before .before .before .before .before .before .before in
+    let t = turn (turns (readies b)) in
     rw (c .out-of-range2 .ensures)
-    (stands-offended (t .stands) (inside t) (later (c .before .before .before .before .before .before .before .before .before .before .before .before .before .before .before .before .before .before .before .before .before .before .before .before .before .before .before .before .before .before .before .before .before .before .before .before .before))
-    (turn-stops t (prepared (c .before .before .before .before .before .before .before .before .before .before .before .before .before .before .before .before .before .before)) (locals (c .before .before .before .before .before .before .before .before .before .before .before)) (delivered (c .before .before .before .before .before .before .before .before .before .before)) (rw (c .before .before .total .given .1) at (c .before .before .before .before .before .before .commit .ensures))))
+    (stands-offended (t .stands) (inside t) (later (turns (readies b)))
+    (turn-stops t (prepared (readies b)) (locals (c .before .before .before .before .before .before .before .before .before .before .before)) (delivered b) (rw (c .before .before .total .given .1) at (c .before .before .before .before .before .before .commit .ensures))))
 
 enum-told-4 : tie.Need-enum-told-4 Inv-loop2 μ-loop2 Inv-loop3 μ-loop3 Inv-records μ-records Inv-loop μ-loop
 enum-told-4 c = search needs
 
 -- a step that went through, and where the run stands once the next step is found
 module _ (c : tie.After-enum-told4 Inv-loop2 μ-loop2 Inv-loop3 μ-loop3 Inv-records μ-records Inv-loop μ-loop) where
-  through : GoesThrough (c .before .before .before .before .before .before .before .before .before .before .before .before .before .before .before .before .before .before .before .before .before .before .before .before .before .before .before .before .before .before .before .before .before .before .before .before .before .before .before .before .before .before .before .before .before .before .before .before .before .before .before .before .before .before .before .args .sizes) (direct (c .before .before .before .before .before .before .before .before .before .before .before .before .before .before .before .before .before .before .before .before .before .before .before .before .before .before .before .before .before .before .before .before .before .before .before .before .before .before .before .before .before .before .before .before .before .before .before .before .before .before .before .before .before .before .before .args .sizes) (here (turn (c .before .before .before .before .before .before .before .before .before .before .before .before .before .before .before .before .before .before .before .before .before .before .before .before .before .before .before .before .before .before .before .before .before .before .before) .stands) (inside (turn (c .before .before .before .before .before .before .before .before .before .before .before .before .before .before .before .before .before .before .before .before .before .before .before .before .before .before .before .before .before .before .before .before .before .before .before))) .rules) (cellsOfFile (c .before .before .before .before .before .before .before .before .before .before .before .before .before .before .before .before .before .before .before .before .before .before .before .before .before .before .before .before .before .before .before .before .before .before .before .before .before .before .before .before .before .before .before .before .before .before .before .before .before .before .before .before .before .before .before .args .sizes) (c .before .before .before .before .before .before .before .before .before .before .before .before .before .before .before .before .before .before .before .before .before .before .before .before .before .before .before .before .before .before .before .before .before .before .before .before .before .loop .out))) (here (turn (c .before .before .before .before .before .before .before .before .before .before .before .before .before .before .before .before .before .before .before .before .before .before .before .before .before .before .before .before .before .before .before .before .before .before .before) .stands) (inside (turn (c .before .before .before .before .before .before .before .before .before .before .before .before .before .before .before .before .before .before .before .before .before .before .before .before .before .before .before .before .before .before .before .before .before .before .before))) .rules) (c .before .before .before .before .before .before .before .before .before .before .before .before .before .before .before .before .before .before .before .before .before .before .before .before .before .before .before .before .before .before .before .before .before .before .before .before .before .loop .out) (c .before .before .before .before .commit .last .0) (at (c .before .before .before .before .before .before .before .before .before .before .before .before .before .before .before .before .before .before .before .before .before .before .before .before .before .before .before .before .before .before .before .before .before .before .before .before .before .before .before .before .before .before .before .before .before .before .before .before .before .before .before .before .before .before .before) + c .before .before .before .before .before .before .before .before .before .before .before .before .before .before .before .before .before .before .before .before .before .before .before .before .before .before .before .before .before .before .before .before .before .before .before .before .before .before .before .before .before .before .before .before .before .before .before .before .before .before .before .before .before .before .before .args .sizes .records) (c .before .before .before .before .before .before .before .before .if2 .values) (c .before .before .before .before .before .before .before .before .if2 .marks) (c .before .before .before .before .before .before .before .before .if2 .sent)
-  through = turn-through (turn (c .before .before .before .before .before .before .before .before .before .before .before .before .before .before .before .before .before .before .before .before .before .before .before .before .before .before .before .before .before .before .before .before .before .before .before)) (prepared (c .before .before .before .before .before .before .before .before .before .before .before .before .before .before .before .before)) (locals (c .before .before .before .before .before .before .before .before .before)) (delivered (c .before .before .before .before .before .before .before .before)) (rw (c .enum-told4 .given .1) at (c .before .before .before .before .commit .ensures))
+  through : GoesThrough (starts (tops (turns (readies (commits c)))) .args .sizes) (direct (starts (tops (turns (readies (commits c)))) .args .sizes) (here (turn (turns (readies (commits c))) .stands) (inside (turn (turns (readies (commits c))))) .rules) (cellsOfFile (starts (tops (turns (readies (commits c)))) .args .sizes) (tops (turns (readies (commits c))) .loop .out))) (here (turn (turns (readies (commits c))) .stands) (inside (turn (turns (readies (commits c))))) .rules) (tops (turns (readies (commits c))) .loop .out) (c .before .before .before .before .commit .last .0) (at (starts (tops (turns (readies (commits c))))) + starts (tops (turns (readies (commits c)))) .args .sizes .records) (commits c .if2 .values) (commits c .if2 .marks) (commits c .if2 .sent)
+  through = turn-through (turn (turns (readies (commits c)))) (prepared (readies (commits c))) (locals (commits c .before)) (delivered (commits c)) (rw (c .enum-told4 .given .1) at (c .before .before .before .before .commit .ensures))
 
-  kept : (u : ℕ) → u < c .before .before .before .before .before .before .before .before .before .before .before .before .before .before .before .before .before .before .before .before .before .before .before .before .before .before .before .before .before .before .before .before .before .before .before .before .before .before .before .before .before .before .before .before .before .before .before .before .before .before .before .before .before .before .before .args .sizes .records → Kept (at (c .before .before .before .before .before .before .before .before .before .before .before .before .before .before .before .before .before .before .before .before .before .before .before .before .before .before .before .before .before .before .before .before .before .before .before .before .before .before .before .before .before .before .before .before .before .before .before .before .before .before .before .before .before .before .before) + u) (c .before .before .before .before .before .before .before .before .before .before .before .before .before .before .before .before .before .before .before .before .before .before .before .before .before .before .before .before .enter .last .1 .0) (c .before .before .before .before .before .before .before .before .before .before .before .before .before .before .before .before .before .before .before .before .before .before .before .before .before .before .before .before .enter .last .1 .1 .0) (c .before .before .before .before .before .before .before .before .if2 .values) (c .before .before .before .before .before .before .before .before .if2 .marks)
-  kept = column-kept (turn (c .before .before .before .before .before .before .before .before .before .before .before .before .before .before .before .before .before .before .before .before .before .before .before .before .before .before .before .before .before .before .before .before .before .before .before)) (prepared (c .before .before .before .before .before .before .before .before .before .before .before .before .before .before .before .before)) (locals (c .before .before .before .before .before .before .before .before .before)) (delivered (c .before .before .before .before .before .before .before .before))
+  kept : (u : ℕ) → u < starts (tops (turns (readies (commits c)))) .args .sizes .records → Kept (at (starts (tops (turns (readies (commits c))))) + u) (enters (readies (commits c)) .enter .last .1 .0) (enters (readies (commits c)) .enter .last .1 .1 .0) (commits c .if2 .values) (commits c .if2 .marks)
+  kept = column-kept (turn (turns (readies (commits c)))) (prepared (readies (commits c))) (locals (commits c .before)) (delivered (commits c))
 
-  room : Behind (c .before .before .before .before .before .before .before .before .before .before .before .before .before .before .before .before .before .before .before .before .before .before .before .before .before .before .before .before .before .before .before .before .before .before .before .before .before .before .before .before .before .before .before .before .before .before .before .before .before .before .before .before .before .before .before .args .sizes) (at (c .before .before .before .before .before .before .before .before .before .before .before .before .before .before .before .before .before .before .before .before .before .before .before .before .before .before .before .before .before .before .before .before .before .before .before .before .before .before .before .before .before .before .before .before .before .before .before .before .before .before .before .before .before .before .before)) (c .before .before .before .before .before .before .before .before .if2 .values) (c .before .before .before .before .before .before .before .before .if2 .marks)
-  room = behind-turn (turn (c .before .before .before .before .before .before .before .before .before .before .before .before .before .before .before .before .before .before .before .before .before .before .before .before .before .before .before .before .before .before .before .before .before .before .before)) (prepared (c .before .before .before .before .before .before .before .before .before .before .before .before .before .before .before .before)) (locals (c .before .before .before .before .before .before .before .before .before)) (delivered (c .before .before .before .before .before .before .before .before))
+  room : Behind (starts (tops (turns (readies (commits c)))) .args .sizes) (at (starts (tops (turns (readies (commits c)))))) (commits c .if2 .values) (commits c .if2 .marks)
+  room = behind-turn (turn (turns (readies (commits c)))) (prepared (readies (commits c))) (locals (commits c .before)) (delivered (commits c))
 
-  in-pass : HasPass (c .before .before .before .before .before .before .before .before .before .before .before .before .before .before .before .before .before .before .before .before .before .before .before .before .before .before .before .before .before .before .before .before .before .before .before .before .before .before .before .before .before .before .before .before .before .before .before .before .before .before .before .before .before .before .before .args .sizes) (getD (c .before .before .before .before .before .before .before .before .before .before .before .before .before .before .before .before .before .before .before .before .before .before .before .before .before .before .before .before .before .before .before .before .before .before .before .before .before .before .before .before .before .before .before .before .before .before .before .before .before .before .before .before .before .before .before .args .program .frames) (c .before .before .before .before .before .before .before .before .before .before .before .before .before .before .before .before .before .before .before .before .before .before .before .before .before .before .before .before .before .before .before .before .before .before .before .before .before .loop .step) noFrame .setting) (at (c .before .before .before .before .before .before .before .before .before .before .before .before .before .before .before .before .before .before .before .before .before .before .before .before .before .before .before .before .before .before .before .before .before .before .before .before .before .before .before .before .before .before .before .before .before .before .before .before .before .before .before .before .before .before .before)) (c .before .before .before .before .before .before .before .before .if2 .values)
-  in-pass = passed-column (turn (c .before .before .before .before .before .before .before .before .before .before .before .before .before .before .before .before .before .before .before .before .before .before .before .before .before .before .before .before .before .before .before .before .before .before .before) .stands) (inside (turn (c .before .before .before .before .before .before .before .before .before .before .before .before .before .before .before .before .before .before .before .before .before .before .before .before .before .before .before .before .before .before .before .before .before .before .before))) (at-step (turn (c .before .before .before .before .before .before .before .before .before .before .before .before .before .before .before .before .before .before .before .before .before .before .before .before .before .before .before .before .before .before .before .before .before .before .before)) .setting-is) (entered (c .before .before .before .before .before .before .before .before .before .before .before .before .before .before .before .before .before .before .before .before .before .before .before .before .before .before .before .before)) kept through
+  in-pass : HasPass (starts (tops (turns (readies (commits c)))) .args .sizes) (getD (starts (tops (turns (readies (commits c)))) .args .program .frames) (tops (turns (readies (commits c))) .loop .step) noFrame .setting) (at (starts (tops (turns (readies (commits c)))))) (commits c .if2 .values)
+  in-pass = passed-column (turn (turns (readies (commits c))) .stands) (inside (turn (turns (readies (commits c))))) (at-step (turn (turns (readies (commits c)))) .setting-is) (entered (enters (readies (commits c)))) kept through
 
 count-requires : tie.Need-count-requires Inv-loop2 μ-loop2 Inv-loop3 μ-loop3 Inv-records μ-records Inv-loop μ-loop
 count-requires c κs =
-    let t = turn (c .before .before .before .before .before .before .before .before .before .before .before .before .before .before .before .before .before .before .before .before .before .before .before .before .before .before .before .before .before .before .before .before .before .before .before) in
-    let p = prepared (c .before .before .before .before .before .before .before .before .before .before .before .before .before .before .before .before) in
+    let t = turn (turns (readies (commits c))) in
+    let p = prepared (readies (commits c)) in
     let few = t .stands .few in
-    let budget = c .before .before .before .before .before .before .before .before .before .before .before .before .before .before .before .before .before .before .before .before .before .before .before .before .before .before .before .before .before .before .before .before .before .before .before .before .before .before .before .before .before .before .before .before .before .before .before .before .before .before .before .before .before .before .before .fits .budget .fits in
-    (omega (arith, few .exchanges≤, later (c .before .before .before .before .before .before .before .before .before .before .before .before .before .before .before .before .before .before .before .before .before .before .before .before .before .before .before .before .before .before .before .before .before .before .before)), omega (arith, few .messages≤, later (c .before .before .before .before .before .before .before .before .before .before .before .before .before .before .before .before .before .before .before .before .before .before .before .before .before .before .before .before .before .before .before .before .before .before .before)), omega (arith, p .gathered .few-exchanges), omega (arith, lines-few t p), omega (arith, writes-turn t p _ (through c .sent-is)))
+    let budget = starts (tops (turns (readies (commits c)))) .fits .budget .fits in
+    (omega (arith, few .exchanges≤, later (turns (readies (commits c)))), omega (arith, few .messages≤, later (turns (readies (commits c)))), omega (arith, p .gathered .few-exchanges), omega (arith, lines-few t p), omega (arith, writes-turn t p _ (through c .sent-is)))
 
 add-finished : tie.Need-add-finished Inv-loop2 μ-loop2 Inv-loop3 μ-loop3 Inv-records μ-records Inv-loop μ-loop
-add-finished c = record { fits = omega (arith, later (c .before .before .before .before .before .before .before .before .before .before .before .before .before .before .before .before .before .before .before .before .before .before .before .before .before .before .before .before .before .before .before .before .before .before .before .before), c .before .before .before .before .before .before .before .before .before .before .before .before .before .before .before .before .before .before .before .before .before .before .before .before .before .before .before .before .before .before .before .before .before .before .before .before .before .before .before .before .before .before .before .before .before .before .before .before .before .before .before .before .before .before .before .before .fits .budget .fits) }
+add-finished c = record { fits = omega (arith, later (turns (readies (commits (c .before)))), starts (tops (turns (readies (commits (c .before))))) .fits .budget .fits) }
 
 next-requires : tie.Need-next-requires Inv-loop2 μ-loop2 Inv-loop3 μ-loop3 Inv-records μ-records Inv-loop μ-loop
 next-requires c κs =
-    let r = room (c .before .before .before .before) in (
-      c .before .before .before .before .before .before .before .before .before .before .before .before .before .before .before .before .before .before .before .before .before .before .before .before .before .before .before .before .before .before .before .before .before .before .before .before .before .before .before .before .before .before .before .before .before .before .before .before .before .before .before .before .before .before .before .before .before .before .before .pre .0 .valid .limits,
-      c .before .before .before .before .before .before .before .before .commit .kept .0 ∙ c .before .before .before .before .before .before .before .before .before .before .before .before .before .before .before .before .before .before .before .before .before .before .before .before .before .before .before .before .before .before .before .before .before .before .before .before .before .before .before .before .before .loop .inv .0 .register .whole,
-      setting-passes (turn (c .before .before .before .before .before .before .before .before .before .before .before .before .before .before .before .before .before .before .before .before .before .before .before .before .before .before .before .before .before .before .before .before .before .before .before .before .before .before .before)),
+    let b = c .before .before .before .before in
+    let r = room b in (
+      starts (tops (turns (readies (commits b)))) .pre .0 .valid .limits,
+      c .before .before .before .before .before .before .before .before .commit .kept .0 ∙ tops (turns (readies (commits b))) .loop .inv .0 .register .whole,
+      setting-passes (turn (turns (readies (commits b)))),
       record { values-room = omega (arith, r .values-room); marks-room = omega (arith, r .marks-room) },
-      in-pass (c .before .before .before .before),
-      omega (arith, few-steps (c .before .before .before .before .before .before .before .before .before .before .before .before .before .before .before .before .before .before .before .before .before .before .before .before .before .before .before .before .before .before .before .before .before .before .before .before .before .before .before .before .before .before .before .before .before .before .before .before .before .before .before .before .before .before .before .before .before .before .before), c .before .before .before .before .before .before .before .before .before .before .before .before .before .before .before .before .before .before .before .before .before .before .before .before .before .before .before .before .before .before .before .before .before .before .before .before .before .before .before .before .loop-test .taken),
+      in-pass b,
+      omega (arith, few-steps (starts (tops (turns (readies (commits b))))), turns (readies (commits b)) .before .loop-test .taken),
     )
 
 loop-less : tie.Need-loop-less Inv-loop2 μ-loop2 Inv-loop3 μ-loop3 Inv-records μ-records Inv-loop μ-loop
-loop-less c = omega (arith, later (c .before .before .before .before .before .before .before .before .before .before .before .before .before .before .before .before .before .before .before .before .before .before .before .before .before .before .before .before .before .before .before .before .before .before .before .before .before .before .before .before))
+loop-less c = omega (arith, later (turns (readies (commits (c .before .before .before .before .before)))))
 
 loop-again : tie.Need-loop-again Inv-loop2 μ-loop2 Inv-loop3 μ-loop3 Inv-records μ-records Inv-loop μ-loop
 unfolding programOf
 loop-again c =
-    let t = turn (c .before .before .before .before .before .before .before .before .before .before .before .before .before .before .before .before .before .before .before .before .before .before .before .before .before .before .before .before .before .before .before .before .before .before .before .before .before .before .before .before) in
-    let p = prepared (c .before .before .before .before .before .before .before .before .before .before .before .before .before .before .before .before .before .before .before .before .before) in
-    let e = (c .before .before .before .before .before) in
+    let b = c .before .before .before .before .before in
+    let d = c .before .before .before .before in
+    let t = turn (turns (readies (commits b))) in
+    let p = prepared (readies (commits b)) in
+    let e = b in
     let went = through e in (
-      stands-next (t .stands) (inside t) (at-step t .setting-is) (entered (c .before .before .before .before .before .before .before .before .before .before .before .before .before .before .before .before .before .before .before .before .before .before .before .before .before .before .before .before .before .before .before .before .before)) (kept e) went (later (c .before .before .before .before .before .before .before .before .before .before .before .before .before .before .before .before .before .before .before .before .before .before .before .before .before .before .before .before .before .before .before .before .before .before .before .before .before .before .before .before)) (c .before .before .before .before .before .before .before .before .before .before .before .before .before .before .before .before .before .before .before .before .before .before .before .before .before .before .before .before .before .before .before .before .before .before .before .before .before .before .before .before .before .before .before .before .before .before .before .before .before .before .before .before .before .before .before .before .before .before .before .before .pre .3) (c .before .before .before .before .before .before .before .before .before .commit .kept .0) (room e)
-          (c .before .before .before .before .before .before .before .before .before .before .before .before .before .before .before .before .before .before .before .before .before .before .before .before .before .before .before .before .before .before .before .before .before .enter .ensures .0) (c .next .ensures) (omega arith) (counts-turn t p (went .sent-is) (c .before .before .before .before .count .ensures)) (few-turn t p (went .sent-is) (c .before .before .before .before .count .ensures)),
-      c .before .before .before .before .before .before .before .before .before .before .before .before .before .before .before .before .before .before .before .before .before .before .before .before .before .before .before .before .before .before .before .before .before .before .before .before .before .before .loop2 .inv .1,
-      done-same (c .before .before .before .before .before .before .before .before .before .before .before .before .before) .values-length ∙ c .before .before .before .before .before .before .before .before .before .before .before .before .before .before .before .before .before .before .before .before .before .gather .kept .1 .0 ∙ c .before .before .before .before .before .before .before .before .before .before .before .before .before .before .before .before .before .before .before .before .before .before .before .before .before .before .before .before .before .before .before .before .before .enter .kept .1 .0 ∙ c .before .before .before .before .before .before .before .before .before .before .before .before .before .before .before .before .before .before .before .before .before .before .before .before .before .before .before .before .before .before .before .before .before .before .before .before .before .before .before .before .before .before .loop .inv .2,
-      done-same (c .before .before .before .before .before .before .before .before .before .before .before .before .before) .marks-length ∙ c .before .before .before .before .before .before .before .before .before .before .before .before .before .before .before .before .before .before .before .before .before .gather .kept .1 .1 .0 ∙ c .before .before .before .before .before .before .before .before .before .before .before .before .before .before .before .before .before .before .before .before .before .before .before .before .before .before .before .before .before .before .before .before .before .enter .kept .1 .1 .0 ∙ c .before .before .before .before .before .before .before .before .before .before .before .before .before .before .before .before .before .before .before .before .before .before .before .before .before .before .before .before .before .before .before .before .before .before .before .before .before .before .before .before .before .before .loop .inv .3,
+      stands-next (t .stands) (inside t) (at-step t .setting-is) (entered (enters (readies (commits b)))) (kept e) went (later (turns (readies (commits b)))) (starts (tops (turns (readies (commits b)))) .pre .3)
+          (c .before .before .before .before .before .before .before .before .before .commit .kept .0) (room e) (enters (readies (commits b)) .enter .ensures .0) (c .next .ensures) (omega arith) (counts-turn t p (went .sent-is) (d .count .ensures)) (few-turn t p (went .sent-is) (d .count .ensures)),
+      locates (enters (readies (commits b))) .loop2 .inv .1,
+      done-same (commits b) .values-length ∙ gathered-lengths (readies (commits b)) .0,
+      done-same (commits b) .marks-length ∙ gathered-lengths (readies (commits b)) .1,
     )
 
 ended-requires-2 : tie.Need-ended-requires-2 Inv-loop2 μ-loop2 Inv-loop3 μ-loop3 Inv-records μ-records Inv-loop μ-loop
 ended-requires-2 c κs = tt
 
 same-length-10 : tie.Need-same-length-10 Inv-loop2 μ-loop2 Inv-loop3 μ-loop3 Inv-records μ-records Inv-loop μ-loop
-same-length-10 c = c .before .before .loop .inv .0 .register .whole ∙ sym (c .before .before .before .before .before .before .before .before .before .before .before .before .before .before .before .before .before .before .before .before .pre .0 .whole)
+same-length-10 c = c .before .before .loop .inv .0 .register .whole ∙ sym (starts (c .before .before) .pre .0 .whole)
 
 same-length-11 : tie.Need-same-length-11 Inv-loop2 μ-loop2 Inv-loop3 μ-loop3 Inv-records μ-records Inv-loop μ-loop
-same-length-11 c = c .before .before .loop .inv .2 ∙ c .before .before .before .before .before .before .before .begin .ensures .1 .values-length
+same-length-11 c = c .before .before .loop .inv .2 ∙ enters-loop (c .before .before) .begin .ensures .1 .values-length
 
 same-length-12 : tie.Need-same-length-12 Inv-loop2 μ-loop2 Inv-loop3 μ-loop3 Inv-records μ-records Inv-loop μ-loop
-same-length-12 c = c .before .before .loop .inv .3 ∙ c .before .before .before .before .before .before .before .begin .ensures .1 .marks-length
+same-length-12 c = c .before .before .loop .inv .3 ∙ enters-loop (c .before .before) .begin .ensures .1 .marks-length
 
 returns-4 : tie.Need-returns-4 Inv-loop2 μ-loop2 Inv-loop3 μ-loop3 Inv-records μ-records Inv-loop μ-loop
 unfolding programOf
-returns-4 c = rw (c .ended2 .ensures) (stands-complete (c .before .before .loop .inv .0) (omega (arith, c .before .loop-test .left, c .before .before .before .before .before .before .before .before .before .before .before .before .before .before .before .before .before .before .before .before .pre .2 .steps-are)))
+returns-4 c = rw (c .ended2 .ensures) (stands-complete (c .before .before .loop .inv .0) (omega (arith, c .before .loop-test .left, starts (c .before .before) .pre .2 .steps-are)))
 
 pub run-program-spec : {M : Type 1} → statement M
 run-program-spec =
