@@ -19,8 +19,8 @@ use step::local::Stop;
 use step::remote;
 use step::work;
 
-// The refusal's number, 0 for none, with its line where it has one; the finished steps and what they count; for 21 the record and the column where
-// it happened.
+// The refusal's number, 0 for none, with its line where it has one; the finished steps and what they count; for 21 the record and
+// the column where it happened.
 pub struct RunAnswer {
     pub refusal: u32,
     pub line: usize,
