@@ -10,7 +10,7 @@ use Rattle.register.specs.declared.cells.Cell.{Cell}
 use Rattle.register.specs.declared.cells.Cell.the-variants.{Value}
 use Rattle.chain.specs.Word.{cell, unpack}
 use Rattle.chain.proofs.Packing.{pack-unpack}
-use Rattle.evaluate.specs.Places.{placeAt}
+use Rattle.places.specs.Places.{placeAt}
 use Rattle.evaluate.specs.Located.{linePlace, atNumber, located}
 
 module _ (s : Sizes) (cells : List Cell) (values : List ℤ) (marks : List ℕ) (u c : ℕ) where

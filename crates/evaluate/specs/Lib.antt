@@ -1,4 +1,2 @@
--- One rule at one record, over cells and scratch places.
-pub mod Places
+-- The readings of a rule at one record, over cells and scratch places.
 pub mod Located
-pub mod Answers

@@ -22,7 +22,7 @@ use Rattle.actions.specs.declared.rule.Rule.{Rule}
 use Rattle.actions.specs.declared.rule.Rule.the-variants.{Set, Sum, Difference, Least, Total}
 use Rattle.actions.specs.declared.rule.Slot.{Slot}
 use Rattle.rules.specs.Program as P
-use Rattle.evaluate.specs.Places.{placeAt}
+use Rattle.places.specs.Places.{placeAt}
 
 -- "Line i, from 0, and origin u have place i × n + u", the line by its number 17 + i
 unfoldable pub linePlace : Sizes → ℕ → ℕ → ℕ

@@ -1,5 +1,2 @@
-// What one record makes of one rule: the values of its terms, whether its test holds, what it stores and what it sends.
-pub mod column;
-pub mod places;
-pub mod rule;
+// What one record makes of the terms and the test of a rule.
 pub mod term;

@@ -16,8 +16,8 @@ use Rattle.plan.specs.declared.key.Kind.{Kind}
 use Rattle.plan.specs.declared.key.Kind.the-variants.{Back, Read}
 use Rattle.plan.proofs.Search.{facts-line}
 use Rattle.plan.specs.Cases.{lt-or-le}
-use Rattle.evaluate.specs.Places.{Kept, StoredFrom}
-use Rattle.evaluate.proofs.Placed.{kept-same, kept-again, placeAt-kept}
+use Rattle.places.specs.Places.{Kept, StoredFrom}
+use Rattle.places.proofs.Placed.{kept-same, kept-again, placeAt-kept}
 use Rattle.fill.specs.Filled.{ReadAt, Filled}
 
 -- the fact of a kind and a word

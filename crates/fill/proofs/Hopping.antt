@@ -18,8 +18,8 @@ use Rattle.register.specs.declared.cells.Cell.the-variants.{Value}
 use Rattle.chain.specs.Word.{hasField, readable, cell, hop, follow, unpack, valueAtRecord}
 use Rattle.chain.proofs.Packing.{unpack-none, unpack-last, unpack-more, tail-some}
 use Rattle.machine.proofs.Direct.{own-refers, hop-refers}
-use Rattle.evaluate.specs.Places.{StoredFrom}
-use Rattle.evaluate.proofs.Storing.{stored-still, stored-as, stored-over}
+use Rattle.places.specs.Places.{StoredFrom}
+use Rattle.places.proofs.Storing.{stored-still, stored-as, stored-over}
 use Rattle.fill.specs.Filled.{Referring, Hopped}
 
 -- a word of two or more hops, packed

@@ -15,8 +15,8 @@ use Rattle.register.specs.declared.Sizes.{Sizes}
 use Rattle.register.specs.declared.cells.Cell.{Cell}
 use Rattle.register.specs.declared.cells.Cell.the-variants.{Missing, Value}
 use Rattle.chain.specs.Word.{column, cell, hop}
-use Rattle.evaluate.specs.Places.{placeAt}
-use Rattle.evaluate.proofs.Placed.{placeAt-missing, placeAt-value}
+use Rattle.places.specs.Places.{placeAt}
+use Rattle.places.proofs.Placed.{placeAt-missing, placeAt-value}
 use Rattle.fill.specs.Filled.{referred}
 
 -- a hop is to the column of its field

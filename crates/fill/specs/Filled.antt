@@ -14,7 +14,7 @@ use Rattle.register.specs.declared.cells.Cell.{Cell}
 use Rattle.register.specs.declared.cells.Cell.the-variants.{Missing, Value}
 use Rattle.chain.specs.Word.{readable, hop, valueAtRecord}
 use Rattle.plan.specs.Plan.{Fact, read, line}
-use Rattle.evaluate.specs.Places.{placeAt, Kept, StoredFrom}
+use Rattle.places.specs.Places.{placeAt, Kept, StoredFrom}
 
 -- every Read line can be followed, and has two or more hops
 pub record FollowLines (s : Sizes) (l : List Fact) : Type 0 where

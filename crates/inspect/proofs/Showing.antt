@@ -15,7 +15,7 @@ use Rattle.register.proofs.Loading.{file-parts}
 use Rattle.plan.specs.Plan.{Fact, round, line}
 use Rattle.plan.specs.Cases.{lt-or-le}
 use Rattle.message_machine.proofs.Settling.{held-settled, held-before}
-use Rattle.evaluate.proofs.Placed.{kept-again}
+use Rattle.places.proofs.Placed.{kept-again}
 use Rattle.messages.specs.Exchanged.{ExchangedTo, Cleared}
 use Rattle.messages.proofs.Places.{stored-kept}
 use Rattle.messages.proofs.Writing.{place-before}

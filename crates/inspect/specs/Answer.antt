@@ -10,7 +10,7 @@ use Rattle.register.specs.declared.Sizes.{Sizes}
 use Rattle.register.specs.declared.cells.Cell.{Cell}
 use Rattle.plan.specs.Plan.{Fact, line}
 use Rattle.message_machine.specs.Held.{heldAfter}
-use Rattle.evaluate.specs.Places.{Kept}
+use Rattle.places.specs.Places.{Kept}
 use Rattle.messages.specs.Written.{Stored}
 use Rattle.inspect.specs.declared.InspectAnswer.{InspectAnswer}
 

@@ -23,7 +23,7 @@ use Rattle.step_plan.specs.Stored.{termOf, testOf, actionOf, ruleOf}
 use Rattle.machine.specs.Value.{termValue}
 use Rattle.machine.specs.Run.{direct}
 use Rattle.machine.specs.Alike.{TestAlike, always-alike, when-alike, ActionAlike, set-alike, sum-alike, difference-alike, least-alike, total-alike, RuleAlike}
-use Rattle.evaluate.specs.Places.{placeAt}
+use Rattle.places.specs.Places.{placeAt}
 use Rattle.evaluate.specs.Located.{linePlace, located}
 use Rattle.evaluate.proofs.Locating.{located-own, located-cell, located-line}
 use Rattle.locate.specs.Locate.{locatedChain, locatedTerm, locatedTest, locatedRule, locatedSlot, TermEach, TestEach, RuleEach, SlotEach}

@@ -11,7 +11,7 @@ use Rattle.register.specs.declared.cells.Cell.{Cell}
 use Rattle.plan.specs.Plan.{Fact}
 use Rattle.rules.specs.Program.{Rule}
 use Rattle.machine.specs.Run.{direct}
-use Rattle.evaluate.specs.Places.{placeAt}
+use Rattle.places.specs.Places.{placeAt}
 use Rattle.fill.specs.Filled.{Filled}
 use Rattle.locate.specs.Lines.{LinesHold}
 

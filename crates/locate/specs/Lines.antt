@@ -9,7 +9,7 @@ use mir.Val.{SFits}
 use Rattle.register.specs.declared.Sizes.{Sizes}
 use Rattle.register.specs.declared.cells.Cell.{Cell}
 use Rattle.plan.specs.Plan.{Fact, read, line}
-use Rattle.evaluate.specs.Places.{placeAt}
+use Rattle.places.specs.Places.{placeAt}
 
 -- "Line i, from 0, and origin u have place i × n + u"
 pub record LinesHold (s : Sizes) (l : List Fact) (reads : ℕ → List ℕ → Cell) (values : List ℤ) (marks : List ℕ) : Type 0 where

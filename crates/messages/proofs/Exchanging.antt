@@ -16,8 +16,8 @@ use Rattle.register.specs.declared.cells.Cell.the-variants.{Missing}
 use Rattle.plan.specs.Plan.{Fact, round, line}
 use Rattle.plan.specs.Cases.{lt-or-le}
 use Rattle.message_machine.specs.Held.{heldAfter}
-use Rattle.evaluate.specs.Places.{Kept}
-use Rattle.evaluate.proofs.Placed.{kept-same, kept-again, kept-other}
+use Rattle.places.specs.Places.{Kept}
+use Rattle.places.proofs.Placed.{kept-same, kept-again, kept-other}
 use Rattle.messages.specs.Written.{Stored, LineSent}
 use Rattle.messages.specs.Exchanged.{roundMessages, HeldTo, Exchanged, ExchangedTo, Cleared}
 use Rattle.message_machine.proofs.Settling.{held-same}

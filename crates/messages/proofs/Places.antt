@@ -10,7 +10,7 @@ use mir.Val.{SFits}
 use Rattle.register.specs.Cells.{valueOf, markOf, cellOf}
 use Rattle.register.specs.declared.cells.Cell.{Cell}
 use Rattle.register.proofs.Arrays.{cellOf-kept}
-use Rattle.evaluate.specs.Places.{placeAt, Kept}
+use Rattle.places.specs.Places.{placeAt, Kept}
 use Rattle.messages.specs.Written.{Stored}
 
 module _ {c : Cell} {j : ℕ} {values : List ℤ} {marks : List ℕ} where

@@ -24,8 +24,8 @@ use Rattle.chain.specs.Word.{cell}
 use Rattle.plan.specs.Cases.{lt-or-le}
 use Rattle.machine.proofs.Direct.{own-refers}
 use Rattle.message_machine.specs.Counts.{isSent}
-use Rattle.evaluate.specs.Places.{placeAt, Kept}
-use Rattle.evaluate.proofs.Placed.{kept-same, kept-again, kept-other, placeAt-kept}
+use Rattle.places.specs.Places.{placeAt, Kept}
+use Rattle.places.proofs.Placed.{kept-same, kept-again, kept-other, placeAt-kept}
 use Rattle.messages.specs.Written.{knownAt, writerAt, writtenAt, messageAt, Before, LineHeld, ReadHeld, BackHeld, LineSent}
 use Rattle.messages.proofs.Counting.{line-nothing, line-more}
 use Rattle.messages.proofs.Places.{stored-kept, stored-set}

@@ -13,7 +13,7 @@ use Rattle.register.specs.declared.cells.Cell.the-variants.{Missing}
 use Rattle.plan.specs.Plan.{Fact, round, line}
 use Rattle.message_machine.specs.Held.{Held, heldAfter}
 use Rattle.message_machine.specs.Counts.{lineMessages, planMessages}
-use Rattle.evaluate.specs.Places.{Kept}
+use Rattle.places.specs.Places.{Kept}
 use Rattle.messages.specs.Written.{Stored}
 
 -- the messages of exchange t: those of the lines of round t; "letters to oneself count"

@@ -17,7 +17,7 @@ use Rattle.register.specs.declared.cells.Cell.{Cell}
 use Rattle.register.specs.declared.cells.Cell.the-variants.{Missing, Value}
 use Rattle.chain.specs.Word.{hasField, cell}
 use Rattle.message_machine.specs.Counts.{lineMessages}
-use Rattle.evaluate.specs.Places.{placeAt, Kept}
+use Rattle.places.specs.Places.{placeAt, Kept}
 
 -- the writer for origin u: u, or the addressee of the message of line `back`
 unfoldable pub writerAt : Sizes → List ℤ → List ℕ → ℕ → ℕ → Cell

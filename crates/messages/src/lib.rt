@@ -8,7 +8,7 @@ ghost use Rattle.plan.specs.Plan.{hops, line-from};
 ghost use Rattle.plan.specs.Held.{fact-of, facts-in, plan-of};
 ghost use Rattle.messages.specs.Lines.{OneHop, PlanReady};
 ghost use Rattle.messages.specs.Exchanged.{HeldTo, Exchanged, ExchangedTo, Cleared};
-use evaluate::places;
+use places;
 use plan::key;
 use plan::key::ONE_HOP;
 use register::Sizes;

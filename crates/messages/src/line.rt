@@ -6,7 +6,7 @@ ghost use Rattle.register.specs.Shape.{Parts};
 ghost use Rattle.message_machine.specs.Counts.{isSent};
 ghost use Rattle.messages.specs.Written.{writerAt, knownAt, messageAt, ReadHeld, BackHeld, LineReady, LineSent};
 use chain::follow;
-use evaluate::places;
+use places;
 use register::Sizes;
 use register::cells::Cell;
 

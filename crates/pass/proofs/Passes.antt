@@ -11,7 +11,7 @@ use Rattle.chain.specs.Word.{cell}
 use Rattle.rules.specs.declared.around.Setting.{Setting}
 use Rattle.rules.specs.declared.around.Setting.the-variants.{Single, Looped}
 use Rattle.machine.specs.Run.{begins}
-use Rattle.evaluate.specs.Places.{StoredFrom}
+use Rattle.places.specs.Places.{StoredFrom}
 use Rattle.pass.specs.Column.{SameAs, Entered, NextIs}
 use Rattle.pass.proofs.Standing.{behind-same, behind-stored, column-stored}
 

@@ -9,8 +9,8 @@ use Rattle.register.specs.declared.cells.Cell.{Cell}
 use Rattle.chain.specs.Word.{cell}
 use Rattle.machine.specs.Run.{sameCell}
 use Rattle.machine.proofs.Columns.{sameAt}
-use Rattle.evaluate.specs.Places.{placeAt, StoredFrom}
-use Rattle.evaluate.proofs.Placed.{kept-same}
+use Rattle.places.specs.Places.{placeAt, StoredFrom}
+use Rattle.places.proofs.Placed.{kept-same}
 use Rattle.pass.specs.Column.{Column, Behind}
 
 -- places behind a column: nothing is stored ..

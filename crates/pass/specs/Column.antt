@@ -13,7 +13,7 @@ use Rattle.chain.specs.Word.{cell}
 use Rattle.rules.specs.declared.around.Setting.{Setting}
 use Rattle.rules.specs.declared.around.Setting.the-variants.{Single, Looped}
 use Rattle.machine.specs.Run.{sameColumn, begins, goesOn}
-use Rattle.evaluate.specs.Places.{placeAt, Kept}
+use Rattle.places.specs.Places.{placeAt, Kept}
 
 -- there is room for a column from `at` on
 pub record Space (s : Sizes) (at : ℕ) (values : List ℤ) (marks : List ℕ) : Type 0 where

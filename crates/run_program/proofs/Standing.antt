@@ -24,8 +24,8 @@ use Rattle.machine.specs.Run.{begins, goesOn, direct, scratch}
 use Rattle.machine.proofs.RunningPass.{openBefore}
 use Rattle.machine.proofs.Running.{Trace, Running, running-start, running-complete, running-around, running-spent, running-offended, running-step}
 use Rattle.machine.proofs.Stops.{stops-at}
-use Rattle.evaluate.specs.Places.{Kept}
-use Rattle.evaluate.proofs.Placed.{placeAt-kept}
+use Rattle.places.specs.Places.{Kept}
+use Rattle.places.proofs.Placed.{placeAt-kept}
 use Rattle.step.specs.Work.{Holds}
 use Rattle.step.specs.Stepped.{GoesThrough, StopsAt}
 use Rattle.pass.specs.Column.{Column, InPass, HasPass, Entered, NextIs}

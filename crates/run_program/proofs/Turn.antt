@@ -27,8 +27,8 @@ use Rattle.machine.specs.Run.{direct}
 use Rattle.machine.proofs.Alike.{stepCells-alike, offendsAt-alike, stops-alike, recordMessages-alike}
 use Rattle.machine.proofs.Running.{running-passes}
 use Rattle.message_machine.specs.declared.Machine.{Machine}
-use Rattle.evaluate.specs.Places.{Kept}
-use Rattle.evaluate.proofs.Placed.{kept-again, placeAt-kept}
+use Rattle.places.specs.Places.{Kept}
+use Rattle.places.proofs.Placed.{kept-again, placeAt-kept}
 use Rattle.fill.specs.Filled.{Filled}
 use Rattle.locate.specs.Locate.{locatedSlot, LocatedTo, SlotShort}
 use Rattle.locate.specs.Lines.{LinesHold}

@@ -18,7 +18,7 @@ use Rattle.register.specs.declared.cells.Cell.the-variants.{Missing}
 use Rattle.register.proofs.Arrays.{putCell-file}
 use Rattle.register.proofs.Bounds.{place-row, place-column, place-is}
 use Rattle.machine.specs.Value.{cellInRange}
-use Rattle.evaluate.specs.Places.{placeAt}
+use Rattle.places.specs.Places.{placeAt}
 use Rattle.step.specs.Work.{Holds}
 use Rattle.step.specs.Committed.{AllCommitted, CommitStops}
 

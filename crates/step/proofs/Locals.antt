@@ -27,8 +27,8 @@ use Rattle.step_plan.specs.Stored.{ruleOf, rulesIn}
 use Rattle.machine.specs.Local.{fieldOf, offends, localRule, localRules, localRecords, sumOffends}
 use Rattle.machine.proofs.Folding.{localRules-more, localRules-length, localRecords-length, sumOffends-more}
 use Rattle.evaluate.specs.Located.{located}
-use Rattle.evaluate.specs.Answers.{cellWrite, writeOf}
-use Rattle.evaluate.specs.declared.rule.Write.the-variants.{Nothing, OutOfRange}
+use Rattle.effects.specs.Answers.{cellWrite, writeOf}
+use Rattle.effects.specs.declared.rule.Write.the-variants.{Nothing, OutOfRange}
 use Rattle.step.specs.Work.{Room, Holds, Same, Put, Small}
 use Rattle.step.specs.Ready.{reads, Ready, AllReady, LocalRule, LocalDone, LocalStops}
 use Rattle.step.specs.declared.local.Stop.the-variants.{Nowhere, At}

@@ -18,8 +18,8 @@ use Rattle.machine.specs.Remote.{smaller, increased, merged}
 use Rattle.machine.specs.declared.message.Sort.{Sort}
 use Rattle.machine.specs.declared.message.Sort.the-variants.{Least, Total}
 use Rattle.machine.proofs.Folding.{cond-both}
-use Rattle.evaluate.specs.Places.{placeAt}
-use Rattle.evaluate.proofs.Placed.{placeAt-missing, placeAt-value}
+use Rattle.places.specs.Places.{placeAt}
+use Rattle.places.proofs.Placed.{placeAt-missing, placeAt-value}
 use Rattle.step.specs.Work.{Put}
 use Rattle.step.proofs.Working.{put-kept}
 

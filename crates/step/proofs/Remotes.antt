@@ -30,11 +30,11 @@ use Rattle.machine.specs.Value.{both, termValue, holds}
 use Rattle.machine.specs.Local.{fieldOf}
 use Rattle.machine.specs.Remote.{sentTo, actionMessages, ruleMessages, messages, recordMessages, merged, deliver, deliverAll}
 use Rattle.machine.proofs.Folding.{recordMessages-local, messages-more, deliverAll-append, deliverAll-length}
-use Rattle.evaluate.specs.Places.{placeAt}
+use Rattle.places.specs.Places.{placeAt}
 use Rattle.evaluate.specs.Located.{Names, Points}
-use Rattle.evaluate.specs.Answers.{messagesIn}
-use Rattle.evaluate.specs.declared.rule.Sent.{Sent}
-use Rattle.evaluate.specs.declared.rule.Sent.the-variants as S
+use Rattle.effects.specs.Answers.{messagesIn}
+use Rattle.effects.specs.declared.rule.Sent.{Sent}
+use Rattle.effects.specs.declared.rule.Sent.the-variants as S
 use Rattle.step.specs.Work.{Room, Holds, Same, Put, Small}
 use Rattle.step.specs.Ready.{reads, Targets}
 use Rattle.step.specs.Delivered.{RuleDelivered, Delivered}

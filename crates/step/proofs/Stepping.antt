@@ -20,7 +20,7 @@ use Rattle.machine.specs.Remote.{recordMessages, deliverAll}
 use Rattle.machine.specs.Step.{stepCells, offendsAt}
 use Rattle.machine.proofs.Folding.{localRecords-length, stepCells-length}
 use Rattle.machine.proofs.Stops.{stops-nowhere}
-use Rattle.evaluate.specs.Places.{placeAt}
+use Rattle.places.specs.Places.{placeAt}
 use Rattle.evaluate.specs.Located.{located}
 use Rattle.step.specs.Work.{Holds, Same}
 use Rattle.step.specs.Ready.{reads, LocalDone, LocalStops}

@@ -16,7 +16,7 @@ use Rattle.register.specs.Cells.{valueOf, markOf, cellOf, cellAt}
 use Rattle.register.specs.declared.cells.Cell.{Cell}
 use Rattle.register.specs.declared.cells.Cell.the-variants.{Missing}
 use Rattle.register.proofs.Arrays.{cellOf-kept}
-use Rattle.evaluate.specs.Places.{placeAt}
+use Rattle.places.specs.Places.{placeAt}
 use Rattle.step.specs.Work.{Room, Holds, Same, Put, Small}
 
 -- nothing is stored

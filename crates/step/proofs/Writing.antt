@@ -15,9 +15,9 @@ use Rattle.rules.specs.Program as P
 use Rattle.rules.specs.Program.{Rule, Action}
 use Rattle.machine.specs.Value.{holds}
 use Rattle.machine.specs.Local.{stored, fieldOf, store, offends, localRule}
-use Rattle.evaluate.specs.Answers.{cellWrite, writeStored, writeOf}
-use Rattle.evaluate.specs.declared.rule.Write.{Write}
-use Rattle.evaluate.specs.declared.rule.Write.the-variants.{Nothing, Clear, Store, OutOfRange}
+use Rattle.effects.specs.Answers.{cellWrite, writeStored, writeOf}
+use Rattle.effects.specs.declared.rule.Write.{Write}
+use Rattle.effects.specs.declared.rule.Write.the-variants.{Nothing, Clear, Store, OutOfRange}
 
 -- the rule stores nothing
 pub record Idles (read : List ℕ → Cell) (r : Rule) : Type 0 where

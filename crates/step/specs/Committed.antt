@@ -9,7 +9,7 @@ use Rattle.register.specs.File.{width, cellCount, cellIndex, fileOf, putCell}
 use Rattle.register.specs.declared.Sizes.{Sizes}
 use Rattle.register.specs.declared.cells.Cell.{Cell}
 use Rattle.machine.specs.Value.{cellInRange}
-use Rattle.evaluate.specs.Places.{placeAt}
+use Rattle.places.specs.Places.{placeAt}
 use Rattle.step.specs.Work.{Holds}
 use Rattle.step.specs.declared.local.Stop.{Stop}
 use Rattle.step.specs.declared.local.Stop.the-variants.{Nowhere, At}

@@ -8,7 +8,7 @@ use lib.Signed.{mag}
 use Rattle.register.specs.Cells.{valueOf, cellOf}
 use Rattle.register.specs.declared.cells.Cell.{Cell}
 use Rattle.register.specs.declared.cells.Cell.the-variants.{Missing}
-use Rattle.evaluate.specs.Places.{placeAt}
+use Rattle.places.specs.Places.{placeAt}
 
 -- the buffers have room for k cells from `base` on; before them stand at most 64 lines of 4,096 places and a column
 pub record Room (base k : ℕ) (values : List ℤ) (marks : List ℕ) : Type 0 where

@@ -13,9 +13,9 @@ ghost use Rattle.step.specs.Ready.{Ready, LocalRule};
 use crate::work;
 use actions::rule::Slot;
 use chain::follow;
-use evaluate::places;
-use evaluate::rule;
-use evaluate::rule::Write;
+use effects::rule;
+use effects::rule::Write;
+use places;
 use register::Sizes;
 
 // A step goes through, or stops at a record and column where a sum or total is out of range.

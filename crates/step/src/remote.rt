@@ -10,8 +10,8 @@ ghost use Rattle.step.specs.Ready.{Ready, AllReady};
 ghost use Rattle.step.specs.Delivered.{RuleDelivered, Delivered};
 use crate::work;
 use actions::rule::Slot;
-use evaluate::rule;
-use evaluate::rule::Sent;
+use effects::rule;
+use effects::rule::Sent;
 use register::Sizes;
 
 // The message of one rule at record u, where it sends one. The number of messages.

@@ -8,13 +8,13 @@ ghost use Rattle.register.specs.Cells.{valueOf, cellsOf};
 ghost use Rattle.register.specs.File.{cellIndex};
 ghost use Rattle.register.specs.Shape.{Limits};
 ghost use Rattle.chain.specs.Word.{hasField, column as columnOf};
-ghost use Rattle.evaluate.specs.Places.{placeAt};
+ghost use Rattle.places.specs.Places.{placeAt};
 ghost use Rattle.machine.specs.Remote.{merged};
 ghost use Rattle.machine.specs.declared.message.Sort.the-variants.{Least, Total};
 ghost use Rattle.step.specs.Work.{Room, Holds, Put, Same};
 use chain::follow;
-use evaluate::places;
 use machine::message::Sort;
+use places;
 use register::Sizes;
 use register::cells::Cell;
 

@@ -13,9 +13,9 @@ use Rattle.register.specs.Cells.{cellsOf}
 use Rattle.register.specs.Shape.{refersWithin}
 use Rattle.chain.proofs.Following.{column-below}
 use Rattle.chain.proofs.Passing.{field-below}
-use Rattle.evaluate.specs.Places.{placeAt, Kept}
-use Rattle.evaluate.proofs.Placed.{placeAt-kept}
-use Rattle.evaluate.proofs.Storing.{stored-none, stored-more}
+use Rattle.places.specs.Places.{placeAt, Kept}
+use Rattle.places.proofs.Placed.{placeAt-kept}
+use Rattle.places.proofs.Storing.{stored-none, stored-more}
 use Rattle.fill.specs.Filled.{Hopped}
 use Rattle.fill.proofs.Leading.{hop-referred}
 use Rattle.fill.proofs.advance.Statement.{statement}

@@ -3,7 +3,7 @@
 use native.Mathlib.Omega.{arith}
 use Rattle.register.specs.Cells.{cellsOf}
 use Rattle.chain.specs.Word.{unpack}
-use Rattle.evaluate.proofs.Storing.{stored-over}
+use Rattle.places.proofs.Storing.{stored-over}
 use Rattle.fill.proofs.Hopping.{LineUnderway, begun-field, line-begun, line-referring, on-field, line-on, last-field, line-done}
 use Rattle.fill.proofs.fill_line.Statement.{statement}
 use Rattle.fill.proofs.fill_line.Tie as tie

@@ -10,7 +10,7 @@ use mir.Facts.{toZ-ofZ, sfits-widen}
 use denote.Ref.{now}
 use Rattle.integers.proofs.Complement.{kept}
 use Rattle.register.specs.File.{cellIndex}
-use Rattle.evaluate.proofs.Storing.{stored-as, stored-left, copied-room, copied-one}
+use Rattle.places.proofs.Storing.{stored-as, stored-left, copied-room, copied-one}
 use Rattle.fill.proofs.Leading.{referred-missing, referred-value, named-index, named-below}
 use borrow.Author.Needs.{needs}
 use Rattle.fill.proofs.hop.Statement.{statement}

@@ -20,7 +20,7 @@ use Rattle.reader_state.specs.declared.state.Frame.{Frame}
 use Rattle.reader.specs.declared.Program as R
 use Rattle.reader.specs.Kept.{stepsIn, programOf}
 use Rattle.step_plan.specs.Stored.{ruleOf, rulesIn}
-use Rattle.evaluate.specs.Places.{Kept}
+use Rattle.places.specs.Places.{Kept}
 use Rattle.locate.specs.Locate.{LocatedTo}
 use Rattle.step.specs.Work.{Holds, Same}
 use Rattle.step.specs.Stepped.{GoesThrough}

@@ -13,7 +13,7 @@ use Rattle.integers.proofs.Complement.{kept}
 use Rattle.register.specs.File.{putCell}
 use Rattle.register.specs.declared.cells.Cell.the-variants.{Value}
 use Rattle.machine.specs.Value.{cellInRange}
-use Rattle.evaluate.proofs.Placed.{placeAt-missing, placeAt-value}
+use Rattle.places.proofs.Placed.{placeAt-missing, placeAt-value}
 use Rattle.step.proofs.Committing.{total-told}
 use Rattle.step.proofs.commit.commit_cell.Statement.{statement}
 use Rattle.step.proofs.commit.commit_cell.Tie as tie

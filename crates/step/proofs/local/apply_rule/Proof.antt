@@ -18,8 +18,8 @@ use Rattle.register.specs.declared.cells.Cell.the-variants.{Missing, Value}
 use Rattle.chain.specs.Word.{hasField}
 use Rattle.chain.proofs.Passing.{field-below}
 use Rattle.step_plan.specs.Stored.{ruleOf}
-use Rattle.evaluate.specs.Answers.{cellWrite, writeOf}
-use Rattle.evaluate.specs.declared.rule.Write.the-variants.{OutOfRange}
+use Rattle.effects.specs.Answers.{cellWrite, writeOf}
+use Rattle.effects.specs.declared.rule.Write.the-variants.{OutOfRange}
 use Rattle.step.specs.Work.{Room}
 use Rattle.step.specs.Ready.{reads}
 use Rattle.step.proofs.Locals.{rule-idles, rule-offends, rule-stores, stores-field, offends-field}

@@ -11,8 +11,8 @@ use mir.Facts.{toZ-ofZ}
 use Rattle.register.specs.Cells.{valueOf}
 use Rattle.machine.specs.Remote.{merged}
 use Rattle.machine.specs.declared.message.Sort.the-variants.{Total}
-use Rattle.evaluate.specs.Places.{placeAt}
-use Rattle.evaluate.proofs.Placed.{placeAt-value}
+use Rattle.places.specs.Places.{placeAt}
+use Rattle.places.proofs.Placed.{placeAt-value}
 use Rattle.step.specs.Work.{Put}
 use Rattle.step.proofs.Merging.{total-missing, total-added}
 use Rattle.step.proofs.work.add_total.Statement.{statement}

@@ -9,7 +9,7 @@ use lib.ListN.{length, getD}
 use Rattle.register.specs.Cells.{cellsOf}
 use Rattle.register.specs.declared.cells.Cell.the-variants.{Missing}
 use Rattle.register.proofs.Arrays.{cellsOf-length, cellsOf-at}
-use Rattle.evaluate.specs.Places.{placeAt}
+use Rattle.places.specs.Places.{placeAt}
 use Rattle.step.specs.Work.{Room, Same}
 use Rattle.step.proofs.Working.{same-refl, same-then, room-same, put-copied, same-put, put-there, put-other}
 use Rattle.step.proofs.work.begin.Statement.{statement}

@@ -14,7 +14,7 @@ use Rattle.register.specs.Cells.{valueOf}
 use Rattle.register.specs.declared.cells.Cell.the-variants.{Value}
 use Rattle.machine.specs.Remote.{merged}
 use Rattle.machine.specs.declared.message.Sort.the-variants.{Least}
-use Rattle.evaluate.specs.Places.{placeAt}
+use Rattle.places.specs.Places.{placeAt}
 use Rattle.step.proofs.Working.{put-stored}
 use Rattle.step.proofs.Merging.{least-missing, least-smaller, least-kept}
 use Rattle.step.proofs.work.keep_least.Statement.{statement}

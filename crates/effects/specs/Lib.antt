@@ -1,0 +1,2 @@
+-- What a rule stores or sends, as the code tells it.
+pub mod Answers

@@ -1,0 +1,2 @@
+// What one record makes of one rule: what it stores and what it sends.
+pub mod rule;

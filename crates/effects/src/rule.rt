@@ -1,0 +1,246 @@
+// One rule at one record: what it stores there, or that its sum leaves the range; what it sends to another.
+ghost use mathlib.Core.Path.{_≡_};
+ghost use Prim.Native.Nat.{_<_};
+ghost use lib.IntN.{_+ℤ_, _-ℤ_};
+ghost use Rattle.register.specs.Cells.{cellsOf};
+ghost use Rattle.register.specs.Shape.{Parts};
+ghost use Rattle.rules.specs.Program.{isRemote};
+ghost use Rattle.chain.specs.Word.{unpack};
+ghost use Rattle.step_plan.specs.Stored.{ruleOf, actionOf, termOf};
+ghost use Rattle.machine.specs.Value.{termValue};
+ghost use Rattle.machine.specs.Local.{sumCell};
+ghost use Rattle.machine.specs.Remote.{sentTo, ruleMessages};
+ghost use Rattle.evaluate.specs.Located.{located, ChainReaches, TermReaches, SlotReaches, Names, Points};
+ghost use Rattle.effects.specs.Answers.{cellWrite, sumAnswer, sumWrite, writeOf, messagesIn};
+use actions::rule::Rule;
+use actions::rule::Slot;
+use evaluate::term;
+use integers::Sum;
+use machine::message::Message;
+use machine::message::Sort;
+use register::Sizes;
+use register::cells::Cell;
+use terms::term::Term;
+
+// A rule stores nothing in its own record, makes a field missing or stores a value in it; or its sum for the field leaves the
+// range.
+pub enum Write {
+    Nothing,
+    Clear(u64),
+    Store(u64, i32),
+    OutOfRange(u64),
+}
+
+// A rule sends nothing, or one message.
+pub enum Sent {
+    Nothing,
+    One(Message),
+}
+
+// Whether it is a remote write.
+fn is_remote(rule: Rule) -> bool
+    ensures { λ r. ⌜ r ≡ isRemote (actionOf rule) ⌝ }
+{
+    match rule {
+        Rule::Set(_, _) => false,
+        Rule::Sum(_, _, _) => false,
+        Rule::Difference(_, _, _) => false,
+        Rule::Least(_, _, _) => true,
+        Rule::Total(_, _, _) => true,
+    }
+}
+
+fn write_cell(field: u64, cell: Cell) -> Write
+    ensures { λ r. ⌜ r ≡ cellWrite field cell ⌝ }
+{
+    match cell {
+        Cell::Missing => Write::Clear(field),
+        Cell::Value(value) => Write::Store(field, value),
+    }
+}
+
+fn write_sum(field: u64, sum: Sum) -> Write
+    ensures { λ r. ⌜ r ≡ sumAnswer field sum ⌝ }
+{
+    match sum {
+        Sum::InRange(value) => Write::Store(field, value),
+        Sum::OutOfRange => Write::OutOfRange(field),
+    }
+}
+
+// The sum of two terms at record u, for a field.
+fn add(
+    cells: &[u8],
+    filled: &[u8],
+    values: &[i64],
+    marks: &[u8],
+    sizes: Sizes,
+    u: usize,
+    field: u64,
+    x: Term,
+    y: Term,
+) -> Write
+    requires { ⌜ Parts sizes (now cells) (now filled) × (u < sizes .records) × TermReaches sizes (now values) (now marks) u x × TermReaches sizes (now values) (now marks) u y ⌝ }
+    ensures { λ r. ⌜ r ≡ sumWrite field (sumCell _+ℤ_ (termValue (located sizes (cellsOf (now (cells .entry)) (now (filled .entry))) (now (values .entry)) (now (marks .entry)) u) (termOf x)) (termValue (located sizes (cellsOf (now (cells .entry)) (now (filled .entry))) (now (values .entry)) (now (marks .entry)) u) (termOf y))) ⌝ }
+{
+    let Cell::Value(a) = term::term_value(cells, filled, values, marks, sizes, u, x) else {
+        return Write::Clear(field);
+    };
+    let Cell::Value(b) = term::term_value(cells, filled, values, marks, sizes, u, y) else {
+        return Write::Clear(field);
+    };
+    write_sum(field, integers::add(a, b))
+}
+
+// Their difference.
+fn subtract(
+    cells: &[u8],
+    filled: &[u8],
+    values: &[i64],
+    marks: &[u8],
+    sizes: Sizes,
+    u: usize,
+    field: u64,
+    x: Term,
+    y: Term,
+) -> Write
+    requires { ⌜ Parts sizes (now cells) (now filled) × (u < sizes .records) × TermReaches sizes (now values) (now marks) u x × TermReaches sizes (now values) (now marks) u y ⌝ }
+    ensures { λ r. ⌜ r ≡ sumWrite field (sumCell _-ℤ_ (termValue (located sizes (cellsOf (now (cells .entry)) (now (filled .entry))) (now (values .entry)) (now (marks .entry)) u) (termOf x)) (termValue (located sizes (cellsOf (now (cells .entry)) (now (filled .entry))) (now (values .entry)) (now (marks .entry)) u) (termOf y))) ⌝ }
+{
+    let Cell::Value(a) = term::term_value(cells, filled, values, marks, sizes, u, x) else {
+        return Write::Clear(field);
+    };
+    let Cell::Value(b) = term::term_value(cells, filled, values, marks, sizes, u, y) else {
+        return Write::Clear(field);
+    };
+    write_sum(field, integers::subtract(a, b))
+}
+
+// What a rule stores in record u.
+pub fn local_write(
+    cells: &[u8],
+    filled: &[u8],
+    values: &[i64],
+    marks: &[u8],
+    sizes: Sizes,
+    u: usize,
+    slot: Slot,
+) -> Write
+    requires { ⌜ Parts sizes (now cells) (now filled) × (u < sizes .records) × SlotReaches sizes (now values) (now marks) u slot ⌝ }
+    ensures { λ r. ⌜ r ≡ writeOf (located sizes (cellsOf (now (cells .entry)) (now (filled .entry))) (now (values .entry)) (now (marks .entry)) u) (ruleOf slot) ⌝ }
+{
+    let rule = slot.rule;
+    if is_remote(rule) {
+        return Write::Nothing;
+    }
+    let test = slot.test;
+    if !term::holds(cells, filled, values, marks, sizes, u, test) {
+        return Write::Nothing;
+    }
+    match rule {
+        Rule::Set(field, x) => write_cell(
+            field,
+            term::term_value(cells, filled, values, marks, sizes, u, x),
+        ),
+        Rule::Sum(field, x, y) => add(cells, filled, values, marks, sizes, u, field, x, y),
+        Rule::Difference(field, x, y) => subtract(
+            cells,
+            filled,
+            values,
+            marks,
+            sizes,
+            u,
+            field,
+            x,
+            y,
+        ),
+        Rule::Least(_, _, _) => Write::Nothing,
+        Rule::Total(_, _, _) => Write::Nothing,
+    }
+}
+
+// A write to the record at a chain: "One whose C or X is unfilled does nothing."
+fn send(
+    cells: &[u8],
+    filled: &[u8],
+    values: &[i64],
+    marks: &[u8],
+    sizes: Sizes,
+    u: usize,
+    sort: Sort,
+    field: u64,
+    target: u64,
+    x: Term,
+) -> Sent
+    requires { ⌜ Parts sizes (now cells) (now filled) × (u < sizes .records) × ChainReaches sizes (now values) (now marks) u target × TermReaches sizes (now values) (now marks) u x × Names (located sizes (cellsOf (now cells) (now filled)) (now values) (now marks) u (unpack target)) ⌝ }
+    ensures { λ r. ⌜ messagesIn r ≡ sentTo sort field (located sizes (cellsOf (now (cells .entry)) (now (filled .entry))) (now (values .entry)) (now (marks .entry)) u (unpack target)) (termValue (located sizes (cellsOf (now (cells .entry)) (now (filled .entry))) (now (values .entry)) (now (marks .entry)) u) (termOf x)) ⌝ }
+{
+    let Cell::Value(to) = term::chain_value(cells, filled, values, marks, sizes, u, target) else {
+        return Sent::Nothing;
+    };
+    let Cell::Value(amount) = term::term_value(cells, filled, values, marks, sizes, u, x) else {
+        return Sent::Nothing;
+    };
+    Sent::One(Message {
+        sort,
+        target: integers::index(to),
+        field,
+        amount,
+    })
+}
+
+// What a rule sends from record u.
+pub fn message_of(
+    cells: &[u8],
+    filled: &[u8],
+    values: &[i64],
+    marks: &[u8],
+    sizes: Sizes,
+    u: usize,
+    slot: Slot,
+) -> Sent
+    requires { ⌜ Parts sizes (now cells) (now filled) × (u < sizes .records) × SlotReaches sizes (now values) (now marks) u slot × Points (located sizes (cellsOf (now cells) (now filled)) (now values) (now marks) u) (actionOf (slot .rule)) ⌝ }
+    ensures { λ r. ⌜ messagesIn r ≡ ruleMessages (located sizes (cellsOf (now (cells .entry)) (now (filled .entry))) (now (values .entry)) (now (marks .entry)) u) (ruleOf slot) ⌝ }
+{
+    let rule = slot.rule;
+    if !is_remote(rule) {
+        return Sent::Nothing;
+    }
+    let test = slot.test;
+    if !term::holds(cells, filled, values, marks, sizes, u, test) {
+        return Sent::Nothing;
+    }
+    match rule {
+        Rule::Set(_, _) => Sent::Nothing,
+        Rule::Sum(_, _, _) => Sent::Nothing,
+        Rule::Difference(_, _, _) => Sent::Nothing,
+        Rule::Least(field, target, x) => {
+            send(
+                cells,
+                filled,
+                values,
+                marks,
+                sizes,
+                u,
+                Sort::Least,
+                field,
+                target,
+                x,
+            )
+        }
+        Rule::Total(field, target, x) => {
+            send(
+                cells,
+                filled,
+                values,
+                marks,
+                sizes,
+                u,
+                Sort::Total,
+                field,
+                target,
+                x,
+            )
+        }
+    }
+}

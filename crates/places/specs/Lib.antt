@@ -1,0 +1,2 @@
+-- Cells in the places of the scratch buffers.
+pub mod Places
