@@ -26,7 +26,7 @@ use Rattle.machine.proofs.Running.{Trace, Running, running-start, running-compl
 use Rattle.machine.proofs.Stops.{stops-at}
 use Rattle.places.specs.Places.{Kept}
 use Rattle.places.proofs.Placed.{placeAt-kept}
-use Rattle.step.specs.Work.{Holds}
+use Rattle.work.specs.Work.{Holds}
 use Rattle.step.specs.Stepped.{GoesThrough, StopsAt}
 use Rattle.pass.specs.Column.{Column, InPass, HasPass, Entered, NextIs}
 use Rattle.message_machine.specs.declared.Machine.{Machine}

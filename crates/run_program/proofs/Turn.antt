@@ -34,12 +34,12 @@ use Rattle.locate.specs.Locate.{locatedSlot, LocatedTo, SlotShort}
 use Rattle.locate.specs.Lines.{LinesHold}
 use Rattle.locate.proofs.Lines.{filled-lines, lines-below}
 use Rattle.locate.proofs.Slots.{slots-alike, slots-ready}
-use Rattle.step.specs.Work.{Room, Holds, Same}
+use Rattle.work.specs.Work.{Room, Holds, Same}
 use Rattle.step.specs.Ready.{reads, AllReady, LocalDone, LocalStops}
 use Rattle.step.specs.Delivered.{Delivered}
-use Rattle.step.specs.Committed.{AllCommitted, CommitStops}
+use Rattle.work.specs.Committed.{AllCommitted, CommitStops}
 use Rattle.step.specs.Stepped.{GoesThrough, StopsAt}
-use Rattle.step.proofs.Working.{same-then}
+use Rattle.work.proofs.Working.{same-then}
 use Rattle.step.proofs.Stepping.{AllDone, all-done, local-stops, goes-through, commit-stops}
 use Rattle.pass.specs.Column.{Entered}
 use Rattle.messages.specs.Lines.{Planned}

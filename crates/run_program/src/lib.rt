@@ -13,11 +13,11 @@ use pass;
 use reader::Program;
 use register::Sizes;
 use register::cells;
-use step::commit;
 use step::local;
-use step::local::Stop;
 use step::remote;
-use step::work;
+use work;
+use work::commit;
+use work::commit::Stop;
 
 // The refusal's number, 0 for none, with its line where it has one; the finished steps and what they count; for 21 the record and
 // the column where it happened.

@@ -29,10 +29,10 @@ use Rattle.machine.proofs.Folding.{localRules-more, localRules-length, localRec
 use Rattle.evaluate.specs.Located.{located}
 use Rattle.effects.specs.Answers.{cellWrite, writeOf}
 use Rattle.effects.specs.declared.rule.Write.the-variants.{Nothing, OutOfRange}
-use Rattle.step.specs.Work.{Room, Holds, Same, Put, Small}
+use Rattle.work.specs.Work.{Room, Holds, Same, Put, Small}
 use Rattle.step.specs.Ready.{reads, Ready, AllReady, LocalRule, LocalDone, LocalStops}
-use Rattle.step.specs.declared.local.Stop.the-variants.{Nowhere, At}
-use Rattle.step.proofs.Working.{same-refl, same-then, same-put, holds-put, small-put}
+use Rattle.work.specs.declared.commit.Stop.the-variants.{Nowhere, At}
+use Rattle.work.proofs.Working.{same-refl, same-then, same-put, holds-put, small-put}
 use Rattle.step.proofs.Writing.{told, told-cell}
 
 -- one of many

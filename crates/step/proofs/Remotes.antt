@@ -35,12 +35,12 @@ use Rattle.evaluate.specs.Located.{Names, Points}
 use Rattle.effects.specs.Answers.{messagesIn}
 use Rattle.effects.specs.declared.rule.Sent.{Sent}
 use Rattle.effects.specs.declared.rule.Sent.the-variants as S
-use Rattle.step.specs.Work.{Room, Holds, Same, Put, Small}
+use Rattle.work.specs.Work.{Room, Holds, Same, Put, Small}
 use Rattle.step.specs.Ready.{reads, Targets}
 use Rattle.step.specs.Delivered.{RuleDelivered, Delivered}
-use Rattle.step.proofs.Working.{same-refl, same-then, same-put, holds-put, small-put}
+use Rattle.work.proofs.Working.{same-refl, same-then, same-put, holds-put, small-put}
 use Rattle.step.proofs.Locals.{rules-more, reads-same}
-use Rattle.step.proofs.Merging.{merged-below}
+use Rattle.work.proofs.Merging.{merged-below}
 
 -- a target within the register names a record
 within-names : (n : ℕ) (c : Cell) → refersWithin n c ≡ true → Names c

@@ -22,10 +22,10 @@ use Rattle.machine.proofs.Folding.{localRecords-length, stepCells-length}
 use Rattle.machine.proofs.Stops.{stops-nowhere}
 use Rattle.places.specs.Places.{placeAt}
 use Rattle.evaluate.specs.Located.{located}
-use Rattle.step.specs.Work.{Holds, Same}
+use Rattle.work.specs.Work.{Holds, Same}
 use Rattle.step.specs.Ready.{reads, LocalDone, LocalStops}
 use Rattle.step.specs.Delivered.{Delivered}
-use Rattle.step.specs.Committed.{AllCommitted, CommitStops}
+use Rattle.work.specs.Committed.{AllCommitted, CommitStops}
 use Rattle.step.specs.Stepped.{GoesThrough, StopsAt}
 
 -- all records read what they read before the stores

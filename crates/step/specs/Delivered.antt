@@ -9,7 +9,7 @@ use Rattle.register.specs.declared.Sizes.{Sizes}
 use Rattle.register.specs.declared.cells.Cell.{Cell}
 use Rattle.rules.specs.Program.{Rule}
 use Rattle.machine.specs.Remote.{ruleMessages, recordMessages, deliverAll}
-use Rattle.step.specs.Work.{Holds, Same, Small}
+use Rattle.work.specs.Work.{Holds, Same, Small}
 use Rattle.step.specs.Ready.{reads}
 
 -- by one rule at record u, which sends n messages; a value grows by one amount at most

@@ -11,7 +11,7 @@ use Rattle.register.specs.declared.cells.Cell.{Cell}
 use Rattle.rules.specs.Program.{Rule}
 use Rattle.machine.specs.Remote.{recordMessages}
 use Rattle.machine.specs.Step.{stepCells, offendsAt, stops}
-use Rattle.step.specs.Work.{Holds}
+use Rattle.work.specs.Work.{Holds}
 
 -- a step that goes through: the file and the working cells hold the cells behind it, and it has sent n messages
 pub record GoesThrough (s : Sizes) (read : ℕ → List ℕ → Cell) (rs : List Rule) (file file′ : List ℕ) (base : ℕ) (values : List ℤ) (marks : List ℕ) (n : ℕ) : Type 0 where

@@ -8,21 +8,16 @@ ghost use Rattle.register.specs.File.{cellCount, cellIndex};
 ghost use Rattle.register.specs.Shape.{Limits, Parts};
 ghost use Rattle.chain.specs.Word.{hasField, column as columnOf};
 ghost use Rattle.step_plan.specs.Stored.{ruleOf};
-ghost use Rattle.step.specs.Work.{Room, Put};
+ghost use Rattle.work.specs.Work.{Room, Put};
 ghost use Rattle.step.specs.Ready.{Ready, LocalRule};
-use crate::work;
 use actions::rule::Slot;
 use chain::follow;
 use effects::rule;
 use effects::rule::Write;
 use places;
 use register::Sizes;
-
-// A step goes through, or stops at a record and column where a sum or total is out of range.
-pub enum Stop {
-    Nowhere,
-    At(usize, usize),
-}
+use work;
+use work::commit::Stop;
 
 // Stores a value and a mark in the working cell of record u and a field.
 fn store(

@@ -5,14 +5,14 @@ ghost use lib.ListN.{length, take};
 ghost use Rattle.register.specs.Cells.{cellsOf};
 ghost use Rattle.register.specs.Shape.{Parts};
 ghost use Rattle.step_plan.specs.Stored.{ruleOf, rulesIn};
-ghost use Rattle.step.specs.Work.{Room, Small};
+ghost use Rattle.work.specs.Work.{Room, Small};
 ghost use Rattle.step.specs.Ready.{Ready, AllReady};
 ghost use Rattle.step.specs.Delivered.{RuleDelivered, Delivered};
-use crate::work;
 use actions::rule::Slot;
 use effects::rule;
 use effects::rule::Sent;
 use register::Sizes;
+use work;
 
 // The message of one rule at record u, where it sends one. The number of messages.
 fn apply_rule(

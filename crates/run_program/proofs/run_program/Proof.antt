@@ -22,13 +22,13 @@ use Rattle.reader.specs.Kept.{stepsIn, programOf}
 use Rattle.step_plan.specs.Stored.{ruleOf, rulesIn}
 use Rattle.places.specs.Places.{Kept}
 use Rattle.locate.specs.Locate.{LocatedTo}
-use Rattle.step.specs.Work.{Holds, Same}
+use Rattle.work.specs.Work.{Holds, Same}
 use Rattle.step.specs.Stepped.{GoesThrough}
 use Rattle.step.specs.Ready.{LocalDone, LocalAnswer}
 use Rattle.step.specs.Delivered.{Delivered}
-use Rattle.step.specs.declared.local.Stop.{Stop}
-use Rattle.step.specs.declared.local.Stop.the-variants.{Nowhere}
-use Rattle.step.proofs.Working.{same-refl, same-then, room-same, small-held}
+use Rattle.work.specs.declared.commit.Stop.{Stop}
+use Rattle.work.specs.declared.commit.Stop.the-variants.{Nowhere}
+use Rattle.work.proofs.Working.{same-refl, same-then, room-same, small-held}
 use Rattle.step.proofs.Locals.{RecordDone, ready-at, record-start, record-more, record-stops, records-start, records-more, records-all, records-stop}
 use Rattle.step.proofs.Remotes.{silent-step}
 use Rattle.machine.specs.Run.{direct}

@@ -8,7 +8,7 @@ use Rattle.register.specs.Cells.{cellsOf}
 use Rattle.step_plan.specs.Stored.{rulesIn}
 use Rattle.machine.specs.Remote.{messages, recordMessages}
 use Rattle.step.specs.Ready.{reads}
-use Rattle.step.proofs.Working.{same-then, room-same}
+use Rattle.work.proofs.Working.{same-then, room-same}
 use Rattle.step.proofs.Locals.{ready-at}
 use Rattle.step.proofs.Remotes.{small-within, Sends, sends-none, sends-more, sends-record, sent-all}
 use Rattle.step.proofs.remote.apply.Statement.{statement}

@@ -17,7 +17,7 @@ use Rattle.chain.specs.Word.{hasField, column}
 use Rattle.step_plan.specs.Stored.{ruleOf, actionOf}
 use Rattle.machine.specs.declared.message.Message.{Message}
 use Rattle.machine.specs.Remote.{ruleMessages}
-use Rattle.step.specs.Work.{Room}
+use Rattle.work.specs.Work.{Room}
 use Rattle.step.specs.Ready.{reads}
 use Rattle.step.proofs.Remotes.{none-sent, one-sent, targets-point, rule-silent, rule-place, rule-delivered}
 use borrow.Author.Needs.{needs}

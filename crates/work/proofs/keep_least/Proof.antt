@@ -1,4 +1,4 @@
--- `step::work::keep_least` meets its contract: the amount is stored where the cell is missing or its value is larger.
+-- `work::keep_least` meets its contract: the amount is stored where the cell is missing or its value is larger.
 -- Assumes nothing.
 use mathlib.Core.Path.{_≡_, sym, ap₂, _∙_}
 use mathlib.Core.Logic.{⊎-elim}
@@ -15,10 +15,10 @@ use Rattle.register.specs.declared.cells.Cell.the-variants.{Value}
 use Rattle.machine.specs.Remote.{merged}
 use Rattle.machine.specs.declared.message.Sort.the-variants.{Least}
 use Rattle.places.specs.Places.{placeAt}
-use Rattle.step.proofs.Working.{put-stored}
-use Rattle.step.proofs.Merging.{least-missing, least-smaller, least-kept}
-use Rattle.step.proofs.work.keep_least.Statement.{statement}
-use Rattle.step.proofs.work.keep_least.Tie as tie
+use Rattle.work.proofs.Working.{put-stored}
+use Rattle.work.proofs.Merging.{least-missing, least-smaller, least-kept}
+use Rattle.work.proofs.keep_least.Statement.{statement}
+use Rattle.work.proofs.keep_least.Tie as tie
 
 -- the test compares the amount with the value of the cell
 compared : (c : tie.After-is-below) → let a = c .before .before .before .before .before .args in c .is-below .result ≡ ltZ (a .amount) (getD (now (a .values)) (a .j) (pos 0))

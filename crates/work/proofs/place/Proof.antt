@@ -1,4 +1,4 @@
--- `step::work::place` meets its contract: the working cells stand as those of the register do.
+-- `work::place` meets its contract: the working cells stand as those of the register do.
 -- Assumes nothing.
 use Prim.Native.Nat.{_+_}
 use mathlib.Core.Path.{_≡_, ap, _∙_}
@@ -8,8 +8,8 @@ use Rattle.register.proofs.Bounds.{cellIndex-below, cellCount≤}
 use Rattle.chain.specs.Word.{column}
 use Rattle.chain.proofs.Passing.{field-below}
 use Rattle.chain.proofs.Following.{column-below}
-use Rattle.step.proofs.work.place.Statement.{statement}
-use Rattle.step.proofs.work.place.Tie as tie
+use Rattle.work.proofs.place.Statement.{statement}
+use Rattle.work.proofs.place.Tie as tie
 
 column-requires : tie.Need-column-requires
 column-requires c κs = (c .pre .0 .references≤, field-below (c .args .sizes) (c .pre .0) (c .args .field) (c .pre .2))

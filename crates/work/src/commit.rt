@@ -4,13 +4,18 @@ ghost use lib.ListN.{length};
 ghost use mathlib.Core.Path.{_≡_};
 ghost use Rattle.register.specs.File.{cellCount};
 ghost use Rattle.register.specs.Shape.{Limits};
-ghost use Rattle.step.specs.Work.{Room};
-ghost use Rattle.step.specs.Committed.{OneCommitted, Committed};
-use crate::local::Stop;
+ghost use Rattle.work.specs.Work.{Room};
+ghost use Rattle.work.specs.Committed.{OneCommitted, Committed};
 use integers::Sum;
 use register::Sizes;
 use register::cells;
 use register::cells::Cell;
+
+// A step goes through, or stops at a record and column where a sum or total is out of range.
+pub enum Stop {
+    Nowhere,
+    At(usize, usize),
+}
 
 // Cell j; whether it is in range.
 fn commit_cell(

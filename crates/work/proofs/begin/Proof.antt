@@ -1,4 +1,4 @@
--- `step::work::begin` meets its contract. The loop's invariant: the places passed hold their cells, and nothing below `base` has changed.
+-- `work::begin` meets its contract. The loop's invariant: the places passed hold their cells, and nothing below `base` has changed.
 -- Assumes nothing.
 use Prim.Native.Nat.{ℕ, _+_, _-_, _<_}
 use mathlib.Core.Path.{_≡_, sym, _∙_}
@@ -10,10 +10,10 @@ use Rattle.register.specs.Cells.{cellsOf}
 use Rattle.register.specs.declared.cells.Cell.the-variants.{Missing}
 use Rattle.register.proofs.Arrays.{cellsOf-length, cellsOf-at}
 use Rattle.places.specs.Places.{placeAt}
-use Rattle.step.specs.Work.{Room, Same}
-use Rattle.step.proofs.Working.{same-refl, same-then, room-same, put-copied, same-put, put-there, put-other}
-use Rattle.step.proofs.work.begin.Statement.{statement}
-use Rattle.step.proofs.work.begin.Tie as tie
+use Rattle.work.specs.Work.{Room, Same}
+use Rattle.work.proofs.Working.{same-refl, same-then, room-same, put-copied, same-put, put-there, put-other}
+use Rattle.work.proofs.begin.Statement.{statement}
+use Rattle.work.proofs.begin.Tie as tie
 
 abbrev Inv-loop : tie.InvT-loop
 Inv-loop cells filled values₀ marks₀ base j₀ j-end values marks j =

@@ -1,10 +1,10 @@
--- `step::work::deliver` meets its contract: each sort has its own function.
+-- `work::deliver` meets its contract: each sort has its own function.
 -- Assumes nothing.
 use borrow.Author.Needs.{needs}
 use mir.Syntax.{w32}
 use mir.Facts.{toZ-ofZ}
-use Rattle.step.proofs.work.deliver.Statement.{statement}
-use Rattle.step.proofs.work.deliver.Tie as tie
+use Rattle.work.proofs.deliver.Statement.{statement}
+use Rattle.work.proofs.deliver.Tie as tie
 
 enum-told : tie.Need-enum-told
 enum-told c = search needs

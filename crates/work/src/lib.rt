@@ -1,4 +1,6 @@
 // The working cells: a part of the scratch buffers from place `base` on, behind the places of the plan's lines.
+pub mod commit;
+
 ghost use Prim.Native.Nat.{_+_, _*_, _≤_, _<_};
 ghost use mathlib.Core.Path.{_≡_};
 ghost use mathlib.Core.Bool.{true};
@@ -11,7 +13,7 @@ ghost use Rattle.chain.specs.Word.{hasField, column as columnOf};
 ghost use Rattle.places.specs.Places.{placeAt};
 ghost use Rattle.machine.specs.Remote.{merged};
 ghost use Rattle.machine.specs.declared.message.Sort.the-variants.{Least, Total};
-ghost use Rattle.step.specs.Work.{Room, Holds, Put, Same};
+ghost use Rattle.work.specs.Work.{Room, Holds, Put, Same};
 use chain::follow;
 use machine::message::Sort;
 use places;

@@ -1,4 +1,4 @@
--- `step::work::add_total` meets its contract: the mark says whether there is a value to add to.
+-- `work::add_total` meets its contract: the mark says whether there is a value to add to.
 -- Assumes nothing.
 use mathlib.Core.Path.{ap₂, _∙_}
 use borrow.Author.Needs.{needs}
@@ -13,10 +13,10 @@ use Rattle.machine.specs.Remote.{merged}
 use Rattle.machine.specs.declared.message.Sort.the-variants.{Total}
 use Rattle.places.specs.Places.{placeAt}
 use Rattle.places.proofs.Placed.{placeAt-value}
-use Rattle.step.specs.Work.{Put}
-use Rattle.step.proofs.Merging.{total-missing, total-added}
-use Rattle.step.proofs.work.add_total.Statement.{statement}
-use Rattle.step.proofs.work.add_total.Tie as tie
+use Rattle.work.specs.Work.{Put}
+use Rattle.work.proofs.Merging.{total-missing, total-added}
+use Rattle.work.proofs.add_total.Statement.{statement}
+use Rattle.work.proofs.add_total.Tie as tie
 
 slice-read-if1 : tie.Need-slice-read-if1
 slice-read-if1 c = search needs

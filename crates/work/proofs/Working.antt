@@ -17,7 +17,7 @@ use Rattle.register.specs.declared.cells.Cell.{Cell}
 use Rattle.register.specs.declared.cells.Cell.the-variants.{Missing}
 use Rattle.register.proofs.Arrays.{cellOf-kept}
 use Rattle.places.specs.Places.{placeAt}
-use Rattle.step.specs.Work.{Room, Holds, Same, Put, Small}
+use Rattle.work.specs.Work.{Room, Holds, Same, Put, Small}
 
 -- nothing is stored
 pub same-refl : {base : ℕ} {values : List ℤ} {marks : List ℕ} → Same base values marks values marks

@@ -20,8 +20,8 @@ use Rattle.machine.specs.declared.message.Sort.the-variants.{Least, Total}
 use Rattle.machine.proofs.Folding.{cond-both}
 use Rattle.places.specs.Places.{placeAt}
 use Rattle.places.proofs.Placed.{placeAt-missing, placeAt-value}
-use Rattle.step.specs.Work.{Put}
-use Rattle.step.proofs.Working.{put-kept}
+use Rattle.work.specs.Work.{Put}
+use Rattle.work.proofs.Working.{put-kept}
 
 module _ (values : List ℤ) (marks : List ℕ) (j : ℕ) (a : ℤ) where
   -- a missing cell
