@@ -5,13 +5,10 @@ ghost use lib.ListN.{length};
 ghost use Rattle.io.specs.Counts.{Counts};
 ghost use Rattle.register.specs.Load.{load as loadOf};
 ghost use Rattle.register.specs.Outcome.{done};
-ghost use Rattle.plotprint.specs.Room.{pageRoom};
-
-mod listing;
-mod page;
-mod run;
-
+ghost use Rattle.listing.specs.Room.{pageRoom};
 use libc::STDOUT_FILENO;
+use listing;
+use print_run;
 use register::LoadAnswer;
 use register::Sizes;
 
@@ -36,9 +33,9 @@ fn loaded_answer(file: &[u8], text: &[u8], sizes: Sizes, page: &mut [u8]) -> usi
     let mut space = [0u8; 512];
     let length = file.len();
     let out = &mut space[..length];
-    let ran = run::run(file, text, out);
+    let ran = print_run::run(file, text, out);
     if ran.refusal != 0 {
-        let place = run::behind_at(ran.refusal, ran.line, ran.finished);
+        let place = print_run::behind_at(ran.refusal, ran.line, ran.finished);
         return listing::put_refused(page, ran.refusal, place);
     }
     listing::put_listing(page, out, sizes, ran)

@@ -1,2 +1,0 @@
--- Laws on values that several proofs cite.
-pub mod Signs
