@@ -9,7 +9,7 @@ use lib.Dec.{eqb}
 use lib.ListN.{length, getD, drop, drop-of-length-le, length-drop}
 use lib.Seq.{drop-cons, drop-drop}
 use Rattle.register.specs.declared.Sizes.{Sizes}
-use Rattle.chain.specs.Text.{isCapital, fieldOf, names, isReferenceLetter}
+use Rattle.chain_text.specs.Text.{isCapital, fieldOf, names, isReferenceLetter}
 use Rattle.syntax.specs.Written as W
 use Rattle.syntax.specs.Token.{Token, token, other, capital, then, word, or, finished, begins}
 use Rattle.syntax.specs.Bytes.{bytes}

@@ -7,7 +7,7 @@ use mathlib.Core.Option.{Option, none, some}
 use lib.ListN.{take}
 use Rattle.register.specs.declared.Sizes.{Sizes}
 use Rattle.chain.specs.Word.{pack}
-use Rattle.chain.specs.Text.{names, fieldOf, wordOf, isReferenceLetter}
+use Rattle.chain_text.specs.Text.{names, fieldOf, wordOf, isReferenceLetter}
 use Rattle.syntax.specs.Written as W
 use Rattle.syntax.specs.Token.{Token, token, other, then, word, or, finished}
 use Rattle.syntax.specs.Term.{termForm}

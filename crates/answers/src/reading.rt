@@ -1,19 +1,19 @@
 // A reading's answer as numbers.
 ghost use mathlib.Core.Path.{_≡_};
-ghost use Rattle.chain.specs.Reading.{readingOutcome, refusalNumber as chainNumber};
+ghost use Rattle.read_chain.specs.Reading.{readingOutcome, refusalNumber as chainNumber};
 ghost use Rattle.register.specs.Outcome.{done, refused as refusedWith};
 ghost use Rattle.answers.specs.Numbers.{readNumbers};
-use chain::reading::ReadingAnswer;
+use read_chain::ReadingAnswer;
 use register::cells::Cell;
 
-fn chain_number(refusal: chain::reading::Refusal) -> u32
+fn chain_number(refusal: read_chain::Refusal) -> u32
     ensures { λ r. ⌜ r ≡ chainNumber refusal ⌝ }
 {
     match refusal {
-        chain::reading::Refusal::Form => 7,
-        chain::reading::Refusal::Field => 9,
-        chain::reading::Refusal::Kind => 10,
-        chain::reading::Refusal::Hops => 11,
+        read_chain::Refusal::Form => 7,
+        read_chain::Refusal::Field => 9,
+        read_chain::Refusal::Kind => 10,
+        read_chain::Refusal::Hops => 11,
     }
 }
 

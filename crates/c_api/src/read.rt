@@ -1,5 +1,5 @@
 // A single reading.
-ghost use Rattle.chain.specs.Reading.{reading};
+ghost use Rattle.read_chain.specs.Reading.{reading};
 ghost use Rattle.answers.specs.Numbers.{readNumbers};
 ghost use Rattle.c_api.specs.Answer.{ReadAnswer};
 use answers::reading;
@@ -15,7 +15,7 @@ pub extern "C" fn plot_read(
 ) -> u32
     ensures { λ r. ⌜ ReadAnswer (readNumbers (reading (now (file .entry)) (now (text .entry)) u)) r (now (value .exit)) (now (answer .exit)) ⌝ }
 {
-    let numbers = reading::numbers(chain::reading::reading(file, text, u));
+    let numbers = reading::numbers(read_chain::reading(file, text, u));
     let found = numbers.value;
     *value = found;
     *answer = [numbers.line, 0, 0, 0, 0, 0, numbers.filled, 0];

@@ -22,7 +22,7 @@ use Rattle.register.proofs.Bounds.{cellIndex-below}
 use Rattle.register.proofs.Arrays.{cellsOf-at}
 use Rattle.chain.specs.Word.{isReference, hasField, readable, column, cell, hop, follow, unpack}
 use Rattle.chain.proofs.Packing.{unpack-none, unpack-last, unpack-more, tail-some}
-use Rattle.chain.proofs.Passing.{or-cases}
+use Rattle.chain.proofs.Fields.{or-cases}
 
 -- the column of a field of the register
 pub column-below : (s : Sizes) → Limits s → (f : ℕ) → hasField s f ≡ true → column s f < width s

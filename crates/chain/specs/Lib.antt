@@ -1,6 +1,3 @@
 -- Chains of document 01: hop words, their text, following them, and a single reading.
 pub mod Word
-pub mod Text
-pub mod Scan
 pub mod Way
-pub mod Reading

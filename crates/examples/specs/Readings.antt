@@ -11,8 +11,8 @@ use Rattle.register.specs.File.{width, cellCount, cellIndex, sizesOf, valuesPar
 use Rattle.register.specs.Load.{withinLimits, cellRefusal, refusalAt, recordRefusal, cellsRefusal, loadSized, load}
 use Rattle.register.specs.declared.cells.Cell.the-variants.{Missing, Value}
 use Rattle.chain.specs.Word.{isReference, column, cell, hop, follow, valueAtRecord}
-use Rattle.chain.specs.Text.{isCapital, closed, form, fieldOf, isReferenceLetter, names, every, innerReferences, lettersRefusal, wordOf}
-use Rattle.chain.specs.Reading.{wordOfForm, atRecord, readingLoaded, reading}
+use Rattle.chain_text.specs.Text.{isCapital, closed, form, fieldOf, isReferenceLetter, names, every, innerReferences, lettersRefusal, wordOf}
+use Rattle.read_chain.specs.Reading.{wordOfForm, atRecord, readingLoaded, reading}
 use Rattle.examples.specs.Printed.{printedSizes, printedCells, printedFile}
 
 -- the bytes of `M[u]`

@@ -11,8 +11,8 @@ use lib.ListN.{length, drop, length-append, length-drop}
 use lib.Seq.{drop-drop}
 use Rattle.integers.proofs.Bools.{and-true, and-false}
 use Rattle.register.specs.declared.Sizes.{Sizes}
-use Rattle.chain.specs.Text as C
-use Rattle.chain.specs.Text.{names, fieldOf}
+use Rattle.chain_text.specs.Text as C
+use Rattle.chain_text.specs.Text.{names, fieldOf}
 use Rattle.syntax.specs.Bytes.{bytes}
 use Rattle.syntax.specs.Written as W
 use Rattle.syntax.specs.Token.{other, capital, then, word, or, finished, begins}

@@ -7,7 +7,7 @@ use mathlib.Core.Option.{Option, none, some}
 use lib.Dec.{eqb}
 use lib.ListN.{length}
 use Rattle.register.specs.declared.Sizes.{Sizes}
-use Rattle.chain.specs.Text.{names, fieldOf}
+use Rattle.chain_text.specs.Text.{names, fieldOf}
 use Rattle.syntax.specs.Bytes.{bytes}
 use Rattle.syntax.specs.Written as W
 use Rattle.syntax.specs.Token.{capital, then, word, or, finished, begins}

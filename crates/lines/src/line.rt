@@ -12,7 +12,7 @@ use actions::action::Letter;
 use actions::rule::Comparison;
 use actions::rule::Slot;
 use actions::rule::Test;
-use chain::letters;
+use chain_text::letters;
 use register::Sizes;
 use remotes::remote;
 use terms::term;

@@ -9,7 +9,7 @@ use lib.ListN.{length, take, drop}
 use Rattle.integers.proofs.Bools.{and-both}
 use Rattle.register.specs.declared.Sizes.{Sizes}
 use Rattle.chain.specs.Word.{hasField, readable}
-use Rattle.chain.specs.Text.{every}
+use Rattle.chain_text.specs.Text.{every}
 use Rattle.plan.specs.Plan.{Fact, back, read, word, hops, half, front, rest, back-need, read-need}
 use Rattle.plan.specs.Half.{half-below}
 use Rattle.plan.specs.Promise.{Needed, itself, by-back, by-read, Wanted}

@@ -15,7 +15,7 @@ use Rattle.register.specs.declared.Sizes.{Sizes}
 use Rattle.register.specs.declared.cells.Cell.{Cell}
 use Rattle.register.specs.declared.cells.Cell.the-variants.{Missing, Value}
 use Rattle.chain.specs.Word.{hop, follow, valueAtRecord}
-use Rattle.chain.specs.Text.{every}
+use Rattle.chain_text.specs.Text.{every}
 use Rattle.chain.proofs.Following.{follow-missing}
 use Rattle.plan.specs.Plan.{Fact, back, read, word, hops, front, rest, line-from, back-need, read-need, round, line}
 use Rattle.plan.specs.Half.{half-pos}

@@ -13,7 +13,7 @@ use Rattle.register.specs.Shape.{Valid, refersWithin}
 use Rattle.register.specs.declared.Sizes.{Sizes}
 use Rattle.register.specs.declared.cells.Cell.{Cell}
 use Rattle.register.specs.declared.cells.Cell.the-variants.{Missing, Value}
-use Rattle.chain.specs.Text.{every}
+use Rattle.chain_text.specs.Text.{every}
 use Rattle.chain.specs.Word.{hop}
 use Rattle.plan.specs.Plan.{Fact, read, word, hops, front, rest, back-need, round}
 use Rattle.plan.specs.Cases.{lt-or-le}

@@ -7,7 +7,7 @@ use lib.Dec.{ltb}
 use lib.IntN.{ℤ}
 use lib.ListN.{length}
 use Rattle.register.specs.declared.Sizes.{Sizes}
-use Rattle.chain.specs.Text.{every}
+use Rattle.chain_text.specs.Text.{every}
 use Rattle.chain.specs.Word.{readable}
 use Rattle.plan.specs.Plan.{Fact, back, read, hops, line}
 use Rattle.plan.specs.Held.{facts, Keyed, Holds}

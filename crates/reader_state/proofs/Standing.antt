@@ -14,7 +14,7 @@ use Rattle.register.specs.Shape.{Limits}
 use Rattle.register.specs.declared.Sizes.{Sizes}
 use Rattle.integers.proofs.Bools.{and-both}
 use Rattle.chain.specs.Word.{hasField}
-use Rattle.chain.specs.Text.{names, fieldOf}
+use Rattle.chain_text.specs.Text.{names, fieldOf}
 use Rattle.syntax.specs.Written as W
 use Rattle.syntax.specs.Written.{Line, step, end, done, loop, rule}
 use Rattle.syntax.specs.Parts.{named, fieldNamed, target}

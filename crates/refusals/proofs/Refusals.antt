@@ -11,7 +11,7 @@ use lib.Dec.{leb, ltb}
 use lib.ListN.{length}
 use Rattle.register.specs.Outcome.{orElse}
 use Rattle.register.specs.declared.Sizes.{Sizes}
-use Rattle.chain.specs.Text.{fieldOf}
+use Rattle.chain_text.specs.Text.{fieldOf}
 use Rattle.syntax.specs.Written as W
 use Rattle.syntax.specs.Written.{Line, step, end, done, loop, rule}
 use Rattle.syntax.specs.Parts.{named, kinded, short, numbersInRange, fieldNamed, terms, everyTerm, kindsAgree}

@@ -9,12 +9,12 @@ use lib.ListN.{length, getD, drop, length-drop}
 use lib.Seq.{drop-drop}
 use Rattle.integers.proofs.Bools.{and-both}
 use Rattle.register.specs.declared.Sizes.{Sizes}
-use Rattle.chain.specs.Text.{isCapital, fieldOf, isReferenceLetter, Form, formed, unformed, form, closed, every}
-use Rattle.chain.specs.Scan.{startsWith, opens, summary, chainEnd, scanned}
-use Rattle.chain.specs.declared.letters.Letters.{Letters}
-use Rattle.chain.specs.declared.text.Scanned.the-variants.{Chain, NoForm as NoChain}
-use Rattle.chain.proofs.Forms.{spelled, form-u, form-opens, form-none, form-rest, form-length, closed-yes, closed-no}
-use Rattle.chain.proofs.Scanning.{first-at}
+use Rattle.chain_text.specs.Text.{isCapital, fieldOf, isReferenceLetter, Form, formed, unformed, form, closed, every}
+use Rattle.chain_text.specs.Scan.{startsWith, opens, summary, chainEnd, scanned}
+use Rattle.chain_text.specs.declared.letters.Letters.{Letters}
+use Rattle.chain_text.specs.declared.text.Scanned.the-variants.{Chain, NoForm as NoChain}
+use Rattle.chain_text.proofs.Forms.{spelled, form-u, form-opens, form-none, form-rest, form-length, closed-yes, closed-no}
+use Rattle.chain_text.proofs.Scanning.{first-at}
 use Rattle.syntax.specs.Bytes.{bytes}
 use Rattle.syntax.specs.Written as W
 use Rattle.syntax.specs.Token.{capital, then, or, begins}

@@ -5,9 +5,9 @@ use mathlib.Core.Bool.{Bool, _&&_}
 use mathlib.Core.List.{List, [], _∷_}
 use mathlib.Core.Option.{Option}
 use Rattle.register.specs.declared.Sizes.{Sizes}
-use Rattle.chain.specs.Text.{names, Form, formed, unformed}
-use Rattle.chain.specs.Scan.{chainEnd}
-use Rattle.chain.specs.declared.letters.Letters.{Letters}
+use Rattle.chain_text.specs.Text.{names, Form, formed, unformed}
+use Rattle.chain_text.specs.Scan.{chainEnd}
+use Rattle.chain_text.specs.declared.letters.Letters.{Letters}
 use Rattle.syntax.specs.Written as W
 use Rattle.syntax.specs.Line.{made}
 use Rattle.syntax.specs.Bytes.{bytes}

@@ -11,8 +11,8 @@ use Rattle.register.specs.Shape.{Limits}
 use Rattle.register.specs.declared.Sizes.{Sizes}
 use Rattle.integers.proofs.Bools.{and-both}
 use Rattle.chain.specs.Word.{isReference, hasField, Passes}
-use Rattle.chain.specs.Text.{every, names, fieldOf, isReferenceLetter, wordOf}
-use Rattle.chain.proofs.Passing.{letters-pass, refused-none, reference-field, measure-field, named-field}
+use Rattle.chain_text.specs.Text.{every, names, fieldOf, isReferenceLetter, wordOf}
+use Rattle.chain_text.proofs.Passing.{letters-pass, refused-none, reference-field, measure-field, named-field}
 use Rattle.syntax.specs.Written as W
 use Rattle.syntax.specs.Written.{chain, number, Line, rule}
 use Rattle.syntax.specs.Parts as K

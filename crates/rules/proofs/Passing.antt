@@ -13,7 +13,7 @@ use Rattle.register.specs.Outcome.{Outcome, refused, unless, after}
 use Rattle.register.specs.Outcome as O
 use Rattle.register.specs.declared.Sizes.{Sizes}
 use Rattle.integers.proofs.Bools.{and-both, true-false}
-use Rattle.chain.specs.Text.{names}
+use Rattle.chain_text.specs.Text.{names}
 use Rattle.register.specs.Load.{load}
 use Rattle.register.proofs.Roundtrip.{loads}
 use Rattle.register.proofs.Bounds.{limits}

@@ -8,7 +8,7 @@ use lib.Dec.{eqb}
 use lib.ListN.{length}
 use Rattle.register.specs.Outcome.{refused}
 use Rattle.register.specs.declared.Sizes.{Sizes}
-use Rattle.chain.specs.Text.{every}
+use Rattle.chain_text.specs.Text.{every}
 use Rattle.integers.proofs.Bools.{and-both}
 use Rattle.rules.specs.Text.{isWithin, ended, cut, onto, lines, textProgram}
 

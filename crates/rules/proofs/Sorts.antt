@@ -6,7 +6,7 @@ use mathlib.Core.List.{List, [], _∷_, _++_}
 use borrow.Author.Tests.{not-true, eqb-true, ne-eqb}
 use lib.Dec.{eqb}
 use Rattle.integers.proofs.Bools.{true-false}
-use Rattle.chain.specs.Text.{fieldOf}
+use Rattle.chain_text.specs.Text.{fieldOf}
 use Rattle.syntax.specs.Written as W
 use Rattle.rules.specs.Program.{Test, Action, Rule}
 use Rattle.rules.specs.Check.{isLeast, isTotal, someAction, oneSort}

@@ -7,7 +7,7 @@ use mathlib.Core.Option.{Option, some}
 use native.Mathlib.Omega.{arith}
 use borrow.Author.Tests.{leb-true, ne-eqb}
 use lib.Dec.{leb}
-use Rattle.chain.specs.Text.{isCapital, every, printed}
+use Rattle.chain_text.specs.Text.{isCapital, every, printed}
 use Rattle.integers.proofs.Bools.{and-both, and-true}
 use Rattle.syntax.specs.Bytes.{bytes}
 use Rattle.syntax.specs.Numeral.{isDigit, printedNumber}

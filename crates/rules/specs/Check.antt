@@ -7,7 +7,7 @@ use mathlib.Core.Option.{Option, none, some}
 use lib.Dec.{leb, ltb, eqb}
 use lib.ListN.{length}
 use Rattle.register.specs.declared.Sizes.{Sizes}
-use Rattle.chain.specs.Text.{fieldOf}
+use Rattle.chain_text.specs.Text.{fieldOf}
 use Rattle.syntax.specs.Written.{Action, set, sum, difference, least, total, Line, step, end, done, loop, rule}
 use Rattle.syntax.specs.Parts.{named, kinded, short, numbersInRange}
 use Rattle.rules.specs.declared.around.Around.{Around}

@@ -8,8 +8,8 @@ use Rattle.register.specs.Shape.{Limits}
 use Rattle.register.specs.declared.Sizes.{Sizes}
 use Rattle.integers.specs.Range.{sumOf}
 use Rattle.chain.specs.Word.{pack, unpack}
-use Rattle.chain.specs.Text.{fieldOf, wordOf}
-use Rattle.chain.proofs.Passing.{letters-unpacked}
+use Rattle.chain_text.specs.Text.{fieldOf, wordOf}
+use Rattle.chain_text.proofs.Passing.{letters-unpacked}
 use Rattle.syntax.specs.Written as W
 use Rattle.syntax.specs.Parts.{conditionTerms, actionTerms, termNamed, termKinded, termShort, termInRange}
 use Rattle.terms.specs.Read as R

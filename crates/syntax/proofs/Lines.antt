@@ -6,9 +6,9 @@ use mathlib.Core.Bool.{true}
 use mathlib.Core.List.{List, [], _∷_, _++_, append-nil}
 use mathlib.Core.Option.{Option, none, some}
 use native.Mathlib.Omega.{arith}
-use Rattle.chain.specs.Text as C
-use Rattle.chain.specs.Text.{isCapital, every, printed}
-use Rattle.chain.proofs.Forms.{spelled, printed-form}
+use Rattle.chain_text.specs.Text as C
+use Rattle.chain_text.specs.Text.{isCapital, every, printed}
+use Rattle.chain_text.proofs.Forms.{spelled, printed-form}
 use Rattle.syntax.specs.Numeral.{digits, isDigit}
 use Rattle.syntax.specs.Bytes.{bytes}
 use Rattle.syntax.specs.Written.{Term, Comparison, less, equal, unequal, Condition, always, when, Action, set, sum, difference, least, total, Line, step, end, done, loop, rule}

@@ -8,8 +8,8 @@ use native.Mathlib.Decide.{decLt}
 use lib.ListN.{length, getD, drop, length-append, drop-of-length-le}
 use lib.Seq.{drop-cons, drop-drop}
 use Rattle.integers.proofs.Bools.{and-both, and-true, true-false}
-use Rattle.chain.specs.Text.{every}
-use Rattle.chain.proofs.Scanning.{first-at}
+use Rattle.chain_text.specs.Text.{every}
+use Rattle.chain_text.proofs.Scanning.{first-at}
 use Rattle.syntax.specs.Span.{starts, span}
 
 module _ (p : ℕ → Bool) where

@@ -8,10 +8,10 @@ use borrow.Author.Tests.{eqb-true, ne-eqb, lt-leb}
 use lib.Dec.{eqb}
 use lib.ListN.{length, drop}
 use lib.Seq.{drop-append-seam}
-use Rattle.chain.specs.Text as C
-use Rattle.chain.specs.Text.{isCapital, every}
-use Rattle.chain.specs.Scan.{startsWith, opens}
-use Rattle.chain.proofs.Forms.{spelled, printed-form, form-none}
+use Rattle.chain_text.specs.Text as C
+use Rattle.chain_text.specs.Text.{isCapital, every}
+use Rattle.chain_text.specs.Scan.{startsWith, opens}
+use Rattle.chain_text.proofs.Forms.{spelled, printed-form, form-none}
 use Rattle.integers.proofs.Bools.{and-both, true-false}
 use Rattle.syntax.specs.Numeral as N
 use Rattle.syntax.specs.Numeral.{isDigit, digits, isNumeral, signedForm, numberForm, printedNumber}

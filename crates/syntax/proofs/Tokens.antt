@@ -8,7 +8,7 @@ use native.Mathlib.Omega.{arith}
 use borrow.Author.Tests.{eqb-true, ne-eqb, leb-true}
 use lib.Dec.{eqb, leb}
 use lib.ListN.{length, drop}
-use Rattle.chain.specs.Text.{isCapital}
+use Rattle.chain_text.specs.Text.{isCapital}
 use Rattle.integers.proofs.Bools.{and-both}
 use Rattle.syntax.specs.Token.{begins, Token, token, other, capital, then, word, or, finished}
 

@@ -4,8 +4,8 @@ use mathlib.Core.Path.{_≡_}
 use mathlib.Core.Bool.{true}
 use mathlib.Core.List.{List, [], _∷_, _++_}
 use mathlib.Core.Option.{Option, none, some}
-use Rattle.chain.specs.Text as C
-use Rattle.chain.specs.Text.{isCapital, every, printed}
+use Rattle.chain_text.specs.Text as C
+use Rattle.chain_text.specs.Text.{isCapital, every, printed}
 use Rattle.syntax.specs.Bytes.{bytes}
 use Rattle.syntax.specs.Written.{Term, Comparison, less, equal, unequal, Condition, always, when, Action, set, sum, difference, least, total, Line, step, end, done, loop, rule}
 use Rattle.syntax.specs.Token.{capital, then, word, or, finished}

@@ -5,7 +5,7 @@ use mathlib.Core.List.{List, [], _∷_}
 use lib.Dec.{leb, eqb}
 use lib.IntN.{ℤ, pos, negℤ}
 use lib.ListN.{length, drop}
-use Rattle.chain.specs.Scan.{startsWith}
+use Rattle.chain_text.specs.Scan.{startsWith}
 use Rattle.syntax.specs.Span.{starts, span}
 
 -- whether a byte is one of `0` to `9`

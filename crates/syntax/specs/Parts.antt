@@ -6,7 +6,7 @@ use lib.Dec.{leb}
 use lib.ListN.{length}
 use Rattle.integers.specs.Range.{inRange}
 use Rattle.register.specs.declared.Sizes.{Sizes}
-use Rattle.chain.specs.Text.{every, names, isReferenceLetter, innerReferences}
+use Rattle.chain_text.specs.Text.{every, names, isReferenceLetter, innerReferences}
 use Rattle.syntax.specs.Numeral.{numberValue}
 use Rattle.syntax.specs.Written.{Term, chain, number, Condition, always, when, Action, set, sum, difference, least, total, Line, step, end, done, loop, rule}
 

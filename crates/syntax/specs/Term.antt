@@ -3,8 +3,8 @@ use Prim.Native.Nat.{ℕ}
 use mathlib.Core.Path.{_≡_}
 use mathlib.Core.Bool.{true}
 use mathlib.Core.List.{List}
-use Rattle.chain.specs.Text as C
-use Rattle.chain.specs.Text.{isCapital, every}
+use Rattle.chain_text.specs.Text as C
+use Rattle.chain_text.specs.Text.{isCapital, every}
 use Rattle.syntax.specs.Numeral as N
 use Rattle.syntax.specs.Numeral.{isDigit, isNumeral, numberForm, printedNumber}
 use Rattle.syntax.specs.Token.{Token, token, other}

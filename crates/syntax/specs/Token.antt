@@ -4,7 +4,7 @@ use mathlib.Core.Bool.{Bool, true, false, cond, _&&_}
 use mathlib.Core.List.{List, [], _∷_}
 use mathlib.Core.Option.{Option, none, some}
 use lib.Dec.{eqb}
-use Rattle.chain.specs.Text.{isCapital}
+use Rattle.chain_text.specs.Text.{isCapital}
 
 -- A text that begins with a token: the token and what stands behind it; or the text begins otherwise.
 pub data Token (A : Type 0) : Type 0 where

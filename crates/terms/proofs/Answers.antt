@@ -11,12 +11,12 @@ use lib.Seq.{drop-at, drop-drop}
 use Rattle.register.specs.declared.Sizes.{Sizes}
 use Rattle.integers.specs.Range.{inRange, sumOf}
 use Rattle.integers.proofs.Bools.{and-both}
-use Rattle.chain.specs.Text.{isCapital, Form, formed, unformed, form, printed, every, isReferenceLetter}
-use Rattle.chain.specs.Scan.{summary, chainEnd, scanned}
-use Rattle.chain.specs.declared.letters.Letters.{Letters}
-use Rattle.chain.specs.declared.text.Scanned.{Scanned}
-use Rattle.chain.specs.declared.text.Scanned.the-variants.{Chain, NoForm}
-use Rattle.chain.proofs.Forms.{spelled, printed-length, form-length}
+use Rattle.chain_text.specs.Text.{isCapital, Form, formed, unformed, form, printed, every, isReferenceLetter}
+use Rattle.chain_text.specs.Scan.{summary, chainEnd, scanned}
+use Rattle.chain_text.specs.declared.letters.Letters.{Letters}
+use Rattle.chain_text.specs.declared.text.Scanned.{Scanned}
+use Rattle.chain_text.specs.declared.text.Scanned.the-variants.{Chain, NoForm}
+use Rattle.chain_text.proofs.Forms.{spelled, printed-length, form-length}
 use Rattle.syntax.specs.Numeral as N
 use Rattle.syntax.specs.Numeral.{numberForm, printedNumber, numberValue}
 use Rattle.syntax.specs.Written as W

@@ -15,8 +15,8 @@ use mir.Val.{SFits, toZ}
 use mir.Facts.{toZ-pos}
 use Rattle.integers.specs.Range.{inRange, sumOf}
 use Rattle.integers.specs.declared.Sum.the-variants.{OutOfRange}
-use Rattle.chain.specs.Scan.{startsWith}
-use Rattle.chain.proofs.Scanning.{first-at}
+use Rattle.chain_text.specs.Scan.{startsWith}
+use Rattle.chain_text.proofs.Scanning.{first-at}
 use Rattle.syntax.specs.Numeral.{isDigit, digits, decimal, isNumeral, number, unformed, signedForm, numberForm, printedNumber, signedValue, numberValue, capped, cappedValue}
 use Rattle.terms.specs.Read.{digitsRead, numberRead}
 use Rattle.terms.specs.declared.numeral.NumberRead.the-variants.{Number, NoForm}

@@ -10,7 +10,7 @@ use lib.Dec.{eqb}
 use lib.ListN.{length, getD, drop, length-append, length-drop}
 use lib.Seq.{drop-cons, drop-drop, drop-length}
 use Rattle.integers.proofs.Bools.{and-both, and-true, and-false, true-false}
-use Rattle.chain.specs.Scan.{startsWith}
+use Rattle.chain_text.specs.Scan.{startsWith}
 use Rattle.terms.specs.Read.{literalRead}
 use Rattle.syntax.specs.Token.{begins}
 use Rattle.terms.specs.declared.token.Place.{Place}

@@ -11,8 +11,8 @@ use Rattle.integers.specs.Range.{sumOf}
 use Rattle.integers.specs.declared.Sum.{Sum}
 use Rattle.integers.specs.declared.Sum.the-variants.{InRange, OutOfRange}
 use Rattle.chain.specs.Word.{pack}
-use Rattle.chain.specs.Text.{wordOf}
-use Rattle.chain.specs.declared.letters.Letters.{Letters}
+use Rattle.chain_text.specs.Text.{wordOf}
+use Rattle.chain_text.specs.declared.letters.Letters.{Letters}
 use Rattle.syntax.specs.Numeral.{digits, decimal, capped, NumberForm, number, unformed, printedNumber, numberValue, cappedValue}
 use Rattle.syntax.specs.Written as W
 use Rattle.syntax.specs.Token.{Token, token, other, begins}

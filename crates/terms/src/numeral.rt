@@ -5,7 +5,7 @@ ghost use Prim.Native.Nat.{_+_, _-_, _*_, _≤_};
 ghost use lib.ListN.{length, drop};
 ghost use Rattle.syntax.specs.Numeral.{isDigit, startsDigit, capped, signedValue, numberForm, signedForm};
 ghost use Rattle.terms.specs.Read.{ReadsDigits, digitsRead, numberRead};
-use chain::text;
+use chain_text::text;
 
 fn is_digit(b: u8) -> bool
     ensures { λ r. ⌜ r ≡ isDigit b ⌝ }

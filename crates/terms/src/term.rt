@@ -8,9 +8,9 @@ ghost use Rattle.syntax.specs.Term.{termForm};
 ghost use Rattle.terms.specs.Read.{chainParts, plainParts, numberParts, numberTerm, termRead};
 use crate::numeral;
 use crate::numeral::NumberRead;
-use chain::letters::Letters;
-use chain::text;
-use chain::text::Scanned;
+use chain_text::letters::Letters;
+use chain_text::text;
+use chain_text::text::Scanned;
 use integers::Sum;
 use register::Sizes;
 

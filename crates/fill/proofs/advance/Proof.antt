@@ -12,7 +12,7 @@ use denote.Ref.{now}
 use Rattle.register.specs.Cells.{cellsOf}
 use Rattle.register.specs.Shape.{refersWithin}
 use Rattle.chain.proofs.Following.{column-below}
-use Rattle.chain.proofs.Passing.{field-below}
+use Rattle.chain.proofs.Fields.{field-below}
 use Rattle.places.specs.Places.{placeAt, Kept}
 use Rattle.places.proofs.Placed.{placeAt-kept}
 use Rattle.places.proofs.Storing.{stored-none, stored-more}

@@ -6,7 +6,7 @@ use native.Mathlib.Omega.{arith}
 use Rattle.register.specs.File.{cellIndex}
 use Rattle.register.proofs.Bounds.{cellIndex-below, cellCount≤}
 use Rattle.chain.specs.Word.{column}
-use Rattle.chain.proofs.Passing.{field-below}
+use Rattle.chain.proofs.Fields.{field-below}
 use Rattle.chain.proofs.Following.{column-below}
 use Rattle.work.proofs.place.Statement.{statement}
 use Rattle.work.proofs.place.Tie as tie

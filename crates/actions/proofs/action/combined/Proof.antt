@@ -4,7 +4,7 @@ use mathlib.Core.Path.{_≡_, sym, ap, _∙_}
 use mathlib.Core.Bool.{Bool}
 use mathlib.Core.Logic.{⊎-elim}
 use borrow.Author.Needs.{needs}
-use Rattle.chain.proofs.Steps.{capital-low}
+use Rattle.chain_text.proofs.Steps.{capital-low}
 use Rattle.syntax.specs.Written as W
 use Rattle.terms.specs.Read.{partsOf}
 use Rattle.actions.specs.ActionRead.{combined, ruleOfAction}

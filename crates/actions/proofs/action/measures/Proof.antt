@@ -1,7 +1,7 @@
 -- `actions::action::measures` meets its contract.
 -- Assumes nothing.
 use mathlib.Core.Path.{refl}
-use Rattle.chain.specs.Text.{isReferenceLetter}
+use Rattle.chain_text.specs.Text.{isReferenceLetter}
 use Rattle.actions.specs.ActionRead.{measured}
 use Rattle.actions.proofs.action.measures.Statement.{statement}
 use Rattle.actions.proofs.action.measures.Tie as tie

@@ -3,8 +3,8 @@
 use mathlib.Core.Path.{sym, ap, _∙_}
 use borrow.Author.Needs.{needs}
 use denote.Ref.{now}
-use Rattle.chain.specs.Text.{isReferenceLetter}
-use Rattle.chain.proofs.Steps.{capital-low}
+use Rattle.chain_text.specs.Text.{isReferenceLetter}
+use Rattle.chain_text.proofs.Steps.{capital-low}
 use Rattle.actions.specs.ActionRead.{actionRead}
 use Rattle.actions.proofs.Actions.{set-read, assigned-more, assigned-end}
 use Rattle.actions.proofs.action.read_assigned.Statement.{statement}

@@ -2,7 +2,7 @@
 -- Assumes nothing.
 use mathlib.Core.Path.{sym, ap}
 use borrow.Author.Needs.{needs}
-use Rattle.chain.specs.Reading.{refusalNumber}
+use Rattle.read_chain.specs.Reading.{refusalNumber}
 use Rattle.answers.proofs.reading.chain_number.Statement.{statement}
 use Rattle.answers.proofs.reading.chain_number.Tie as tie
 

@@ -4,8 +4,8 @@ use Prim.Native.Nat.{ℕ}
 use mathlib.Core.Path.{sym, ap, _∙_}
 use borrow.Author.Needs.{needs}
 use Rattle.register.specs.Outcome.{refused}
-use Rattle.chain.specs.Reading.{readingOutcome}
-use Rattle.chain.specs.declared.reading.ReadingAnswer.{ReadingAnswer}
+use Rattle.read_chain.specs.Reading.{readingOutcome}
+use Rattle.read_chain.specs.declared.ReadingAnswer.{ReadingAnswer}
 use Rattle.answers.specs.Numbers.{readNumbers}
 use Rattle.answers.proofs.reading.numbers.Statement.{statement}
 use Rattle.answers.proofs.reading.numbers.Tie as tie

@@ -5,7 +5,7 @@ use native.Mathlib.Omega.{arith}
 use denote.Ref.{now}
 use Rattle.register.specs.File.{cellIndex}
 use Rattle.register.proofs.Bounds.{cellIndex-below}
-use Rattle.chain.proofs.Passing.{field-below}
+use Rattle.chain.proofs.Fields.{field-below}
 use Rattle.chain.proofs.Following.{column-below, cell-read}
 use Rattle.chain.proofs.follow.cell_of.Statement.{statement}
 use Rattle.chain.proofs.follow.cell_of.Tie as tie

@@ -3,7 +3,7 @@
 use mathlib.Core.Path.{sym, ap₂, _∙_}
 use borrow.Author.Needs.{needs}
 use denote.Ref.{now}
-use Rattle.chain.proofs.Steps.{capital-low}
+use Rattle.chain_text.proofs.Steps.{capital-low}
 use Rattle.lines.specs.declared.line.LineRead.the-variants.{Loop}
 use Rattle.actions.proofs.Actions.{letter-taken, letter-refused, Lettered}
 use Rattle.lines.proofs.Reading.{loop-no-letter, loop-goes-on, loop-field}

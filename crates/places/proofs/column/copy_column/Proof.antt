@@ -9,7 +9,7 @@ use Rattle.register.specs.Cells.{cellsOf}
 use Rattle.register.specs.File.{width, cellIndex}
 use Rattle.chain.specs.Word.{column, cell}
 use Rattle.chain.proofs.Following.{column-below}
-use Rattle.chain.proofs.Passing.{field-below}
+use Rattle.chain.proofs.Fields.{field-below}
 use Rattle.places.specs.Places.{StoredFrom}
 use Rattle.places.proofs.Storing.{stored-none, stored-more, copied-room, copied-one}
 use Rattle.places.proofs.column.copy_column.Statement.{statement}

@@ -8,10 +8,10 @@ use borrow.Author.Tests.{not-true, not-false}
 use borrow.Author.Needs.{needs}
 use lib.ListN.{drop, length-drop}
 use denote.Ref.{now}
-use Rattle.chain.specs.Text.{form}
-use Rattle.chain.specs.Scan.{startsWith, scanned}
-use Rattle.chain.specs.declared.text.Scanned.the-variants.{Chain}
-use Rattle.chain.proofs.Scanning.{first-at, starts-inside}
+use Rattle.chain_text.specs.Text.{form}
+use Rattle.chain_text.specs.Scan.{startsWith, scanned}
+use Rattle.chain_text.specs.declared.text.Scanned.the-variants.{Chain}
+use Rattle.chain_text.proofs.Scanning.{first-at, starts-inside}
 use Rattle.remotes.specs.RemoteRead.{targetFrom}
 use Rattle.remotes.specs.declared.remote.Target.{Target}
 use Rattle.remotes.specs.declared.remote.TargetRead.the-variants.{At}

@@ -2,8 +2,8 @@
 -- Assumes nothing.
 use mathlib.Core.Path.{sym, ap, _∙_}
 use borrow.Author.Needs.{needs}
-use Rattle.chain.specs.Text.{isReferenceLetter}
-use Rattle.chain.proofs.Steps.{capital-low}
+use Rattle.chain_text.specs.Text.{isReferenceLetter}
+use Rattle.chain_text.proofs.Steps.{capital-low}
 use Rattle.actions.specs.ActionRead.{actionRead}
 use Rattle.actions.proofs.Actions.{last-taken}
 use Rattle.remotes.proofs.Remotes.{sent-none, sent-some, least-read}

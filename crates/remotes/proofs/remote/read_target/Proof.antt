@@ -8,8 +8,8 @@ use borrow.Author.Tests.{not-true, not-false}
 use borrow.Author.Needs.{needs}
 use lib.ListN.{length, drop}
 use denote.Ref.{now}
-use Rattle.chain.specs.Scan.{opens}
-use Rattle.chain.proofs.Scanning.{opens-inside}
+use Rattle.chain_text.specs.Scan.{opens}
+use Rattle.chain_text.proofs.Scanning.{opens-inside}
 use Rattle.remotes.proofs.Remotes.{target-none, target-opens}
 use Rattle.remotes.proofs.remote.read_target.Statement.{statement}
 use Rattle.remotes.proofs.remote.read_target.Tie as tie

@@ -2,7 +2,7 @@
 -- Assumes nothing.
 use mathlib.Core.Path.{sym, ap, _∙_}
 use borrow.Author.Needs.{needs}
-use Rattle.chain.proofs.Steps.{capital-low}
+use Rattle.chain_text.proofs.Steps.{capital-low}
 use Rattle.actions.specs.ActionRead.{actionRead}
 use Rattle.actions.proofs.Actions.{last-taken}
 use Rattle.remotes.proofs.Remotes.{total-none, total-some, total-read}

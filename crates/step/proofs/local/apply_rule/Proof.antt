@@ -16,7 +16,7 @@ use Rattle.register.specs.File.{cellCount}
 use Rattle.register.specs.declared.cells.Cell.{Cell}
 use Rattle.register.specs.declared.cells.Cell.the-variants.{Missing, Value}
 use Rattle.chain.specs.Word.{hasField}
-use Rattle.chain.proofs.Passing.{field-below}
+use Rattle.chain.proofs.Fields.{field-below}
 use Rattle.step_plan.specs.Stored.{ruleOf}
 use Rattle.effects.specs.Answers.{cellWrite, writeOf}
 use Rattle.effects.specs.declared.rule.Write.the-variants.{OutOfRange}

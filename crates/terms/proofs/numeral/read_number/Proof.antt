@@ -9,7 +9,7 @@ use borrow.Author.Needs.{needs}
 use lib.ListN.{drop}
 use lib.Seq.{drop-drop}
 use denote.Ref.{now}
-use Rattle.chain.proofs.Scanning.{starts-inside}
+use Rattle.chain_text.proofs.Scanning.{starts-inside}
 use Rattle.syntax.specs.Numeral.{signedForm}
 use Rattle.terms.specs.Read.{digitsRead}
 use Rattle.terms.proofs.Numbers.{read-minus, read-plain}

@@ -5,7 +5,7 @@ use native.Mathlib.Omega.{arith}
 use borrow.Author.Needs.{needs}
 use lib.ListN.{length-drop}
 use denote.Ref.{now}
-use Rattle.chain.proofs.Scanning.{first-at}
+use Rattle.chain_text.proofs.Scanning.{first-at}
 use Rattle.terms.specs.Read.{chainParts, numberTerm}
 use Rattle.terms.specs.declared.term.TermParts.{TermParts}
 use Rattle.terms.specs.declared.term.TermRead.the-variants.{Parts}

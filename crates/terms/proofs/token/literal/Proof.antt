@@ -7,8 +7,8 @@ use native.Mathlib.Omega.{arith}
 use borrow.Author.Tests.{not-true, not-false}
 use lib.ListN.{length, drop, getD}
 use denote.Ref.{now}
-use Rattle.chain.specs.Scan.{startsWith}
-use Rattle.chain.proofs.Scanning.{starts-inside}
+use Rattle.chain_text.specs.Scan.{startsWith}
+use Rattle.chain_text.proofs.Scanning.{starts-inside}
 use Rattle.terms.proofs.Words.{Left, left-all, left-none, left-more, left-fails, literal-at, literal-nothing}
 use Rattle.terms.proofs.token.literal.Statement.{statement}
 use Rattle.terms.proofs.token.literal.Tie as tie

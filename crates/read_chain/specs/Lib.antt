@@ -1,0 +1,2 @@
+-- A single reading: its answer, and its outcome.
+pub mod Reading
