@@ -10,9 +10,10 @@ use lib.ListN.{length, getD, set, take, drop, replicate, length-map, length-set,
 use lib.Seq.{getD-take, getD-set-same, getD-set-other}
 use Rattle.chain.specs.Word.{isReference, unpack, unpackWithin}
 use Rattle.chain.proofs.Packing.{unpack-none, unpack-last, unpack-more}
-use Rattle.plan.specs.Plan.{Fact, read, word, round, rounds, tree, tree-within}
-use Rattle.plan.specs.Cases.{lt-or-le}
-use Rattle.plan.specs.Held.{fact-of, facts-in, facts, Holds}
+use Rattle.knowledge.specs.Plan.{Fact, read, word, round, rounds, tree, tree-within}
+use Rattle.knowledge.specs.Cases.{lt-or-le}
+use Rattle.keys.specs.Keys.{fact-of}
+use Rattle.plan.specs.Held.{facts-in, facts, Holds}
 use Rattle.plan.specs.declared.Plan.{Plan}
 use Rattle.plan.proofs.Appending.{holds-count}
 use Rattle.answers.specs.PlanArrays.{kindNumber, letterOf, kindAt, lettersAt, letterAt, roundAt, Filled, planLines}

@@ -5,7 +5,7 @@ use mathlib.Core.Bool.{cond}
 use mathlib.Core.List.{List, [], map}
 use lib.ListN.{getD}
 use Rattle.chain.specs.Word.{isReference}
-use Rattle.plan.specs.Plan.{Fact, back, read, word, round}
+use Rattle.knowledge.specs.Plan.{Fact, back, read, word, round}
 use Rattle.plan.specs.Held.{facts}
 use Rattle.plan.specs.declared.Plan.{Plan}
 

@@ -4,13 +4,14 @@ ghost use mathlib.Core.List.{map};
 ghost use Prim.Native.Nat.{_<_};
 ghost use lib.ListN.{getD};
 ghost use Rattle.chain.specs.Word.{unpack};
-ghost use Rattle.plan.specs.Held.{fact-of, facts, Holds};
+ghost use Rattle.keys.specs.Keys.{fact-of};
+ghost use Rattle.plan.specs.Held.{facts, Holds};
 ghost use Rattle.answers.specs.Numbers.{flagNumber};
 ghost use Rattle.answers.specs.PlanArrays.{kindNumber, letterOf, kindAt, letterAt, roundAt, planLines, Filled, PlanArrays};
+use keys::key;
+use keys::key::Kind;
+use keys::word;
 use plan::Plan;
-use plan::key;
-use plan::key::Kind;
-use plan::word;
 
 // The number of the kind of a line's key.
 fn kind_number(key: u64) -> u8

@@ -4,7 +4,7 @@ use mathlib.Core.List.{List, [], _∷_}
 use Prim.Native.Nat.{ℕ}
 use lib.IntN.{ℤ}
 use Rattle.register.specs.Outcome.{Outcome}
-use Rattle.plan.specs.Plan.{Fact}
+use Rattle.knowledge.specs.Plan.{Fact}
 use Rattle.inspect.specs.Answer.{Answered}
 use Rattle.inspect.specs.declared.InspectAnswer.{InspectAnswer}
 

@@ -6,7 +6,7 @@ use Rattle.register.specs.File.{width, cellIndex}
 use Rattle.register.specs.declared.Sizes.{Sizes}
 use Rattle.register.specs.declared.cells.Cell.{Cell}
 use Rattle.chain.specs.Word.{isReference, column, cell}
-use Rattle.plan.specs.Plan.{Fact, back, read, round, rounds, tree, tree-within, half, doubled, front, rest, plan, add, add-readings, lines, listed, place}
+use Rattle.knowledge.specs.Plan.{Fact, back, read, round, rounds, tree, tree-within, half, doubled, front, rest, plan, add, add-readings, lines, listed, place}
 use Rattle.rules.specs.Program.{Step, Program, stepPlan, readings, ruleReadings, actionReadings, testReadings, termReadings, isRemote, hasRemote}
 use Rattle.machine.specs.Run.{Run, run}
 use Rattle.message_machine.specs.Held.{knows, writer, needed, written, sent, heldAfter}

@@ -8,7 +8,7 @@ use Rattle.integers.specs.Range.{inRange}
 use Rattle.register.specs.Outcome.{Outcome, done, unless, after}
 use Rattle.chain_text.specs.Text as C
 use Rattle.chain_text.specs.Scan.{startsWith}
-use Rattle.plan.specs.Plan.{plan, add-readings, add, lines as planLines, listed, place, same as sameFact, same-word, tree, tree-within, half, doubled, front, rest}
+use Rattle.knowledge.specs.Plan.{plan, add-readings, add, lines as planLines, listed, place, same as sameFact, same-word, tree, tree-within, half, doubled, front, rest}
 use Rattle.syntax.specs.Bytes.{bytes}
 use Rattle.syntax.specs.Numeral.{isDigit, digits, decimal, isNumeral, signedForm, numberForm, numberValue, signedValue}
 use Rattle.syntax.specs.Token.{capital, then, word, or, finished}

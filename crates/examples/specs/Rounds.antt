@@ -4,8 +4,8 @@ use mathlib.Core.Path.{_≡_, refl, sym, _∙_}
 use mathlib.Core.List.{List, [], _∷_}
 use native.Mathlib.Omega.{arith}
 use lib.ListN.{length, getD, replicate, length-replicate}
-use Rattle.plan.specs.Plan.{back, read, round, rounds, tree, tree-within, half, doubled, front, rest, plan, result, add, add-readings, lines, listed, place, same, same-word}
-use Rattle.plan.specs.Least.{round-length}
+use Rattle.knowledge.specs.Plan.{back, read, round, rounds, tree, tree-within, half, doubled, front, rest, plan, result, add, add-readings, lines, listed, place, same, same-word}
+use Rattle.knowledge.specs.Least.{round-length}
 
 -- g 0, g 1, up to g (n - 1)
 unfoldable pub tabulate : (ℕ → ℕ) → ℕ → List ℕ

@@ -10,12 +10,13 @@ use lib.ListN.{getD}
 use Rattle.register.specs.declared.Sizes.{Sizes}
 use Rattle.register.specs.declared.cells.Cell.{Cell}
 use Rattle.chain.specs.Word.{valueAtRecord}
-use Rattle.plan.specs.Plan.{Fact, back, read, word, line}
-use Rattle.plan.specs.Held.{fact-of, kind, facts-in, Keyed}
-use Rattle.plan.specs.declared.key.Kind.{Kind}
-use Rattle.plan.specs.declared.key.Kind.the-variants.{Back, Read}
+use Rattle.knowledge.specs.Plan.{Fact, back, read, word, line}
+use Rattle.keys.specs.Keys.{fact-of, kind}
+use Rattle.plan.specs.Held.{facts-in, Keyed}
+use Rattle.keys.specs.declared.key.Kind.{Kind}
+use Rattle.keys.specs.declared.key.Kind.the-variants.{Back, Read}
 use Rattle.plan.proofs.Search.{facts-line}
-use Rattle.plan.specs.Cases.{lt-or-le}
+use Rattle.knowledge.specs.Cases.{lt-or-le}
 use Rattle.places.specs.Places.{Kept, StoredFrom}
 use Rattle.places.proofs.Placed.{kept-same, kept-again, placeAt-kept}
 use Rattle.fill.specs.Filled.{ReadAt, Filled}

@@ -3,8 +3,8 @@ use Prim.Native.Nat.{_≤_}
 use mathlib.Core.Path.{subst}
 use mathlib.Core.List.{List}
 use Rattle.register.specs.declared.Sizes.{Sizes}
-use Rattle.plan.specs.Plan.{Fact, hops, line-from}
-use Rattle.plan.specs.Kept.{plan-promise}
+use Rattle.knowledge.specs.Plan.{Fact, hops, line-from}
+use Rattle.knowledge.specs.Kept.{plan-promise}
 use Rattle.rules.specs.Program.{Rule, readings, stepPlan}
 use Rattle.rules.specs.Passed.{RulesPass}
 use Rattle.machine.proofs.Readable.{Follows}

@@ -13,7 +13,7 @@ use Rattle.register.specs.declared.Sizes.{Sizes}
 use Rattle.register.specs.declared.cells.Cell.{Cell}
 use Rattle.register.specs.declared.cells.Cell.the-variants.{Missing, Value}
 use Rattle.chain.specs.Word.{readable, hop, valueAtRecord}
-use Rattle.plan.specs.Plan.{Fact, read, line}
+use Rattle.knowledge.specs.Plan.{Fact, read, line}
 use Rattle.places.specs.Places.{placeAt, Kept, StoredFrom}
 
 -- every Read line can be followed, and has two or more hops

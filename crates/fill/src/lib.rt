@@ -14,10 +14,10 @@ ghost use Rattle.plan.specs.Held.{facts-in, Keyed};
 ghost use Rattle.places.specs.Places.{placeAt, StoredFrom};
 ghost use Rattle.fill.specs.Filled.{FollowLines, referred, Referring, Hopped, Filled};
 use chain::follow;
+use keys::key;
+use keys::key::Kind;
 use places;
 use places::column;
-use plan::key;
-use plan::key::Kind;
 use register::Sizes;
 
 // Place j one hop on: the cell in a column of the record that it names; a missing cell stays missing.

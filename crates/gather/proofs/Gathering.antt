@@ -8,8 +8,8 @@ use Rattle.register.specs.Shape.{Valid}
 use Rattle.register.specs.declared.Sizes.{Sizes}
 use Rattle.register.specs.declared.cells.Cell.{Cell}
 use Rattle.chain.specs.Word.{valueAtRecord}
-use Rattle.plan.specs.Plan.{Fact, word, last-round}
-use Rattle.plan.specs.Kept.{plan-promise}
+use Rattle.knowledge.specs.Plan.{Fact, word, last-round}
+use Rattle.knowledge.specs.Kept.{plan-promise}
 use Rattle.rules.specs.Program.{Rule, readings, stepPlan}
 use Rattle.rules.specs.Passed.{RulesPass}
 use Rattle.message_machine.proofs.Telling.{lines-told}

@@ -6,7 +6,7 @@ use lib.IntN.{ℤ}
 use lib.ListN.{length}
 use Rattle.register.specs.declared.Sizes.{Sizes}
 use Rattle.register.specs.declared.cells.Cell.{Cell}
-use Rattle.plan.specs.Plan.{Fact, last-round}
+use Rattle.knowledge.specs.Plan.{Fact, last-round}
 use Rattle.message_machine.specs.Held.{heldAfter}
 use Rattle.message_machine.specs.Counts.{planMessages}
 use Rattle.message_machine.specs.declared.Machine.{Machine}

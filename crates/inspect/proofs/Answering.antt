@@ -10,7 +10,7 @@ use lib.ListN.{length}
 use Rattle.register.specs.Outcome.{Outcome, done, refused, after}
 use Rattle.register.specs.File.{sizesOf}
 use Rattle.register.specs.declared.Sizes.{Sizes}
-use Rattle.plan.specs.Plan.{Fact}
+use Rattle.knowledge.specs.Plan.{Fact}
 use Rattle.rules.specs.Program.{Rule, Program, mostLines, stepPlan}
 use Rattle.rules.specs.Text.{check, rulesAt}
 use Rattle.machine.specs.Run.{scratch, isShort}

@@ -12,8 +12,8 @@ use Rattle.register.specs.Shape.{Parts, Valid}
 use Rattle.register.specs.declared.Sizes.{Sizes}
 use Rattle.register.specs.declared.cells.Cell.{Cell}
 use Rattle.register.proofs.Loading.{file-parts}
-use Rattle.plan.specs.Plan.{Fact, round, line}
-use Rattle.plan.specs.Cases.{lt-or-le}
+use Rattle.knowledge.specs.Plan.{Fact, round, line}
+use Rattle.knowledge.specs.Cases.{lt-or-le}
 use Rattle.message_machine.proofs.Settling.{held-settled, held-before}
 use Rattle.places.proofs.Placed.{kept-again}
 use Rattle.messages.specs.Exchanged.{ExchangedTo, Cleared}

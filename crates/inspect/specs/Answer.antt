@@ -8,7 +8,7 @@ use Rattle.register.specs.Outcome.{Outcome, done, refused}
 use Rattle.register.specs.File.{sizesOf, cellsOfFile}
 use Rattle.register.specs.declared.Sizes.{Sizes}
 use Rattle.register.specs.declared.cells.Cell.{Cell}
-use Rattle.plan.specs.Plan.{Fact, line}
+use Rattle.knowledge.specs.Plan.{Fact, line}
 use Rattle.message_machine.specs.Held.{heldAfter}
 use Rattle.places.specs.Places.{Kept}
 use Rattle.messages.specs.Written.{Stored}

@@ -4,7 +4,7 @@ use mathlib.Core.List.{List}
 use Prim.Native.Nat.{ℕ}
 use Rattle.register.specs.Outcome.{Outcome, done, refused, after}
 use Rattle.register.specs.File.{sizesOf}
-use Rattle.plan.specs.Plan.{Fact}
+use Rattle.knowledge.specs.Plan.{Fact}
 use Rattle.rules.specs.Program.{Program, mostLines, stepPlan}
 use Rattle.rules.specs.Text.{check, rulesAt}
 use Rattle.machine.specs.Run.{scratch, isShort}

@@ -9,8 +9,8 @@ use Rattle.register.specs.declared.Sizes.{Sizes}
 use Rattle.register.specs.declared.cells.Cell.{Cell}
 use Rattle.chain.specs.Word.{unpack, hop, follow, valueAtRecord}
 use Rattle.chain.proofs.Packing.{unpack-none, unpack-last}
-use Rattle.plan.specs.Plan.{Fact, read, place}
-use Rattle.plan.specs.Places.{place-line}
+use Rattle.knowledge.specs.Plan.{Fact, read, place}
+use Rattle.knowledge.specs.Places.{place-line}
 use Rattle.terms.specs.declared.term.Term.{Term}
 use Rattle.terms.specs.declared.term.Term.the-variants.{Chain, Number}
 use Rattle.actions.specs.declared.rule.Test.{Test}

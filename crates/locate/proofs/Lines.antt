@@ -8,7 +8,7 @@ use lib.ListN.{length, take}
 use lib.Seq.{getD-take, length-take-le}
 use Rattle.register.specs.declared.Sizes.{Sizes}
 use Rattle.register.specs.declared.cells.Cell.{Cell}
-use Rattle.plan.specs.Plan.{Fact}
+use Rattle.knowledge.specs.Plan.{Fact}
 use Rattle.rules.specs.Program.{Rule}
 use Rattle.machine.specs.Run.{direct}
 use Rattle.places.specs.Places.{placeAt}

@@ -7,8 +7,8 @@ use native.Mathlib.Omega.{arith}
 use borrow.Author.Tests.{le-leb, lt-leb}
 use lib.ListN.{length}
 use Rattle.chain.specs.Word.{unpack}
-use Rattle.plan.specs.Plan.{Fact, read, place}
-use Rattle.plan.specs.Cases.{lt-or-le}
+use Rattle.knowledge.specs.Plan.{Fact, read, place}
+use Rattle.knowledge.specs.Cases.{lt-or-le}
 use Rattle.plan.specs.Held.{found}
 use Rattle.plan.specs.declared.Found.the-variants.{At}
 use Rattle.plan.proofs.Settled.{found-old, found-new}

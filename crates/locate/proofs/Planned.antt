@@ -6,10 +6,10 @@ use mathlib.Core.Logic.{⊎-elim}
 use lib.ListN.{length, take}
 use Rattle.register.specs.declared.Sizes.{Sizes}
 use Rattle.chain.specs.Word.{Passes, unpack}
-use Rattle.plan.specs.Plan.{Fact, read, place}
-use Rattle.plan.specs.Cases.{lt-or-le}
-use Rattle.plan.specs.Kept.{plan-promise}
-use Rattle.plan.proofs.Words.{hops-two}
+use Rattle.knowledge.specs.Plan.{Fact, read, place}
+use Rattle.knowledge.specs.Cases.{lt-or-le}
+use Rattle.knowledge.specs.Kept.{plan-promise}
+use Rattle.keys.proofs.Words.{hops-two}
 use Rattle.terms.specs.declared.term.Term.{Term}
 use Rattle.terms.specs.declared.term.Term.the-variants.{Chain, Number}
 use Rattle.actions.specs.declared.rule.Test.{Test}

@@ -8,7 +8,7 @@ use lib.Seq.{take-suc, take-suc-set}
 use Rattle.register.specs.Shape.{Valid}
 use Rattle.register.specs.declared.Sizes.{Sizes}
 use Rattle.register.specs.declared.cells.Cell.{Cell}
-use Rattle.plan.specs.Plan.{Fact}
+use Rattle.knowledge.specs.Plan.{Fact}
 use Rattle.actions.specs.declared.rule.Slot.{Slot}
 use Rattle.rules.specs.Program.{Rule, stepPlan}
 use Rattle.rules.specs.Passed.{Each, RulesPass}

@@ -8,7 +8,7 @@ use mir.Syntax.{w32}
 use mir.Val.{SFits}
 use Rattle.register.specs.declared.Sizes.{Sizes}
 use Rattle.register.specs.declared.cells.Cell.{Cell}
-use Rattle.plan.specs.Plan.{Fact, read, line}
+use Rattle.knowledge.specs.Plan.{Fact, read, line}
 use Rattle.places.specs.Places.{placeAt}
 
 -- "Line i, from 0, and origin u have place i × n + u"

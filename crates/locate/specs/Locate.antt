@@ -6,7 +6,7 @@ use Prim.Native.Nat.{ℕ, _+_, _≤_}
 use lib.Dec.{leb}
 use lib.ListN.{length, take}
 use Rattle.chain.specs.Word.{unpack}
-use Rattle.plan.specs.Plan.{Fact, read}
+use Rattle.knowledge.specs.Plan.{Fact, read}
 use Rattle.plan.specs.Held.{found}
 use Rattle.plan.specs.declared.Found.{Found}
 use Rattle.plan.specs.declared.Found.the-variants.{At, Nothing}

@@ -14,7 +14,7 @@ use Rattle.register.proofs.Bounds.{place-row, place-column, place-is}
 use Rattle.register.specs.declared.Sizes.{Sizes}
 use Rattle.register.specs.declared.cells.Cell.{Cell}
 use Rattle.register.specs.declared.cells.Cell.the-variants.{Missing}
-use Rattle.plan.specs.Cases.{true-or-false, lt-or-le}
+use Rattle.knowledge.specs.Cases.{true-or-false, lt-or-le}
 use Rattle.rules.specs.Program.{Rule}
 use Rattle.machine.specs.Value.{cellInRange}
 use Rattle.machine.specs.Local.{sumOffends}

@@ -6,7 +6,7 @@ use Rattle.register.specs.Shape.{Valid}
 use Rattle.register.specs.declared.Sizes.{Sizes}
 use Rattle.register.specs.declared.cells.Cell.{Cell}
 use Rattle.chain.specs.Word.{Passes}
-use Rattle.plan.specs.Plan.{read}
+use Rattle.knowledge.specs.Plan.{read}
 use Rattle.rules.specs.Program.{Rule, readings}
 use Rattle.rules.specs.Passed.{RulesPass}
 use Rattle.machine.specs.Run.{direct}

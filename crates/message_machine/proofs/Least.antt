@@ -6,14 +6,14 @@ use mathlib.Core.List.{List, List·Memᴰ}
 use native.Mathlib.Omega.{arith}
 use lib.ListN.{length}
 use Rattle.register.specs.Outcome.{done}
-use Rattle.plan.specs.Knows.{LeastRounds}
-use Rattle.plan.specs.Plan.{Fact, read, hops, line-from, round, place, line}
-use Rattle.plan.specs.Cases.{lt-or-le}
-use Rattle.plan.specs.Facts.{round-none}
-use Rattle.plan.specs.Least.{round-least}
-use Rattle.plan.specs.Places.{place-line}
-use Rattle.plan.specs.Promise.{Promise}
-use Rattle.plan.specs.Kept.{plan-promise}
+use Rattle.knowledge.specs.Knows.{LeastRounds}
+use Rattle.knowledge.specs.Plan.{Fact, read, hops, line-from, round, place, line}
+use Rattle.knowledge.specs.Cases.{lt-or-le}
+use Rattle.knowledge.specs.Facts.{round-none}
+use Rattle.knowledge.specs.Least.{round-least}
+use Rattle.knowledge.specs.Places.{place-line}
+use Rattle.knowledge.specs.Promise.{Promise}
+use Rattle.knowledge.specs.Kept.{plan-promise}
 use Rattle.rules.specs.Program.{Step, Program, readings, stepPlan}
 use Rattle.rules.specs.Text.{check}
 

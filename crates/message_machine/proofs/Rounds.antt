@@ -5,12 +5,12 @@ use mathlib.Core.List.{List, [], _∷_, List·Memᴰ, List·Memᴰ·head, List·
 use mathlib.Core.Logic.{⊎-elim}
 use native.Mathlib.Omega.{arith}
 use lib.ListN.{length}
-use Rattle.plan.specs.Plan.{Fact, read, round, place, plan, last-round, line}
-use Rattle.plan.specs.Promise.{Needed, Promise}
-use Rattle.plan.specs.Cases.{lt-or-le}
-use Rattle.plan.specs.Facts.{round-none, round-both, needed-ind}
-use Rattle.plan.specs.Places.{place-line}
-use Rattle.plan.specs.Kept.{plan-promise}
+use Rattle.knowledge.specs.Plan.{Fact, read, round, place, plan, last-round, line}
+use Rattle.knowledge.specs.Promise.{Needed, Promise}
+use Rattle.knowledge.specs.Cases.{lt-or-le}
+use Rattle.knowledge.specs.Facts.{round-none, round-both, needed-ind}
+use Rattle.knowledge.specs.Places.{place-line}
+use Rattle.knowledge.specs.Kept.{plan-promise}
 use Rattle.message_machine.specs.Counts.{mostRounds}
 
 -- each reading has at most as many

@@ -8,7 +8,7 @@ use borrow.Author.Tests.{eq-eqb, ne-eqb}
 use Rattle.register.specs.declared.Sizes.{Sizes}
 use Rattle.register.specs.declared.cells.Cell.{Cell}
 use Rattle.register.specs.declared.cells.Cell.the-variants.{Missing}
-use Rattle.plan.specs.Plan.{Fact, round}
+use Rattle.knowledge.specs.Plan.{Fact, round}
 use Rattle.message_machine.specs.Held.{sent, heldAfter}
 
 module _ (s : Sizes) (cells : List Cell) where

@@ -17,10 +17,10 @@ use Rattle.register.specs.declared.cells.Cell.the-variants.{Missing, Value}
 use Rattle.chain.specs.Word.{hop, follow, valueAtRecord}
 use Rattle.chain_text.specs.Text.{every}
 use Rattle.chain.proofs.Following.{follow-missing}
-use Rattle.plan.specs.Plan.{Fact, back, read, word, hops, front, rest, line-from, back-need, read-need, round, line}
-use Rattle.plan.specs.Half.{half-pos}
-use Rattle.plan.specs.Facts.{front-rest, front-length, round-one, round-both, fact-ind}
-use Rattle.plan.specs.Kept.{plan-promise}
+use Rattle.knowledge.specs.Plan.{Fact, back, read, word, hops, front, rest, line-from, back-need, read-need, round, line}
+use Rattle.knowledge.specs.Half.{half-pos}
+use Rattle.knowledge.specs.Facts.{front-rest, front-length, round-one, round-both, fact-ind}
+use Rattle.knowledge.specs.Kept.{plan-promise}
 use Rattle.rules.specs.Program.{Rule, readings, stepPlan}
 use Rattle.rules.specs.Passed.{RulesPass}
 use Rattle.machine.proofs.Readable.{referring, Follows, back-follows, read-follows}

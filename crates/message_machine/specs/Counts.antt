@@ -7,7 +7,7 @@ use lib.ListN.{length}
 use Rattle.register.specs.declared.Sizes.{Sizes}
 use Rattle.register.specs.declared.cells.Cell.{Cell}
 use Rattle.register.specs.declared.cells.Cell.the-variants.{Missing, Value}
-use Rattle.plan.specs.Plan.{Fact, read, round}
+use Rattle.knowledge.specs.Plan.{Fact, read, round}
 use Rattle.rules.specs.Program.{Rule, Step, readings, stepPlan, hasRemote}
 use Rattle.machine.specs.Remote.{recordMessages}
 use Rattle.machine.specs.Run.{Reader}

@@ -8,7 +8,7 @@ use Rattle.register.specs.declared.Sizes.{Sizes}
 use Rattle.register.specs.declared.cells.Cell.{Cell}
 use Rattle.register.specs.declared.cells.Cell.the-variants.{Missing, Value}
 use Rattle.chain.specs.Word.{cell}
-use Rattle.plan.specs.Plan.{Fact, read, word, hops, rest, back-need, round}
+use Rattle.knowledge.specs.Plan.{Fact, read, word, hops, rest, back-need, round}
 
 -- What was sent so far for a fact and its origin u: "the value read (Read) or the addressee (Back)", missing where no message
 -- was sent. A message for Back(w) is held by its addressee, one for Read(w) by u.

@@ -12,8 +12,8 @@ use lib.ListN.{length, take}
 use Rattle.register.specs.declared.Sizes.{Sizes}
 use Rattle.register.specs.declared.cells.Cell.{Cell}
 use Rattle.register.specs.declared.cells.Cell.the-variants.{Missing, Value}
-use Rattle.plan.specs.Plan.{Fact, round, line}
-use Rattle.plan.specs.Cases.{true-or-false}
+use Rattle.knowledge.specs.Plan.{Fact, round, line}
+use Rattle.knowledge.specs.Cases.{true-or-false}
 use Rattle.message_machine.specs.Held.{Held, heldAfter}
 use Rattle.message_machine.specs.Counts.{isSent, lineMessages, planMessages}
 use Rattle.messages.specs.Exchanged.{roundMessages}

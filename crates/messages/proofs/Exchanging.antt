@@ -13,8 +13,8 @@ use Rattle.register.specs.Cells.{valueOf, markOf}
 use Rattle.register.specs.declared.Sizes.{Sizes}
 use Rattle.register.specs.declared.cells.Cell.{Cell}
 use Rattle.register.specs.declared.cells.Cell.the-variants.{Missing}
-use Rattle.plan.specs.Plan.{Fact, round, line}
-use Rattle.plan.specs.Cases.{lt-or-le}
+use Rattle.knowledge.specs.Plan.{Fact, round, line}
+use Rattle.knowledge.specs.Cases.{lt-or-le}
 use Rattle.message_machine.specs.Held.{heldAfter}
 use Rattle.places.specs.Places.{Kept}
 use Rattle.places.proofs.Placed.{kept-same, kept-again, kept-other}

@@ -9,7 +9,7 @@ use lib.ListN.{length}
 use Rattle.register.specs.declared.Sizes.{Sizes}
 use Rattle.register.specs.declared.cells.Cell.{Cell}
 use Rattle.register.specs.declared.cells.Cell.the-variants.{Value}
-use Rattle.plan.specs.Plan.{Fact, read, word, hops, rest, back-need}
+use Rattle.knowledge.specs.Plan.{Fact, read, word, hops, rest, back-need}
 use Rattle.message_machine.specs.Held.{Held, knows, writer, needed}
 
 module _ (s : Sizes) (cells : List Cell) where

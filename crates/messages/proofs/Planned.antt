@@ -6,9 +6,9 @@ use native.Mathlib.Omega.{arith}
 use lib.ListN.{length}
 use Rattle.register.specs.declared.Sizes.{Sizes}
 use Rattle.chain.specs.Word.{Passes}
-use Rattle.plan.specs.Plan.{hops, round, last-round, line}
-use Rattle.plan.specs.Facts.{needed-hops}
-use Rattle.plan.specs.Kept.{plan-promise}
+use Rattle.knowledge.specs.Plan.{hops, round, last-round, line}
+use Rattle.knowledge.specs.Facts.{needed-hops}
+use Rattle.knowledge.specs.Kept.{plan-promise}
 use Rattle.plan.specs.Held.{facts, Column}
 use Rattle.plan.specs.declared.Plan.{Plan}
 use Rattle.plan.proofs.Appending.{holds-count}

@@ -15,9 +15,9 @@ use Rattle.register.specs.declared.cells.Cell.{Cell}
 use Rattle.register.specs.declared.cells.Cell.the-variants.{Missing, Value}
 use Rattle.chain_text.specs.Text.{every}
 use Rattle.chain.specs.Word.{hop}
-use Rattle.plan.specs.Plan.{Fact, read, word, hops, front, rest, back-need, round}
-use Rattle.plan.specs.Cases.{lt-or-le}
-use Rattle.plan.specs.Facts.{front-rest}
+use Rattle.knowledge.specs.Plan.{Fact, read, word, hops, front, rest, back-need, round}
+use Rattle.knowledge.specs.Cases.{lt-or-le}
+use Rattle.knowledge.specs.Facts.{front-rest}
 use Rattle.machine.proofs.Readable.{referring}
 use Rattle.machine.proofs.Direct.{own-refers, hop-refers}
 use Rattle.message_machine.specs.Held.{Held, knows, writer, needed, written, sent, heldAfter}

@@ -15,15 +15,15 @@ use Rattle.register.specs.declared.cells.Cell.{Cell}
 use Rattle.register.specs.declared.cells.Cell.the-variants.{Missing, Value}
 use Rattle.chain.specs.Word.{hasField, readable, unpack}
 use Rattle.chain.proofs.Packing.{unpack-last}
-use Rattle.plan.specs.Plan.{Fact, back, read, word, hops, rest, line-from, back-need, read-need, round, line}
-use Rattle.plan.specs.Cases.{lt-or-le}
-use Rattle.plan.specs.Half.{half-below}
-use Rattle.plan.specs.Facts.{rest-length, line-from-pos, round-line}
+use Rattle.knowledge.specs.Plan.{Fact, back, read, word, hops, rest, line-from, back-need, read-need, round, line}
+use Rattle.knowledge.specs.Cases.{lt-or-le}
+use Rattle.knowledge.specs.Half.{half-below}
+use Rattle.knowledge.specs.Facts.{rest-length, line-from-pos, round-line}
 use Rattle.plan.specs.Held.{facts, line-at}
 use Rattle.plan.specs.Promised.{fact-at, Serves, LinePromise}
 use Rattle.plan.specs.declared.Plan.{Plan}
 use Rattle.plan.proofs.Search.{facts-length, facts-line}
-use Rattle.plan.proofs.Words.{hops-none, hops-two}
+use Rattle.keys.proofs.Words.{hops-none, hops-two}
 use Rattle.machine.proofs.Readable.{Follows, referring-readable, read-follows}
 use Rattle.message_machine.specs.Held.{knows, writer, needed, written, sent, heldAfter}
 use Rattle.messages.specs.Lines.{OneHop, Lines, Followable}

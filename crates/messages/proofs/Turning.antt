@@ -9,7 +9,7 @@ use lib.ListN.{length}
 use Rattle.register.specs.Shape.{Valid}
 use Rattle.register.specs.declared.Sizes.{Sizes}
 use Rattle.register.specs.declared.cells.Cell.{Cell}
-use Rattle.plan.specs.Plan.{round, line}
+use Rattle.knowledge.specs.Plan.{round, line}
 use Rattle.plan.specs.Held.{facts, line-at}
 use Rattle.plan.specs.Promised.{fact-at}
 use Rattle.plan.specs.declared.Plan.{Plan}

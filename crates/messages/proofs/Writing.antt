@@ -21,7 +21,7 @@ use Rattle.register.specs.declared.Sizes.{Sizes}
 use Rattle.register.specs.declared.cells.Cell.{Cell}
 use Rattle.register.specs.declared.cells.Cell.the-variants.{Missing, Value}
 use Rattle.chain.specs.Word.{cell}
-use Rattle.plan.specs.Cases.{lt-or-le}
+use Rattle.knowledge.specs.Cases.{lt-or-le}
 use Rattle.machine.proofs.Direct.{own-refers}
 use Rattle.message_machine.specs.Counts.{isSent}
 use Rattle.places.specs.Places.{placeAt, Kept}

@@ -10,7 +10,7 @@ use lib.ListN.{length}
 use Rattle.register.specs.declared.Sizes.{Sizes}
 use Rattle.register.specs.declared.cells.Cell.{Cell}
 use Rattle.register.specs.declared.cells.Cell.the-variants.{Missing}
-use Rattle.plan.specs.Plan.{Fact, round, line}
+use Rattle.knowledge.specs.Plan.{Fact, round, line}
 use Rattle.message_machine.specs.Held.{Held, heldAfter}
 use Rattle.message_machine.specs.Counts.{lineMessages, planMessages}
 use Rattle.places.specs.Places.{Kept}

@@ -9,7 +9,7 @@ use lib.ListN.{length}
 use Rattle.register.specs.declared.Sizes.{Sizes}
 use Rattle.chain_text.specs.Text.{every}
 use Rattle.chain.specs.Word.{readable}
-use Rattle.plan.specs.Plan.{Fact, back, read, hops, line}
+use Rattle.knowledge.specs.Plan.{Fact, back, read, hops, line}
 use Rattle.plan.specs.Held.{facts, Keyed, Holds}
 use Rattle.plan.specs.Promised.{LinePromise}
 use Rattle.plan.specs.declared.Plan.{Plan}

@@ -4,13 +4,14 @@ ghost use Prim.Native.Nat.{_-_, _≤_};
 ghost use lib.ListN.{length};
 ghost use Rattle.register.specs.Cells.{cellsOf};
 ghost use Rattle.register.specs.Shape.{Parts, Valid};
-ghost use Rattle.plan.specs.Plan.{hops, line-from};
-ghost use Rattle.plan.specs.Held.{fact-of, facts-in, plan-of};
+ghost use Rattle.knowledge.specs.Plan.{hops, line-from};
+ghost use Rattle.keys.specs.Keys.{fact-of};
+ghost use Rattle.plan.specs.Held.{facts-in, plan-of};
 ghost use Rattle.messages.specs.Lines.{OneHop, PlanReady};
 ghost use Rattle.messages.specs.Exchanged.{HeldTo, Exchanged, ExchangedTo, Cleared};
+use keys::key;
+use keys::key::ONE_HOP;
 use places;
-use plan::key;
-use plan::key::ONE_HOP;
 use register::Sizes;
 use register::cells::Cell;
 

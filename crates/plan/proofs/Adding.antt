@@ -7,13 +7,14 @@ use native.Mathlib.Omega.{arith}
 use lib.Dec.{ltb}
 use lib.ListN.{length, length-append}
 use borrow.Author.Tests.{lt-ltb, le-ltb, ltb-true, ltb-false}
-use Rattle.plan.specs.Plan.{Fact, read, hops, line-from, back-need, read-need, place, add, plan}
-use Rattle.plan.specs.Facts.{back-need-shorter, read-need-shorter}
-use Rattle.plan.specs.Lines.{add-one, add-both, Next, grows-length, add-grows, add-next, plan-more}
-use Rattle.plan.specs.Held.{fact-of, facts, settled, NeedsOf, Holds, Extended, ExtendedTo, AddedTo}
+use Rattle.knowledge.specs.Plan.{Fact, read, hops, line-from, back-need, read-need, place, add, plan}
+use Rattle.knowledge.specs.Facts.{back-need-shorter, read-need-shorter}
+use Rattle.knowledge.specs.Lines.{add-one, add-both, Next, grows-length, add-grows, add-next, plan-more}
+use Rattle.keys.specs.Keys.{fact-of, NeedsOf}
+use Rattle.plan.specs.Held.{facts, settled, Holds, Extended, ExtendedTo, AddedTo}
 use Rattle.plan.specs.declared.Plan.{Plan}
 use Rattle.plan.specs.declared.Added.{Added}
-use Rattle.plan.specs.declared.key.Needs.{Needs}
+use Rattle.keys.specs.declared.key.Needs.{Needs}
 use Rattle.plan.proofs.Appending.{holds-count}
 use Rattle.plan.proofs.Settled.{settled-adds}
 

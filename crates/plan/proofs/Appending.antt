@@ -9,17 +9,18 @@ use lib.Dec.{ltb}
 use lib.ListN.{length, getD, set, take, length-append, length-set, List·getD-eq-default}
 use lib.Seq.{take-suc-set, getD-set-same, getD-set-other}
 use borrow.Author.Tests.{lt-ltb}
-use Rattle.plan.specs.Plan.{Fact, hops, line-from, back-need, read-need, round, place, line}
-use Rattle.plan.specs.Promise.{Stands}
-use Rattle.plan.specs.Cases.{lt-or-le}
-use Rattle.plan.specs.Facts.{round-none, round-one, round-both, round-hops, back-need-shorter, read-need-shorter}
-use Rattle.plan.specs.Places.{place-line, place-append-listed}
-use Rattle.plan.specs.Lines.{Had, Next}
-use Rattle.plan.specs.Kept.{Ordered, ordered-append, lines-append}
-use Rattle.plan.specs.Held.{fact-of, facts-in, index, need-index, Column, Holds, LineOf, Ready, ExtendedTo}
+use Rattle.knowledge.specs.Plan.{Fact, hops, line-from, back-need, read-need, round, place, line}
+use Rattle.knowledge.specs.Promise.{Stands}
+use Rattle.knowledge.specs.Cases.{lt-or-le}
+use Rattle.knowledge.specs.Facts.{round-none, round-one, round-both, round-hops, back-need-shorter, read-need-shorter}
+use Rattle.knowledge.specs.Places.{place-line, place-append-listed}
+use Rattle.knowledge.specs.Lines.{Had, Next}
+use Rattle.knowledge.specs.Kept.{Ordered, ordered-append, lines-append}
+use Rattle.keys.specs.Keys.{fact-of}
+use Rattle.plan.specs.Held.{facts-in, index, need-index, Column, Holds, LineOf, Ready, ExtendedTo}
 use Rattle.plan.specs.declared.Plan.{Plan}
 use Rattle.plan.specs.declared.Line.{Line}
-use Rattle.plan.specs.declared.key.Needs.{Needs}
+use Rattle.keys.specs.declared.key.Needs.{Needs}
 use Rattle.plan.proofs.Settled.{index-old, index-new, no-line-new, need-index-one, need-index-both}
 use Rattle.plan.proofs.Search.{facts-length}
 

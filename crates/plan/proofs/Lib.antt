@@ -1,6 +1,4 @@
 -- Laws of the definitions of `specs/`, for the proofs here and in the crates above.
-pub mod Words
-pub mod Keys
 pub mod Search
 pub mod Settled
 pub mod Appending

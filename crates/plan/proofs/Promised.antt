@@ -5,12 +5,12 @@ use mathlib.Core.List.{List}
 use mathlib.Core.Logic.{⊎-elim}
 use native.Mathlib.Omega.{arith}
 use lib.ListN.{length}
-use Rattle.plan.specs.Plan.{Fact, read, word, hops, back-need, read-need, round, place, plan, last-round, line}
-use Rattle.plan.specs.Promise.{Stands, Promise}
-use Rattle.plan.specs.Cases.{lt-or-le}
-use Rattle.plan.specs.Facts.{rest-length}
-use Rattle.plan.specs.Places.{place-line}
-use Rattle.plan.specs.Kept.{plan-promise}
+use Rattle.knowledge.specs.Plan.{Fact, read, word, hops, back-need, read-need, round, place, plan, last-round, line}
+use Rattle.knowledge.specs.Promise.{Stands, Promise}
+use Rattle.knowledge.specs.Cases.{lt-or-le}
+use Rattle.knowledge.specs.Facts.{rest-length}
+use Rattle.knowledge.specs.Places.{place-line}
+use Rattle.knowledge.specs.Kept.{plan-promise}
 use Rattle.plan.specs.Held.{index, need-index, line-at, Holds}
 use Rattle.plan.specs.Promised.{fact-at, Serves, LinePromise, HasLine, Promised}
 use Rattle.plan.specs.declared.Plan.{Plan}

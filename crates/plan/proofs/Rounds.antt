@@ -6,7 +6,7 @@ use native.Mathlib.Omega.{arith}
 use native.Mathlib.Numerals.{add-one}
 use lib.ListN.{length, getD, take}
 use lib.Seq.{take-all}
-use Rattle.plan.specs.Plan.{Fact, round, last-round, line}
+use Rattle.knowledge.specs.Plan.{Fact, round, last-round, line}
 use Rattle.plan.specs.Held.{Column, LastOf}
 
 pub last-round-none : (l : List Fact) → last-round (take 0 l) ≡ 0

@@ -6,10 +6,11 @@ use mathlib.Core.Logic.{_≢_}
 use native.Mathlib.Omega.{arith}
 use lib.ListN.{length, getD, take, length-map}
 use lib.Seq.{length-take-le, getD-take}
-use Rattle.plan.specs.Plan.{read, place, line}
-use Rattle.plan.specs.Places.{place-le, place-at, place-past}
-use Rattle.plan.specs.Held.{fact-of, facts-in}
-use Rattle.plan.proofs.Keys.{fact-injective}
+use Rattle.knowledge.specs.Plan.{read, place, line}
+use Rattle.knowledge.specs.Places.{place-le, place-at, place-past}
+use Rattle.keys.specs.Keys.{fact-of}
+use Rattle.plan.specs.Held.{facts-in}
+use Rattle.keys.proofs.Keys.{fact-injective}
 
 getD-map : {A B : Type 0} (f : A → B) (l : List A) (i : ℕ) (d : B) (e : A) → i < length l → getD (map f l) i d ≡ f (getD l i e)
 getD-map f [] i d e h = absurd (omega arith)

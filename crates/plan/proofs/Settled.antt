@@ -8,11 +8,11 @@ use native.Mathlib.Omega.{arith}
 use lib.Dec.{ltb}
 use lib.ListN.{length}
 use borrow.Author.Tests.{lt-ltb, le-ltb, ltb-true, ltb-false}
-use Rattle.plan.specs.Plan.{Fact, hops, line-from, place, listed, add}
-use Rattle.plan.specs.Cases.{lt-or-le}
-use Rattle.plan.specs.Places.{place-line}
-use Rattle.plan.specs.Lines.{listed-old, listed-new, add-none, add-listed}
-use Rattle.plan.specs.Kept.{Ordered}
+use Rattle.knowledge.specs.Plan.{Fact, hops, line-from, place, listed, add}
+use Rattle.knowledge.specs.Cases.{lt-or-le}
+use Rattle.knowledge.specs.Places.{place-line}
+use Rattle.knowledge.specs.Lines.{listed-old, listed-new, add-none, add-listed}
+use Rattle.knowledge.specs.Kept.{Ordered}
 use Rattle.plan.specs.Held.{settled, index, found, need-index}
 use Rattle.plan.specs.declared.Found.the-variants.{At, Nothing}
 

@@ -2,41 +2,19 @@
 use mathlib.Core.Path.{_≡_}
 use mathlib.Core.Bool.{Bool, true, false, _||_}
 use mathlib.Core.List.{List, map}
-use Prim.Native.Nat.{ℕ, _/_, _%_, _≤_, _<_}
-use lib.Dec.{eqb, ltb}
+use Prim.Native.Nat.{ℕ, _≤_, _<_}
+use lib.Dec.{ltb}
 use lib.ListN.{length, getD, take}
-use Rattle.chain.specs.Word.{unpack}
-use Rattle.plan.specs.Plan.{Fact, back, read, hops, line-from, front as frontOf, rest as restOf, back-need, read-need, round, place, listed, last-round, line}
-use Rattle.plan.specs.Lines.{Next}
-use Rattle.plan.specs.Kept.{Ordered}
+use Rattle.knowledge.specs.Plan.{Fact, hops, line-from, back-need, read-need, round, place, listed, last-round, line}
+use Rattle.knowledge.specs.Lines.{Next}
+use Rattle.knowledge.specs.Kept.{Ordered}
+use Rattle.keys.specs.Keys.{fact-of, NeedsOf}
 use Rattle.plan.specs.declared.Plan.{Plan}
 use Rattle.plan.specs.declared.Added.{Added}
 use Rattle.plan.specs.declared.Line.{Line}
 use Rattle.plan.specs.declared.Found.{Found}
 use Rattle.plan.specs.declared.Found.the-variants.{At, Nothing}
-use Rattle.plan.specs.declared.word.Halves.{Halves}
-use Rattle.plan.specs.declared.key.Needs.{Needs}
-use Rattle.plan.specs.declared.key.Kind.{Kind}
-use Rattle.plan.specs.declared.key.Kind.the-variants.{Back, Read}
-
--- the two parts of a word, packed
-pub record HalvesOf (w : List ℕ) (r : Halves) : Type 0 where
-  pub front-is : unpack (r .front) ≡ frontOf w
-  pub rest-is : unpack (r .rest) ≡ restOf w
-
--- the fact of a line's key: an even key is Back, an odd one Read, of the word that half of it packs
-unfoldable pub fact-of : ℕ → Fact
-fact-of k = elim (eqb (k % 2) 0) [ true ↦ back (unpack (k / 2)) | false ↦ read (unpack (k / 2)) ]
-
--- the kind of a fact
-abbrev pub kind : Fact → Kind
-kind (back w) = Back
-kind (read w) = Read
-
--- the keys of a fact's two needs
-pub record NeedsOf (f : Fact) (r : Needs) : Type 0 where
-  pub back-is : fact-of (r .back) ≡ back-need f
-  pub read-is : fact-of (r .read) ≡ read-need f
+use Rattle.keys.specs.declared.key.Needs.{Needs}
 
 -- the facts of the first n keys
 unfoldable pub facts-in : List ℕ → ℕ → List Fact

@@ -3,9 +3,10 @@ use mathlib.Core.Path.{_≡_}
 use mathlib.Core.List.{List, List·Memᴰ}
 use Prim.Native.Nat.{ℕ, _≤_, _<_}
 use lib.ListN.{length}
-use Rattle.plan.specs.Plan.{Fact, read, hops, line-from, back-need, read-need, round, last-round}
-use Rattle.plan.specs.Promise.{Wanted, longest}
-use Rattle.plan.specs.Held.{fact-of, facts, found, line-at}
+use Rattle.knowledge.specs.Plan.{Fact, read, hops, line-from, back-need, read-need, round, last-round}
+use Rattle.knowledge.specs.Promise.{Wanted, longest}
+use Rattle.keys.specs.Keys.{fact-of}
+use Rattle.plan.specs.Held.{facts, found, line-at}
 use Rattle.plan.specs.declared.Plan.{Plan}
 use Rattle.plan.specs.declared.Found.the-variants.{At}
 

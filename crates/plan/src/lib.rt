@@ -4,12 +4,12 @@ ghost use mathlib.Core.List.{[]};
 ghost use Prim.Native.Nat.{_≤_};
 ghost use lib.ListN.{length};
 ghost use Rattle.chain.specs.Word.{unpack};
-ghost use Rattle.plan.specs.Plan.{read};
+ghost use Rattle.knowledge.specs.Plan.{read};
 ghost use Rattle.plan.specs.Held.{facts-in, settled, found, Keyed, LastOf, Holds};
 
-pub mod key;
 pub mod lines;
-pub mod word;
+
+use keys::key;
 
 // At most 64 lines. Line i, from 0, has its key, its round, and the lines of its two needs, 64 where it needs none.
 pub struct Plan {

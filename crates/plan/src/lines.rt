@@ -3,11 +3,12 @@ ghost use mathlib.Core.Path.{_≡_};
 ghost use mathlib.Core.List.{[], _∷_, _++_};
 ghost use Prim.Native.Nat.{suc, _<_, max};
 ghost use lib.ListN.{length, getD};
-ghost use Rattle.plan.specs.Plan.{round as roundOf, place};
-ghost use Rattle.plan.specs.Held.{fact-of, facts-in, settled, index, first-line as firstLine, Keyed, Column, LineOf, Ready, Holds, plan-of as planOf, ExtendedTo};
+ghost use Rattle.knowledge.specs.Plan.{round as roundOf, place};
+ghost use Rattle.keys.specs.Keys.{fact-of};
+ghost use Rattle.plan.specs.Held.{facts-in, settled, index, first-line as firstLine, Keyed, Column, LineOf, Ready, Holds, plan-of as planOf, ExtendedTo};
 use crate::Line;
-use crate::key::Needs;
-use crate::key::has_line;
+use keys::key::Needs;
+use keys::key::has_line;
 
 // The line of a need that has none.
 const NO_LINE: u8 = 64;

@@ -2,12 +2,13 @@
 ghost use Prim.Native.Nat.{_≤_};
 ghost use lib.ListN.{length};
 ghost use Rattle.chain.specs.Word.{unpack};
-ghost use Rattle.plan.specs.Plan.{read, hops, add as addOf};
-ghost use Rattle.plan.specs.Held.{fact-of, facts-in, facts, Holds, plan-of as planOf, ExtendedTo, AddedTo};
+ghost use Rattle.knowledge.specs.Plan.{read, hops, add as addOf};
+ghost use Rattle.keys.specs.Keys.{fact-of};
+ghost use Rattle.plan.specs.Held.{facts-in, facts, Holds, plan-of as planOf, ExtendedTo, AddedTo};
+use keys::key;
+use keys::key::ONE_HOP;
 use plan::Added;
 use plan::Plan;
-use plan::key;
-use plan::key::ONE_HOP;
 use plan::lines;
 
 // The plan with the lines of a reading behind its own, or as it was where a 65th line would be needed.

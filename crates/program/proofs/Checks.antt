@@ -11,7 +11,7 @@ use Rattle.register.specs.Load.{load, refusalNumber}
 use Rattle.register.specs.declared.Sizes.{Sizes}
 use Rattle.register.specs.declared.Refusal.{Refusal}
 use Rattle.register.specs.declared.Refusal.the-variants.{Length, SizeLimit, Mark, MissingValue, Reference}
-use Rattle.plan.specs.Plan.{Fact, round, line, result}
+use Rattle.knowledge.specs.Plan.{Fact, round, line, result}
 use Rattle.plan.specs.Held.{Holds}
 use Rattle.plan.specs.declared.Plan.{Plan}
 use Rattle.plan.proofs.Adding.{holds-facts}

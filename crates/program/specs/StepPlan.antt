@@ -3,7 +3,7 @@ use Prim.Native.Nat.{ℕ}
 use mathlib.Core.Path.{_≡_}
 use mathlib.Core.List.{List, [], _∷_}
 use Rattle.register.specs.Outcome.{Outcome, done, unless}
-use Rattle.plan.specs.Plan.{Fact}
+use Rattle.knowledge.specs.Plan.{Fact}
 use Rattle.plan.specs.Held.{facts, Holds}
 use Rattle.plan.specs.declared.Plan.{Plan}
 use Rattle.rules.specs.Text.{Planned}

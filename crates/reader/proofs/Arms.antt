@@ -14,7 +14,7 @@ use Rattle.register.specs.declared.Sizes.{Sizes}
 use Rattle.integers.proofs.Bools.{and-both, true-false}
 use Rattle.chain.specs.Word.{unpack}
 use Rattle.chain.proofs.Packing.{unpack-none}
-use Rattle.plan.specs.Plan.{add-readings, plan}
+use Rattle.knowledge.specs.Plan.{add-readings, plan}
 use Rattle.plan.specs.Held.{facts, Keyed, Holds, Extended}
 use Rattle.plan.specs.declared.Plan.{Plan}
 use Rattle.plan.specs.declared.Added.{Added}

@@ -14,7 +14,7 @@ use Rattle.register.specs.Shape.{Limits}
 use Rattle.register.specs.Outcome.{Outcome, refused, unless, after}
 use Rattle.register.specs.Outcome as O
 use Rattle.register.specs.declared.Sizes.{Sizes}
-use Rattle.plan.specs.Plan.{add-readings, plan as planOf}
+use Rattle.knowledge.specs.Plan.{add-readings, plan as planOf}
 use Rattle.plan.specs.Held.{Holds, Extended}
 use Rattle.plan.specs.declared.Plan.{Plan}
 use Rattle.plan.proofs.Adding.{extended-same}

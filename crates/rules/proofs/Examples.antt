@@ -11,7 +11,7 @@ use Rattle.register.specs.declared.Sizes.{Sizes}
 use Rattle.integers.specs.Range.{inRange}
 use Rattle.chain_text.specs.Text as C
 use Rattle.chain_text.specs.Scan.{startsWith}
-use Rattle.plan.specs.Plan.{back, read, result, round, rounds, plan, add-readings, add, lines as planLines, listed, place, same as sameFact, same-word, tree, tree-within, half, doubled, front, rest}
+use Rattle.knowledge.specs.Plan.{back, read, result, round, rounds, plan, add-readings, add, lines as planLines, listed, place, same as sameFact, same-word, tree, tree-within, half, doubled, front, rest}
 use Rattle.syntax.specs.Numeral.{isDigit, digits, decimal, isNumeral, signedForm, numberForm, numberValue, signedValue}
 use Rattle.syntax.specs.Token.{capital, then, word, or, finished}
 use Rattle.syntax.specs.Term.{ofNumber, ofChain, termForm}

@@ -4,7 +4,7 @@ use mathlib.Core.Bool.{Bool, true, false, _||_}
 use mathlib.Core.List.{List, [], _∷_, _++_}
 use lib.IntN.{ℤ}
 use lib.ListN.{length}
-use Rattle.plan.specs.Plan.{Fact, plan}
+use Rattle.knowledge.specs.Plan.{Fact, plan}
 use Rattle.syntax.specs.Written.{Comparison}
 use Rattle.rules.specs.declared.around.Setting.{Setting}
 

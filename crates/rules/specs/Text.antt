@@ -10,7 +10,7 @@ use Rattle.register.specs.Outcome as O
 use Rattle.register.specs.Load.{load}
 use Rattle.register.specs.declared.Sizes.{Sizes}
 use Rattle.chain_text.specs.Text.{fieldOf, wordOf}
-use Rattle.plan.specs.Plan.{Fact, result}
+use Rattle.knowledge.specs.Plan.{Fact, result}
 use Rattle.syntax.specs.Numeral.{numberValue}
 use Rattle.syntax.specs.Written.{Term, chain, number, Condition, always, when, Action, set, sum, difference, least, total, Line, step, end, done, loop, rule}
 use Rattle.syntax.specs.Line.{lineForm}

@@ -8,7 +8,7 @@ use lib.ListN.{length}
 use Rattle.register.specs.Shape.{Valid}
 use Rattle.register.specs.declared.Sizes.{Sizes}
 use Rattle.register.specs.declared.cells.Cell.{Cell}
-use Rattle.plan.specs.Plan.{Fact, last-round}
+use Rattle.knowledge.specs.Plan.{Fact, last-round}
 use Rattle.rules.specs.Program.{Rule, Step, readings, stepPlan, hasRemote}
 use Rattle.rules.specs.Passed.{RulesPass}
 use Rattle.machine.specs.Remote.{recordMessages}

@@ -7,7 +7,7 @@ use native.Mathlib.Omega.{arith}
 use lib.ListN.{length, getD, take, drop, set, length-take}
 use lib.Seq.{getD-take, split-at}
 use Rattle.register.specs.declared.Sizes.{Sizes}
-use Rattle.plan.specs.Plan.{Fact}
+use Rattle.knowledge.specs.Plan.{Fact}
 use Rattle.actions.specs.declared.rule.Rule.{Rule}
 use Rattle.actions.specs.declared.rule.Rule.the-variants.{Set, Sum, Difference, Least, Total}
 use Rattle.actions.specs.declared.rule.Slot.{Slot}

@@ -7,8 +7,8 @@ use native.Mathlib.Omega.{arith}
 use Rattle.integers.proofs.Bools.{and-both}
 use Rattle.chain.specs.Word.{unpack}
 use Rattle.chain.proofs.Packing.{unpack-none}
-use Rattle.plan.specs.Plan.{Fact, read, add, add-readings, plan}
-use Rattle.plan.specs.Lines.{add-none, readings-append, plan-more, plan-length}
+use Rattle.knowledge.specs.Plan.{Fact, read, add, add-readings, plan}
+use Rattle.knowledge.specs.Lines.{add-none, readings-append, plan-more, plan-length}
 use Rattle.plan.specs.Held.{facts, settled, AddedTo}
 use Rattle.plan.specs.declared.Added.{Added}
 use Rattle.plan.proofs.Adding.{holds-facts, extended-holds, extended-more, added-plan}

@@ -5,7 +5,7 @@ use mathlib.Core.Bool.{Bool, false, _&&_}
 use mathlib.Core.List.{List, [], _∷_, _++_}
 use lib.ListN.{length}
 use Rattle.chain.specs.Word.{unpack}
-use Rattle.plan.specs.Plan.{Fact, read, plan}
+use Rattle.knowledge.specs.Plan.{Fact, read, plan}
 use Rattle.plan.specs.Held.{facts, settled, Holds, Extended}
 use Rattle.plan.specs.declared.Added.{Added}
 use Rattle.terms.specs.declared.term.Term.{Term}

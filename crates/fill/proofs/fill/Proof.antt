@@ -10,9 +10,10 @@ use borrow.Author.Needs.{needs}
 use lib.ListN.{length, getD}
 use denote.Ref.{now}
 use Rattle.register.specs.Cells.{cellsOf}
-use Rattle.plan.specs.Plan.{word, line}
-use Rattle.plan.specs.Held.{fact-of, facts-in}
-use Rattle.plan.specs.declared.key.Kind.{Kind}
+use Rattle.knowledge.specs.Plan.{word, line}
+use Rattle.keys.specs.Keys.{fact-of}
+use Rattle.plan.specs.Held.{facts-in}
+use Rattle.keys.specs.declared.key.Kind.{Kind}
 use Rattle.plan.proofs.Search.{facts-length}
 use Rattle.fill.specs.Filled.{Filled}
 use Rattle.fill.proofs.Filling.{factOf, line-by-key, plan-none, plan-back, plan-read}

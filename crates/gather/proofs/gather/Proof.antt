@@ -6,7 +6,7 @@ use borrow.Author.Needs.{needs}
 use denote.Ref.{now}
 use Rattle.register.specs.File.{cellsOfFile}
 use Rattle.register.proofs.Loading.{file-parts}
-use Rattle.plan.specs.Plan.{last-round}
+use Rattle.knowledge.specs.Plan.{last-round}
 use Rattle.plan.specs.Held.{facts-in}
 use Rattle.rules.specs.Program.{stepPlan}
 use Rattle.fill.specs.Filled.{FollowLines}

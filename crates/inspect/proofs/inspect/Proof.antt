@@ -13,7 +13,7 @@ use Rattle.register.specs.File.{sizesOf}
 use Rattle.register.specs.declared.Sizes.{Sizes}
 use Rattle.register.proofs.Bounds.{limits}
 use Rattle.register.proofs.Roundtrip.{Bytes, cells-valid}
-use Rattle.plan.specs.Plan.{Fact}
+use Rattle.knowledge.specs.Plan.{Fact}
 use Rattle.plan.proofs.Appending.{holds-count}
 use Rattle.rules.specs.declared.around.Setting.the-variants.{Single}
 use Rattle.rules.specs.Program.{mostLines}

@@ -4,7 +4,7 @@ use mathlib.Core.Path.{_≡_}
 use native.Mathlib.Omega.{arith}
 use borrow.Author.Needs.{needs}
 use denote.Ref.{now}
-use Rattle.plan.specs.Plan.{last-round}
+use Rattle.knowledge.specs.Plan.{last-round}
 use Rattle.plan.specs.Held.{facts-in}
 use Rattle.messages.proofs.Planned.{planned-lines, planned-followable, planned-count, planned-rounds, planned-last}
 use Rattle.inspect.proofs.Showing.{parts-cells, parts-valid, shown}

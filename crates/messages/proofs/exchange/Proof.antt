@@ -9,7 +9,7 @@ use native.Mathlib.Omega.{arith}
 use denote.Ref.{now}
 use lib.ListN.{length, getD}
 use Rattle.register.specs.Cells.{cellsOf}
-use Rattle.plan.specs.Plan.{round, line}
+use Rattle.knowledge.specs.Plan.{round, line}
 use Rattle.plan.specs.Held.{facts-in, facts, plan-of}
 use Rattle.plan.specs.declared.Plan.{Plan}
 use Rattle.messages.proofs.Counting.{line-below, round-below}

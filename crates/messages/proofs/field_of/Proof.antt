@@ -4,9 +4,9 @@ use mathlib.Core.Path.{_≡_, sym, ap, _∙_}
 use native.Mathlib.Omega.{arith}
 use borrow.Author.Needs.{needs}
 use Rattle.chain.specs.Word.{unpack}
-use Rattle.plan.specs.Plan.{word}
-use Rattle.plan.specs.Held.{fact-of}
-use Rattle.plan.proofs.Keys.{hops-long, hops-short}
+use Rattle.knowledge.specs.Plan.{word}
+use Rattle.keys.specs.Keys.{fact-of}
+use Rattle.keys.proofs.Keys.{hops-long, hops-short}
 use Rattle.message_machine.specs.Held.{needed}
 use Rattle.messages.proofs.Held.{needed-one, needed-rest}
 use Rattle.messages.proofs.Sending.{field-some, field-is}

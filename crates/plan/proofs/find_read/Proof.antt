@@ -4,7 +4,7 @@ use mathlib.Core.Path.{_≡_, sym, ap, _∙_}
 use native.Mathlib.Omega.{arith}
 use denote.Ref.{now}
 use Rattle.chain.specs.Word.{unpack}
-use Rattle.plan.specs.Plan.{read, place}
+use Rattle.knowledge.specs.Plan.{read, place}
 use Rattle.plan.specs.Held.{facts-in}
 use Rattle.plan.specs.declared.Found.the-variants.{At}
 use Rattle.plan.proofs.Search.{facts-length}

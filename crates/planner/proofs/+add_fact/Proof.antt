@@ -8,17 +8,18 @@ use borrow.Author.Tests.{lt-ltb, le-ltb}
 use borrow.Fn.Kinds.{In}
 use borrow.Fn.PlainCycle.{Measures, is, falls, and}
 use denote.Ref.{now}
-use Rattle.plan.specs.Plan.{Fact, hops, back-need, read-need, add}
-use Rattle.plan.specs.Held.{fact-of, facts-in, Holds, plan-of, ExtendedTo}
+use Rattle.knowledge.specs.Plan.{Fact, hops, back-need, read-need, add}
+use Rattle.keys.specs.Keys.{fact-of}
+use Rattle.plan.specs.Held.{facts-in, Holds, plan-of, ExtendedTo}
 use Rattle.plan.specs.declared.Plan.{Plan}
-use Rattle.plan.proofs.Keys.{hops-short, hops-long}
+use Rattle.keys.proofs.Keys.{hops-short, hops-long}
 use Rattle.plan.proofs.Settled.{unsettled-line, unsettled-new}
 use Rattle.plan.proofs.Appending.{line-one}
 use Rattle.plan.proofs.Adding.{holds-facts, extended-holds, extended-settled, extended-as, needs-shorter, NewOne, NewBoth, one-next, one-done, back-full, read-full, both-next, both-done}
 use Rattle.planner.proofs.add_fact.Reads as add-fact
 use Rattle.planner.proofs.add_fact.Kinds as add-fact-kinds
 use Rattle.planner.proofs.+add_fact.Lts-add_fact as add-fact-lts
-use Rattle.plan.proofs.key.needs_of.Reads as needs-of-reads
+use Rattle.keys.proofs.key.needs_of.Reads as needs-of-reads
 use Rattle.plan.proofs.lines.append.Reads as append-reads
 use Rattle.plan.proofs.lines.first_line.Reads as first-line-reads
 use Rattle.plan.proofs.lines.is_settled.Reads as is-settled-reads

@@ -2,7 +2,7 @@
 -- Assumes nothing.
 use borrow.Author.Tests.{lt-ltb, le-ltb}
 use Rattle.chain.specs.Word.{unpack}
-use Rattle.plan.specs.Plan.{read, add}
+use Rattle.knowledge.specs.Plan.{read, add}
 use Rattle.plan.specs.Held.{facts, plan-of, ExtendedTo}
 use Rattle.plan.proofs.Adding.{added-full, added-held}
 use borrow.Author.Needs.{needs}

@@ -3,10 +3,10 @@
 use Prim.Native.Nat.{ℕ}
 use mathlib.Core.Path.{_≡_, refl, sym, ap, _∙_}
 use borrow.Author.Needs.{needs}
-use Rattle.plan.specs.Plan.{Fact, back, read}
-use Rattle.plan.specs.Held.{kind}
-use Rattle.plan.specs.declared.key.Kind.{Kind}
-use Rattle.plan.specs.declared.key.Kind.the-variants.{Back, Read}
+use Rattle.knowledge.specs.Plan.{Fact, back, read}
+use Rattle.keys.specs.Keys.{kind}
+use Rattle.keys.specs.declared.key.Kind.{Kind}
+use Rattle.keys.specs.declared.key.Kind.the-variants.{Back, Read}
 use Rattle.answers.specs.PlanArrays.{kindNumber}
 use Rattle.answers.proofs.plan_arrays.kind_number.Statement.{statement}
 use Rattle.answers.proofs.plan_arrays.kind_number.Tie as tie

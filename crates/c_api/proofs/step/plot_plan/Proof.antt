@@ -4,7 +4,7 @@ use Prim.Native.Nat.{ℕ}
 use mathlib.Core.Path.{refl, sym, ap₂, _∙_}
 use mathlib.Core.List.{[], _∷_}
 use lib.ListN.{length-map}
-use Rattle.plan.specs.Plan.{Fact, round}
+use Rattle.knowledge.specs.Plan.{Fact, round}
 use Rattle.plan.specs.Held.{facts}
 use Rattle.plan.proofs.Appending.{holds-count}
 use Rattle.program.proofs.Checks.{holds-lines, planned-answer, refused-answer}

@@ -1,7 +1,7 @@
 -- `plan::lines::append` meets its contract.
 -- Assumes nothing.
 use native.Mathlib.Omega.{arith}
-use Rattle.plan.specs.Held.{fact-of}
+use Rattle.keys.specs.Keys.{fact-of}
 use Rattle.plan.proofs.Appending.{extended-full, extended-append}
 use borrow.Author.Needs.{needs}
 use Rattle.plan.proofs.lines.append.Statement.{statement}

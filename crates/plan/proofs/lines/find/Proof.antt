@@ -2,8 +2,9 @@
 -- Assumes nothing.
 use Prim.Native.Nat.{_-_, _≤_}
 use native.Mathlib.Omega.{arith}
-use Rattle.plan.specs.Plan.{place}
-use Rattle.plan.specs.Held.{fact-of, facts-in}
+use Rattle.knowledge.specs.Plan.{place}
+use Rattle.keys.specs.Keys.{fact-of}
+use Rattle.plan.specs.Held.{facts-in}
 use Rattle.plan.proofs.Search.{search-found, search-past, search-ended}
 use Rattle.plan.proofs.lines.find.Statement.{statement}
 use Rattle.plan.proofs.lines.find.Tie as tie

@@ -1,0 +1,2 @@
+-- The keys of lines, which pack facts in numbers.
+pub mod Keys
