@@ -26,8 +26,8 @@ use Rattle.actions.specs.declared.rule.Rule.{Rule}
 use Rattle.actions.specs.declared.rule.Rule.the-variants.{Set}
 use Rattle.terms.specs.declared.term.TermParts.{TermParts}
 use Rattle.syntax.proofs.Tokens.{word-begins, capital-is}
-use Rattle.terms.proofs.Words.{Taken}
-use Rattle.terms.proofs.Numbers.{and-one}
+use Rattle.tokens.proofs.Words.{Taken}
+use Rattle.tokens.proofs.Numbers.{and-one}
 use Rattle.terms.proofs.Answers.{TermTaken}
 
 -- a field letter at a place of the line

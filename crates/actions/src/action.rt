@@ -18,8 +18,8 @@ use terms::term;
 use terms::term::Checks;
 use terms::term::TermParts;
 use terms::term::TermRead;
-use terms::token;
-use terms::token::Place;
+use tokens::token;
+use tokens::token::Place;
 
 // A rule and what 9 to 12 ask of it; or none stands there.
 pub enum ActionRead {

@@ -30,7 +30,7 @@ use Rattle.actions.specs.declared.rule.Comparison.the-variants.{Less, Equal, Un
 use Rattle.lines.specs.declared.line.ComparisonRead.the-variants.{At, NoForm as NoComparison}
 use Rattle.lines.specs.declared.line.LineRead.the-variants.{Step, End, Done, Loop, Rule, NoForm as NoLine}
 use Rattle.syntax.proofs.Tokens.{word-begins}
-use Rattle.terms.proofs.Words.{Taken, begins-text}
+use Rattle.tokens.proofs.Words.{Taken, begins-text}
 use Rattle.terms.proofs.Answers.{TermTaken}
 use Rattle.actions.proofs.Actions.{Lettered, or-none, word-refused, word-taken, or-word, finished-end, finished-more, checks-two}
 

@@ -19,8 +19,8 @@ use terms::term;
 use terms::term::Checks;
 use terms::term::TermParts;
 use terms::term::TermRead;
-use terms::token;
-use terms::token::Place;
+use tokens::token;
+use tokens::token::Place;
 
 // A test and what 9 to 12 ask of it.
 pub struct TestParts {

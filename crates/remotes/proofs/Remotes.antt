@@ -29,7 +29,7 @@ use Rattle.remotes.specs.declared.remote.Target.{Target}
 use Rattle.remotes.specs.declared.remote.TargetRead.the-variants.{At, NoForm as NoTarget}
 use Rattle.actions.specs.declared.rule.Rule.the-variants.{Least, Total}
 use Rattle.terms.specs.declared.term.TermParts.{TermParts}
-use Rattle.terms.proofs.Words.{Taken, begins-text}
+use Rattle.tokens.proofs.Words.{Taken, begins-text}
 use Rattle.terms.proofs.Answers.{chain-parts, reference-first}
 use Rattle.actions.proofs.Actions.{Last, made-none, made-some, checks-two, word-refused, or-word}
 

@@ -21,8 +21,8 @@ use register::Sizes;
 use terms::term;
 use terms::term::Checks;
 use terms::term::TermParts;
-use terms::token;
-use terms::token::Place;
+use tokens::token;
+use tokens::token::Place;
 
 // `F[C]` of a remote rule: F by its letter, C packed, whether C is a reference, and what 9 to 12 ask of C.
 pub struct Target {

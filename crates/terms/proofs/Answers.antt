@@ -23,11 +23,12 @@ use Rattle.syntax.specs.Written as W
 use Rattle.syntax.specs.Token.{Token, token, other}
 use Rattle.syntax.specs.Term.{ofNumber, ofChain, termForm, printedTerm}
 use Rattle.syntax.specs.Parts.{isReferenceTerm, termNamed, termKinded, termShort, termInRange}
-use Rattle.terms.specs.Read.{numberRead, plainNumber, plainParts, numberParts, numberTerm, termOf, termChecks, partsOf, termRead, chainParts}
+use Rattle.tokens.specs.Tokens.{numberRead}
+use Rattle.terms.specs.Read.{plainNumber, plainParts, numberParts, numberTerm, termOf, termChecks, partsOf, termRead, chainParts}
 use Rattle.terms.specs.declared.term.TermParts.{TermParts}
 use Rattle.terms.specs.declared.term.TermRead.{TermRead}
 use Rattle.terms.specs.declared.term.TermRead.the-variants.{Parts, NoForm as NoTerm}
-use Rattle.terms.proofs.Numbers.{capped-range}
+use Rattle.tokens.proofs.Numbers.{capped-range}
 use Rattle.syntax.proofs.Terms.{term-spelled}
 
 -- the cases of `termForm`

@@ -1,2 +1,2 @@
--- What the readers of words, numbers and terms answer.
+-- What the reader of terms answers.
 pub mod Read

@@ -1,7 +1,6 @@
--- What the readers of words, numbers and terms answer for the text from a place on.
+-- What the reader of terms answers for the text from a place on.
 use Prim.Native.Nat.{ℕ, _+_}
-use mathlib.Core.Path.{_≡_}
-use mathlib.Core.Bool.{Bool, true, false, cond, not, _||_}
+use mathlib.Core.Bool.{Bool, true, false, not, _||_}
 use mathlib.Core.List.{List}
 use lib.Dec.{ltb}
 use lib.IntN.{ℤ, pos}
@@ -13,41 +12,19 @@ use Rattle.integers.specs.declared.Sum.the-variants.{InRange, OutOfRange}
 use Rattle.chain.specs.Word.{pack}
 use Rattle.chain_text.specs.Text.{wordOf}
 use Rattle.chain_text.specs.declared.letters.Letters.{Letters}
-use Rattle.syntax.specs.Numeral.{digits, decimal, capped, NumberForm, number, unformed, printedNumber, numberValue, cappedValue}
+use Rattle.syntax.specs.Numeral.{numberValue}
 use Rattle.syntax.specs.Written as W
-use Rattle.syntax.specs.Token.{Token, token, other, begins}
+use Rattle.syntax.specs.Token.{Token, token, other}
 use Rattle.syntax.specs.Term.{printedTerm}
 use Rattle.syntax.specs.Parts.{termNamed, termKinded, termShort, termInRange, isReferenceTerm}
-use Rattle.terms.specs.declared.token.Place.{Place}
-use Rattle.terms.specs.declared.token.Place.the-variants.{At, Nothing}
-use Rattle.terms.specs.declared.numeral.Digits.{Digits}
-use Rattle.terms.specs.declared.numeral.NumberRead.{NumberRead}
-use Rattle.terms.specs.declared.numeral.NumberRead.the-variants.{Number, NoForm}
+use Rattle.tokens.specs.declared.numeral.NumberRead.{NumberRead}
+use Rattle.tokens.specs.declared.numeral.NumberRead.the-variants.{Number, NoForm}
 use Rattle.terms.specs.declared.term.Term.{Term}
 use Rattle.terms.specs.declared.term.Term.the-variants.{Chain as PackedChain, Number as PlainNumber}
 use Rattle.terms.specs.declared.term.Checks.{Checks}
 use Rattle.terms.specs.declared.term.TermParts.{TermParts}
 use Rattle.terms.specs.declared.term.TermRead.{TermRead}
 use Rattle.terms.specs.declared.term.TermRead.the-variants.{Parts, NoForm as NoTerm}
-
--- the place behind a word that stands at `at`
-unfoldable pub literalRead : ℕ → List ℕ → List ℕ → Place
-literalRead at w t = cond (begins w t) (At (at + length w)) Nothing
-
--- the digits that a text t begins with, read from `at` on
-pub record ReadsDigits (at : ℕ) (t : List ℕ) (d : Digits) : Type 0 where
-  pub value-is : d .value ≡ capped (decimal 0 (digits t))
-  pub end-is : d .end ≡ at + length (digits t)
-
--- the answer for a number whose digits stand from `at` on
-unfoldable pub digitsRead : ℕ → NumberForm → NumberRead
-digitsRead at unformed = NoForm
-digitsRead at (number negative ds rest) = Number (cappedValue negative ds) (at + length ds)
-
--- the answer for a number whose text stands from `at` on
-unfoldable pub numberRead : ℕ → NumberForm → NumberRead
-numberRead at unformed = NoForm
-numberRead at (number negative ds rest) = Number (cappedValue negative ds) (at + length (printedNumber negative ds))
 
 -- what 9 to 12 ask of a term
 unfoldable pub termChecks : Sizes → W.Term → Checks

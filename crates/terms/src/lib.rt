@@ -1,4 +1,2 @@
-// The words, numbers and terms of a line, read from a place of it on.
-pub mod numeral;
+// The terms of a line, read from a place of it on.
 pub mod term;
-pub mod token;

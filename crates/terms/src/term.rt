@@ -6,13 +6,13 @@ ghost use Rattle.register.specs.Shape.{Limits};
 ghost use Rattle.integers.specs.Range.{sumOf};
 ghost use Rattle.syntax.specs.Term.{termForm};
 ghost use Rattle.terms.specs.Read.{chainParts, plainParts, numberParts, numberTerm, termRead};
-use crate::numeral;
-use crate::numeral::NumberRead;
 use chain_text::letters::Letters;
 use chain_text::text;
 use chain_text::text::Scanned;
 use integers::Sum;
 use register::Sizes;
+use tokens::numeral;
+use tokens::numeral::NumberRead;
 
 // "A term X or Y is a chain or a number": a chain packed into one number, or a plain number.
 pub enum Term {

@@ -3,7 +3,7 @@
 use mathlib.Core.Path.{sym, _∙_}
 use borrow.Author.Needs.{needs}
 use denote.Ref.{now}
-use Rattle.terms.proofs.Words.{literal-taken, literal-refused, Taken}
+use Rattle.tokens.proofs.Words.{literal-taken, literal-refused, Taken}
 use Rattle.terms.proofs.Answers.{term-taken, term-refused, TermTaken}
 use Rattle.actions.proofs.Actions.{last-no-word, last-no-term, last-goes-on, last-term}
 use Rattle.actions.proofs.action.read_last.Statement.{statement}

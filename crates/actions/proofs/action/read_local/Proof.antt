@@ -6,7 +6,7 @@ use borrow.Author.Needs.{needs}
 use denote.Ref.{now}
 use Rattle.syntax.specs.Bytes.{bytes}
 use Rattle.actions.specs.ActionRead.{actionRead}
-use Rattle.terms.proofs.Words.{literal-taken, literal-refused, Taken}
+use Rattle.tokens.proofs.Words.{literal-taken, literal-refused, Taken}
 use Rattle.terms.proofs.Answers.{term-taken, term-refused, TermTaken}
 use Rattle.actions.proofs.Actions.{letter-taken, letter-refused, local-no-letter, local-no-word, local-no-term, local-term, Lettered}
 use Rattle.actions.proofs.action.read_local.Statement.{statement}

@@ -3,7 +3,7 @@
 use mathlib.Core.Path.{sym, _∙_}
 use native.Mathlib.Omega.{arith}
 use borrow.Author.Needs.{needs}
-use Rattle.terms.proofs.Words.{literal-taken, literal-refused}
+use Rattle.tokens.proofs.Words.{literal-taken, literal-refused}
 use Rattle.lines.proofs.Reading.{word-not, word-whole}
 use Rattle.lines.proofs.line.is_word.Statement.{statement}
 use Rattle.lines.proofs.line.is_word.Tie as tie

@@ -7,7 +7,7 @@ use Rattle.syntax.specs.Bytes.{bytes}
 use Rattle.syntax.specs.Written as W
 use Rattle.lines.specs.LineRead.{lineRead}
 use Rattle.actions.specs.ActionRead.{written}
-use Rattle.terms.proofs.Words.{literal-taken, literal-refused, Taken}
+use Rattle.tokens.proofs.Words.{literal-taken, literal-refused, Taken}
 use Rattle.terms.proofs.Answers.{term-taken, term-refused, TermTaken}
 use Rattle.lines.proofs.Reading.{when-parts, rule-read, compared-no-term, compared-no-colon, compared-rule}
 use Rattle.lines.proofs.line.read_compared.Statement.{statement}

@@ -2,7 +2,7 @@
 -- Assumes nothing.
 use mathlib.Core.Path.{sym, _∙_}
 use borrow.Author.Needs.{needs}
-use Rattle.terms.proofs.Words.{literal-taken, literal-refused}
+use Rattle.tokens.proofs.Words.{literal-taken, literal-refused}
 use Rattle.lines.proofs.Reading.{less-none, less-some}
 use Rattle.lines.proofs.line.read_comparison.Statement.{statement}
 use Rattle.lines.proofs.line.read_comparison.Tie as tie

@@ -6,7 +6,7 @@ use borrow.Author.Needs.{needs}
 use denote.Ref.{now}
 use Rattle.syntax.specs.Bytes.{bytes}
 use Rattle.lines.specs.LineRead.{lineRead}
-use Rattle.terms.proofs.Words.{literal-taken, literal-refused, Taken}
+use Rattle.tokens.proofs.Words.{literal-taken, literal-refused, Taken}
 use Rattle.lines.proofs.Reading.{open-ruled, open-loop}
 use Rattle.lines.proofs.line.read_open.Statement.{statement}
 use Rattle.lines.proofs.line.read_open.Tie as tie

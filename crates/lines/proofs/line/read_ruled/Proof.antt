@@ -7,7 +7,7 @@ use denote.Ref.{now}
 use Rattle.syntax.specs.Bytes.{bytes}
 use Rattle.syntax.specs.Written as W
 use Rattle.lines.specs.LineRead.{lineRead}
-use Rattle.terms.proofs.Words.{literal-taken, literal-refused, Taken}
+use Rattle.tokens.proofs.Words.{literal-taken, literal-refused, Taken}
 use Rattle.lines.proofs.Reading.{rule-read, always-parts, ruled-plain, ruled-tested}
 use Rattle.lines.proofs.line.read_ruled.Statement.{statement}
 use Rattle.lines.proofs.line.read_ruled.Tie as tie

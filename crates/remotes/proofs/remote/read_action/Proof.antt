@@ -5,7 +5,7 @@ use borrow.Author.Needs.{needs}
 use denote.Ref.{now}
 use Rattle.syntax.specs.Bytes.{bytes}
 use Rattle.actions.specs.ActionRead.{actionRead}
-use Rattle.terms.proofs.Words.{literal-taken, literal-refused, Taken}
+use Rattle.tokens.proofs.Words.{literal-taken, literal-refused, Taken}
 use Rattle.remotes.proofs.Remotes.{target-taken, target-refused, action-local, action-no-target, action-sent, Targeted}
 use Rattle.remotes.proofs.remote.read_action.Statement.{statement}
 use Rattle.remotes.proofs.remote.read_action.Tie as tie

@@ -1,4 +1,4 @@
--- `terms::numeral::digits_at` meets its contract. The loop's invariant: what is left of the digits comes to the same as the whole.
+-- `tokens::numeral::digits_at` meets its contract. The loop's invariant: what is left of the digits comes to the same as the whole.
 -- Assumes nothing.
 use Prim.Native.Nat.{_-_, _<_}
 use mathlib.Core.Path.{_≡_, refl, sym, _∙_}
@@ -9,8 +9,8 @@ use denote.Ref.{now}
 use Rattle.syntax.specs.Numeral.{isDigit, startsDigit}
 use Rattle.syntax.proofs.Spans.{starts-inside, starts-here}
 use Rattle.syntax.proofs.Digits.{Counted, counted-more, counted-end}
-use Rattle.terms.proofs.numeral.digits_at.Statement.{statement}
-use Rattle.terms.proofs.numeral.digits_at.Tie as tie
+use Rattle.tokens.proofs.numeral.digits_at.Statement.{statement}
+use Rattle.tokens.proofs.numeral.digits_at.Tie as tie
 
 abbrev Inv-loop : tie.InvT-loop
 Inv-loop text at value₀ i₀ value i = Counted at text value i

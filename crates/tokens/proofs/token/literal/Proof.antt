@@ -1,4 +1,4 @@
--- `terms::token::literal` meets its contract. The loop's invariant: what is left of the word decides the whole.
+-- `tokens::token::literal` meets its contract. The loop's invariant: what is left of the word decides the whole.
 -- Assumes nothing.
 use Prim.Native.Nat.{_-_, _+_}
 use mathlib.Core.Path.{_≡_, sym, _∙_}
@@ -9,9 +9,9 @@ use lib.ListN.{length, drop, getD}
 use denote.Ref.{now}
 use Rattle.chain_text.specs.Scan.{startsWith}
 use Rattle.chain_text.proofs.Scanning.{starts-inside}
-use Rattle.terms.proofs.Words.{Left, left-all, left-none, left-more, left-fails, literal-at, literal-nothing}
-use Rattle.terms.proofs.token.literal.Statement.{statement}
-use Rattle.terms.proofs.token.literal.Tie as tie
+use Rattle.tokens.proofs.Words.{Left, left-all, left-none, left-more, left-fails, literal-at, literal-nothing}
+use Rattle.tokens.proofs.token.literal.Statement.{statement}
+use Rattle.tokens.proofs.token.literal.Tie as tie
 
 abbrev Inv-loop : tie.InvT-loop
 Inv-loop text at word i₀ i = Left word text at i

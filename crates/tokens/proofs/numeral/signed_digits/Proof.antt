@@ -1,4 +1,4 @@
--- `terms::numeral::signed_digits` meets its contract: its two tests are those of a numeral.
+-- `tokens::numeral::signed_digits` meets its contract: its two tests are those of a numeral.
 -- Assumes nothing.
 use mathlib.Core.Path.{sym, ap, ap₂, _∙_}
 use mathlib.Core.Bool.{not}
@@ -7,11 +7,11 @@ use borrow.Author.Needs.{needs}
 use mir.Syntax.{w64}
 use mir.Facts.{toZ-ofZ}
 use Rattle.syntax.specs.Numeral.{signedValue}
-use Rattle.terms.specs.declared.numeral.NumberRead.the-variants.{Number}
+use Rattle.tokens.specs.declared.numeral.NumberRead.the-variants.{Number}
 use Rattle.syntax.proofs.Digits.{digits-inside, capped-bound}
-use Rattle.terms.proofs.Numbers.{numeral-at, read-empty, read-unformed, read-formed}
-use Rattle.terms.proofs.numeral.signed_digits.Statement.{statement}
-use Rattle.terms.proofs.numeral.signed_digits.Tie as tie
+use Rattle.tokens.proofs.Numbers.{numeral-at, read-empty, read-unformed, read-formed}
+use Rattle.tokens.proofs.numeral.signed_digits.Statement.{statement}
+use Rattle.tokens.proofs.numeral.signed_digits.Tie as tie
 
 digits-at-requires : tie.Need-digits-at-requires
 digits-at-requires c κs = search needs

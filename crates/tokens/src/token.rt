@@ -2,7 +2,7 @@
 ghost use mathlib.Core.Path.{_≡_};
 ghost use Prim.Native.Nat.{_≤_};
 ghost use lib.ListN.{length, drop};
-ghost use Rattle.terms.specs.Read.{literalRead};
+ghost use Rattle.tokens.specs.Tokens.{literalRead};
 use chain_text::text;
 
 // The place behind a word; or the word does not stand there.

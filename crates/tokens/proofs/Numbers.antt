@@ -18,8 +18,8 @@ use Rattle.integers.specs.declared.Sum.the-variants.{OutOfRange}
 use Rattle.chain_text.specs.Scan.{startsWith}
 use Rattle.chain_text.proofs.Scanning.{first-at}
 use Rattle.syntax.specs.Numeral.{isDigit, digits, decimal, isNumeral, number, unformed, signedForm, numberForm, printedNumber, signedValue, numberValue, capped, cappedValue}
-use Rattle.terms.specs.Read.{digitsRead, numberRead}
-use Rattle.terms.specs.declared.numeral.NumberRead.the-variants.{Number, NoForm}
+use Rattle.tokens.specs.Tokens.{digitsRead, numberRead}
+use Rattle.tokens.specs.declared.numeral.NumberRead.the-variants.{Number, NoForm}
 use Rattle.syntax.proofs.Digits.{capped-small, capped-large}
 
 -- the two cases of `signedForm`

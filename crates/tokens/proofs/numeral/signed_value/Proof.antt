@@ -1,4 +1,4 @@
--- `terms::numeral::signed_value` meets its contract: at 64 bits the value cannot leave its range.
+-- `tokens::numeral::signed_value` meets its contract: at 64 bits the value cannot leave its range.
 -- Assumes nothing.
 use mathlib.Core.Path.{sym, ap, _∙_}
 use mathlib.Core.Bool.{Bool, true}
@@ -6,9 +6,9 @@ use borrow.Author.Needs.{needs}
 use mir.Syntax.{w64}
 use mir.Facts.{toZ-ofZ}
 use Rattle.syntax.specs.Numeral.{signedValue}
-use Rattle.terms.proofs.Numbers.{signed-fits, minus-value, plain-value}
-use Rattle.terms.proofs.numeral.signed_value.Statement.{statement}
-use Rattle.terms.proofs.numeral.signed_value.Tie as tie
+use Rattle.tokens.proofs.Numbers.{signed-fits, minus-value, plain-value}
+use Rattle.tokens.proofs.numeral.signed_value.Statement.{statement}
+use Rattle.tokens.proofs.numeral.signed_value.Tie as tie
 
 cast-result : tie.Need-cast-result
 cast-result c = search needs

@@ -4,7 +4,7 @@ ghost use mathlib.Core.Bool.{true};
 ghost use Prim.Native.Nat.{_+_, _-_, _*_, _≤_};
 ghost use lib.ListN.{length, drop};
 ghost use Rattle.syntax.specs.Numeral.{isDigit, startsDigit, capped, signedValue, numberForm, signedForm};
-ghost use Rattle.terms.specs.Read.{ReadsDigits, digitsRead, numberRead};
+ghost use Rattle.tokens.specs.Tokens.{ReadsDigits, digitsRead, numberRead};
 use chain_text::text;
 
 fn is_digit(b: u8) -> bool

@@ -11,10 +11,10 @@ use lib.ListN.{length, getD, drop, length-append, length-drop}
 use lib.Seq.{drop-cons, drop-drop, drop-length}
 use Rattle.integers.proofs.Bools.{and-both, and-true, and-false, true-false}
 use Rattle.chain_text.specs.Scan.{startsWith}
-use Rattle.terms.specs.Read.{literalRead}
+use Rattle.tokens.specs.Tokens.{literalRead}
 use Rattle.syntax.specs.Token.{begins}
-use Rattle.terms.specs.declared.token.Place.{Place}
-use Rattle.terms.specs.declared.token.Place.the-variants.{At, Nothing}
+use Rattle.tokens.specs.declared.token.Place.{Place}
+use Rattle.tokens.specs.declared.token.Place.the-variants.{At, Nothing}
 
 -- a text that begins with a word is the word and something behind it
 pub begins-text : (w t : List ℕ) → begins w t ≡ true → t ≡ w ++ drop (length w) t

@@ -1,4 +1,4 @@
--- `terms::numeral::read_number` meets its contract.
+-- `tokens::numeral::read_number` meets its contract.
 -- Assumes nothing.
 use Prim.Native.Nat.{_+_, ℕ}
 use mathlib.Core.Path.{sym, ap, _∙_}
@@ -11,10 +11,10 @@ use lib.Seq.{drop-drop}
 use denote.Ref.{now}
 use Rattle.chain_text.proofs.Scanning.{starts-inside}
 use Rattle.syntax.specs.Numeral.{signedForm}
-use Rattle.terms.specs.Read.{digitsRead}
-use Rattle.terms.proofs.Numbers.{read-minus, read-plain}
-use Rattle.terms.proofs.numeral.read_number.Statement.{statement}
-use Rattle.terms.proofs.numeral.read_number.Tie as tie
+use Rattle.tokens.specs.Tokens.{digitsRead}
+use Rattle.tokens.proofs.Numbers.{read-minus, read-plain}
+use Rattle.tokens.proofs.numeral.read_number.Statement.{statement}
+use Rattle.tokens.proofs.numeral.read_number.Tie as tie
 
 starts-with-requires : tie.Need-starts-with-requires
 starts-with-requires c κs = search needs

@@ -1,9 +1,9 @@
--- `terms::numeral::is_digit` meets its contract.
+-- `tokens::numeral::is_digit` meets its contract.
 -- Assumes nothing.
 use mathlib.Core.Path.{refl}
 use Rattle.syntax.specs.Numeral.{isDigit}
-use Rattle.terms.proofs.numeral.is_digit.Statement.{statement}
-use Rattle.terms.proofs.numeral.is_digit.Tie as tie
+use Rattle.tokens.proofs.numeral.is_digit.Statement.{statement}
+use Rattle.tokens.proofs.numeral.is_digit.Tie as tie
 
 returns : tie.Need-returns
 unfolding isDigit

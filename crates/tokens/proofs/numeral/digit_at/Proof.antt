@@ -1,11 +1,11 @@
--- `terms::numeral::digit_at` meets its contract.
+-- `tokens::numeral::digit_at` meets its contract.
 -- Assumes nothing.
 use mathlib.Core.Path.{sym, _∙_}
 use borrow.Author.Needs.{needs}
 use Rattle.syntax.specs.Numeral.{isDigit}
 use Rattle.syntax.proofs.Spans.{starts-within, starts-past}
-use Rattle.terms.proofs.numeral.digit_at.Statement.{statement}
-use Rattle.terms.proofs.numeral.digit_at.Tie as tie
+use Rattle.tokens.proofs.numeral.digit_at.Statement.{statement}
+use Rattle.tokens.proofs.numeral.digit_at.Tie as tie
 
 returns : tie.Need-returns
 returns c = sym (starts-past isDigit _ _ (c .if1 .taken))

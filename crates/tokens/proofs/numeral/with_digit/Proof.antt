@@ -1,11 +1,11 @@
--- `terms::numeral::with_digit` meets its contract.
+-- `tokens::numeral::with_digit` meets its contract.
 -- Assumes nothing.
 use native.Mathlib.Omega.{arith}
 use borrow.Author.Needs.{needs}
 use Rattle.syntax.specs.Numeral.{capped}
 use Rattle.syntax.proofs.Digits.{digit-low}
-use Rattle.terms.proofs.numeral.with_digit.Statement.{statement}
-use Rattle.terms.proofs.numeral.with_digit.Tie as tie
+use Rattle.tokens.proofs.numeral.with_digit.Statement.{statement}
+use Rattle.tokens.proofs.numeral.with_digit.Tie as tie
 
 mul-next : tie.Need-mul-next
 mul-next c = search needs

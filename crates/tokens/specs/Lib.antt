@@ -1,0 +1,2 @@
+-- What the readers of words and numbers answer.
+pub mod Tokens
