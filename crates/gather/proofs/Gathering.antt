@@ -17,7 +17,7 @@ use Rattle.message_machine.specs.declared.Machine.the-variants.{Messages}
 use Rattle.fill.specs.Filled.{Filled}
 use Rattle.messages.specs.Exchanged.{ExchangedTo}
 use Rattle.messages.proofs.Counting.{plan-below}
-use Rattle.messages.proofs.Places.{stored-place, stored-fits}
+use Rattle.line_exchange.proofs.Places.{stored-place, stored-fits}
 use Rattle.gather.specs.Gathered.{GatheredBy}
 
 told-filled : {s : Sizes} {rs : List Rule} {cells : List Cell} {values values′ : List ℤ} {marks marks′ : List ℕ} {n : ℕ} → Valid s cells → RulesPass s rs

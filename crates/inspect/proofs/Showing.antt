@@ -17,8 +17,8 @@ use Rattle.knowledge.specs.Cases.{lt-or-le}
 use Rattle.message_machine.proofs.Settling.{held-settled, held-before}
 use Rattle.places.proofs.Placed.{kept-again}
 use Rattle.messages.specs.Exchanged.{ExchangedTo, Cleared}
-use Rattle.messages.proofs.Places.{stored-kept}
-use Rattle.messages.proofs.Writing.{place-before}
+use Rattle.line_exchange.proofs.Places.{stored-kept}
+use Rattle.line_exchange.proofs.Writing.{place-before}
 use Rattle.inspect.specs.Answer.{Shown}
 
 -- the parts of a register that the exchanges take

@@ -11,7 +11,7 @@ use Rattle.register.specs.declared.cells.Cell.{Cell}
 use Rattle.knowledge.specs.Plan.{Fact, line}
 use Rattle.message_machine.specs.Held.{heldAfter}
 use Rattle.places.specs.Places.{Kept}
-use Rattle.messages.specs.Written.{Stored}
+use Rattle.line_exchange.specs.Written.{Stored}
 use Rattle.inspect.specs.declared.InspectAnswer.{InspectAnswer}
 
 -- The lines l after round t: "Line i, from 0, and origin u have place i × n + u. It holds mark 1 exactly if that letter was sent

@@ -1,4 +1,4 @@
--- Messages counted: of a line, of a round, and of all rounds so far.
+-- Messages counted: of a round, and of all rounds so far.
 use Prim.Native.Nat.{ℕ, zero, suc, _+_, _*_, _≤_, _<_}
 use mathlib.Core.Path.{_≡_, refl, sym, ap, ap₂, _∙_}
 use mathlib.Core.Bool.{Bool, true, false, cond}
@@ -16,40 +16,9 @@ use Rattle.knowledge.specs.Plan.{Fact, round, line}
 use Rattle.knowledge.specs.Cases.{true-or-false}
 use Rattle.message_machine.specs.Held.{Held, heldAfter}
 use Rattle.message_machine.specs.Counts.{isSent, lineMessages, planMessages}
+use Rattle.line_exchange.proofs.Sent.{line-le, line-alike, line-missing}
 use Rattle.messages.specs.Exchanged.{roundMessages}
 use Rattle.message_machine.proofs.Settling.{held-same, held-before}
-
-pub sent-le : (c : Cell) → isSent c ≤ 1
-sent-le Missing = omega arith
-sent-le (Value z) = omega arith
-
--- a line
-pub line-nothing : (held : ℕ → Cell) → lineMessages held 0 ≡ 0
-unfolding lineMessages
-line-nothing held = refl
-
--- one more origin
-pub line-more : (held : ℕ → Cell) (n m k : ℕ) (c : Cell) → m ≡ lineMessages held n → k ≡ isSent c → c ≡ held n → m + k ≡ lineMessages held (n + 1)
-unfolding lineMessages
-line-more held n m k c so-far e is = rw add-one (ap₂ _+_ so-far (e ∙ ap isSent is))
-
-line-le : (held : ℕ → Cell) (n : ℕ) → lineMessages held n ≤ n
-unfolding lineMessages
-line-le held zero = omega arith
-line-le held (suc n) = omega (arith, line-le held n, sent-le (held n))
-
-pub line-below : (held : ℕ → Cell) (n m : ℕ) → m ≡ lineMessages held n → m ≤ n
-line-below held n m e = rw e (line-le held n)
-
-pub line-alike : (held other : ℕ → Cell) (n : ℕ) → ((u : ℕ) → u < n → held u ≡ other u) → lineMessages held n ≡ lineMessages other n
-unfolding lineMessages
-line-alike held other zero h = refl
-line-alike held other (suc n) h = ap₂ _+_ (line-alike held other n (λ u l. h u (omega arith))) (ap isSent (h n (omega arith)))
-
-line-missing : (held : ℕ → Cell) (n : ℕ) → ((u : ℕ) → held u ≡ Missing) → lineMessages held n ≡ 0
-unfolding lineMessages
-line-missing held zero h = refl
-line-missing held (suc n) h = simp (h n) (omega (arith, line-missing held n h))
 
 -- the lines of a round
 pub round-nothing : (held : Held) (t : ℕ) (l : List Fact) (n : ℕ) → roundMessages held t (take 0 l) n ≡ 0

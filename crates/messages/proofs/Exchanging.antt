@@ -18,12 +18,13 @@ use Rattle.knowledge.specs.Cases.{lt-or-le}
 use Rattle.message_machine.specs.Held.{heldAfter}
 use Rattle.places.specs.Places.{Kept}
 use Rattle.places.proofs.Placed.{kept-same, kept-again, kept-other}
-use Rattle.messages.specs.Written.{Stored, LineSent}
+use Rattle.line_exchange.specs.Written.{Stored, LineSent}
 use Rattle.messages.specs.Exchanged.{roundMessages, HeldTo, Exchanged, ExchangedTo, Cleared}
 use Rattle.message_machine.proofs.Settling.{held-same}
+use Rattle.line_exchange.proofs.Sent.{line-alike}
 use Rattle.messages.proofs.Counting as count
-use Rattle.messages.proofs.Places.{stored-kept, stored-set}
-use Rattle.messages.proofs.Writing.{place-before}
+use Rattle.line_exchange.proofs.Places.{stored-kept, stored-set}
+use Rattle.line_exchange.proofs.Writing.{place-before}
 use Rattle.messages.proofs.Sending.{Earlier}
 
 -- a line below k + 1 is below k, or is k
@@ -90,7 +91,7 @@ module _ (s : Sizes) (cells : List Cell) (l : List Fact) where
             behind = λ j h. kept-again (r .behind j (omega arith)) (g .behind j (omega arith));
             messages =
                 count.round-one (heldAfter s cells t) t l (s .records) k listed m (r .messages) q e
-                (g .messages ∙ count.line-alike message (heldAfter s cells t (line l k)) (s .records) is);
+                (g .messages ∙ line-alike message (heldAfter s cells t (line l k)) (s .records) is);
           }
 
   -- exchange t + 1, from what was held before it

@@ -1,8 +1,6 @@
 -- Laws for the proofs of the functions.
 pub mod Held
 pub mod Referring
-pub mod Places
-pub mod Writing
 pub mod Counting
 pub mod Sending
 pub mod Exchanging

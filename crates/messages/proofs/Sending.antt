@@ -27,12 +27,12 @@ use Rattle.keys.proofs.Words.{hops-none, hops-two}
 use Rattle.machine.proofs.Readable.{Follows, referring-readable, read-follows}
 use Rattle.message_machine.specs.Held.{knows, writer, needed, written, sent, heldAfter}
 use Rattle.messages.specs.Lines.{OneHop, Lines, Followable}
-use Rattle.messages.specs.Written.{knownAt, writerAt, writtenAt, messageAt, Before, LineHeld, ReadHeld, BackHeld, Stored}
+use Rattle.line_exchange.specs.Written.{knownAt, writerAt, writtenAt, messageAt, Before, LineHeld, ReadHeld, BackHeld, Stored}
 use Rattle.message_machine.proofs.Settling.{held-now}
 use Rattle.messages.proofs.Held.{knows-told, writer-one, writer-back, needed-one, needed-rest}
 use Rattle.messages.proofs.Referring.{held-refers}
-use Rattle.messages.proofs.Places.{stored-place, stored-fits}
-use Rattle.messages.proofs.Writing as w
+use Rattle.line_exchange.proofs.Places.{stored-place, stored-fits}
+use Rattle.line_exchange.proofs.Writing as w
 
 -- a fact with a line has something to know
 needed-some : (f : Fact) → line-from f ≤ hops f → 1 ≤ length (needed f)

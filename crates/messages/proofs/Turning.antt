@@ -15,7 +15,7 @@ use Rattle.plan.specs.Promised.{fact-at}
 use Rattle.plan.specs.declared.Plan.{Plan}
 use Rattle.message_machine.specs.Held.{heldAfter}
 use Rattle.messages.specs.Lines.{OneHop, Lines, PlanReady}
-use Rattle.messages.specs.Written.{messageAt, LineReady, LineSent}
+use Rattle.line_exchange.specs.Written.{messageAt, LineReady, LineSent}
 use Rattle.messages.specs.Exchanged.{HeldTo}
 use Rattle.messages.proofs.Sending.{Earlier, plan-count, plan-line, plan-round, back-before, read-before, back-held, read-held, message-sent}
 use Rattle.messages.proofs.Exchanging.{RoundSent, round-line, round-earlier}

@@ -14,7 +14,7 @@ use Rattle.knowledge.specs.Plan.{Fact, round, line}
 use Rattle.message_machine.specs.Held.{Held, heldAfter}
 use Rattle.message_machine.specs.Counts.{lineMessages, planMessages}
 use Rattle.places.specs.Places.{Kept}
-use Rattle.messages.specs.Written.{Stored}
+use Rattle.line_exchange.specs.Written.{Stored}
 
 -- the messages of exchange t: those of the lines of round t; "letters to oneself count"
 unfoldable pub roundMessages : Held → ℕ → List Fact → ℕ → ℕ

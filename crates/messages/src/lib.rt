@@ -11,11 +11,10 @@ ghost use Rattle.messages.specs.Lines.{OneHop, PlanReady};
 ghost use Rattle.messages.specs.Exchanged.{HeldTo, Exchanged, ExchangedTo, Cleared};
 use keys::key;
 use keys::key::ONE_HOP;
+use line_exchange;
 use places;
 use register::Sizes;
 use register::cells::Cell;
-
-pub mod line;
 
 // The field of the word that a line's writer has to know, where that has one hop.
 fn field_of(key: u64) -> usize
@@ -48,7 +47,7 @@ pub fn exchange(
     let mut sent = 0;
     for i in 0..count {
         if rounds[i] == t {
-            sent += line::exchange(
+            sent += line_exchange::exchange(
                 cells,
                 filled,
                 values,

@@ -12,7 +12,8 @@ use Rattle.register.specs.Cells.{cellsOf}
 use Rattle.knowledge.specs.Plan.{round, line}
 use Rattle.plan.specs.Held.{facts-in, facts, plan-of}
 use Rattle.plan.specs.declared.Plan.{Plan}
-use Rattle.messages.proofs.Counting.{line-below, round-below}
+use Rattle.line_exchange.proofs.Sent.{line-below}
+use Rattle.messages.proofs.Counting.{round-below}
 use Rattle.messages.proofs.Exchanging.{RoundSent, round-none, round-other, round-done}
 use Rattle.messages.proofs.Sending.{plan-count, plan-line, plan-round, back-le, read-le}
 use Rattle.messages.proofs.Turning.{turn-ready, turn-sent}

@@ -1,12 +1,12 @@
--- `messages::line::writer` meets its contract.
+-- `line_exchange::writer` meets its contract.
 -- Assumes nothing.
 use mathlib.Core.Path.{ap, _∙_}
 use native.Mathlib.Omega.{arith}
 use Rattle.integers.proofs.Complement.{kept}
 use Rattle.register.specs.declared.cells.Cell.the-variants.{Value}
-use Rattle.messages.proofs.Writing.{writer-own, writer-told}
-use Rattle.messages.proofs.line.writer.Statement.{statement}
-use Rattle.messages.proofs.line.writer.Tie as tie
+use Rattle.line_exchange.proofs.Writing.{writer-own, writer-told}
+use Rattle.line_exchange.proofs.writer.Statement.{statement}
+use Rattle.line_exchange.proofs.writer.Tie as tie
 
 of-index-requires : tie.Need-of-index-requires
 of-index-requires c κs = omega arith

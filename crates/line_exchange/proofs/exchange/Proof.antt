@@ -1,4 +1,4 @@
--- `messages::line::exchange` meets its contract. The loop's invariant: the messages for the origins passed stand at their places
+-- `line_exchange::exchange` meets its contract. The loop's invariant: the messages for the origins passed stand at their places
 -- and are counted.
 -- Assumes nothing.
 use Prim.Native.Nat.{ℕ, _-_, _≤_}
@@ -8,11 +8,11 @@ use borrow.Author.Needs.{needs}
 use denote.Ref.{now}
 use Rattle.register.specs.declared.cells.Cell.{Cell}
 use Rattle.register.specs.Cells.{cellsOf}
-use Rattle.messages.specs.Written.{messageAt, LineSent}
-use Rattle.messages.proofs.Writing.{read-kept, back-kept, message-kept, line-none, line-next}
-use Rattle.messages.proofs.Counting.{sent-le, line-below}
-use Rattle.messages.proofs.line.exchange.Statement.{statement}
-use Rattle.messages.proofs.line.exchange.Tie as tie
+use Rattle.line_exchange.specs.Written.{messageAt, LineSent}
+use Rattle.line_exchange.proofs.Writing.{read-kept, back-kept, message-kept, line-none, line-next}
+use Rattle.line_exchange.proofs.Sent.{sent-le, line-below}
+use Rattle.line_exchange.proofs.exchange.Statement.{statement}
+use Rattle.line_exchange.proofs.exchange.Tie as tie
 
 abbrev Inv-loop : tie.InvT-loop
 Inv-loop cells filled values₀ marks₀ sizes i back read field first sent₀ u₀ u-end values marks sent u =

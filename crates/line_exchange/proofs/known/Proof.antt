@@ -1,10 +1,10 @@
--- `messages::line::known` meets its contract.
+-- `line_exchange::known` meets its contract.
 -- Assumes nothing.
 use mathlib.Core.Path.{_∙_}
 use native.Mathlib.Omega.{arith}
-use Rattle.messages.proofs.Writing.{known-own, known-told}
-use Rattle.messages.proofs.line.known.Statement.{statement}
-use Rattle.messages.proofs.line.known.Tie as tie
+use Rattle.line_exchange.proofs.Writing.{known-own, known-told}
+use Rattle.line_exchange.proofs.known.Statement.{statement}
+use Rattle.line_exchange.proofs.known.Tie as tie
 
 cell-of-requires : tie.Need-cell-of-requires
 cell-of-requires c κs =

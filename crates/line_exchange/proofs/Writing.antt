@@ -26,9 +26,9 @@ use Rattle.machine.proofs.Direct.{own-refers}
 use Rattle.message_machine.specs.Counts.{isSent}
 use Rattle.places.specs.Places.{placeAt, Kept}
 use Rattle.places.proofs.Placed.{kept-same, kept-again, kept-other, placeAt-kept}
-use Rattle.messages.specs.Written.{knownAt, writerAt, writtenAt, messageAt, Before, LineHeld, ReadHeld, BackHeld, LineSent}
-use Rattle.messages.proofs.Counting.{line-nothing, line-more}
-use Rattle.messages.proofs.Places.{stored-kept, stored-set}
+use Rattle.line_exchange.specs.Written.{knownAt, writerAt, writtenAt, messageAt, Before, LineHeld, ReadHeld, BackHeld, LineSent}
+use Rattle.line_exchange.proofs.Sent.{line-nothing, line-more}
+use Rattle.line_exchange.proofs.Places.{stored-kept, stored-set}
 
 -- the number of a need's line: there is none, or one
 pub none-or-line : {P : Type 0} (j : ℕ) → (j ≡ 64 → P) → (j ≢ 64 → P) → P

@@ -1,4 +1,4 @@
--- `messages::line::message` meets its contract.
+-- `line_exchange::message` meets its contract.
 -- Assumes nothing.
 use Prim.Native.Nat.{_<_}
 use mathlib.Core.Path.{_≡_, sym, ap, _∙_}
@@ -7,9 +7,9 @@ use lib.Dec.{T}
 use lib.IntN.{natAbs}
 use lib.Signed.{nonNeg}
 use Rattle.integers.proofs.Complement.{kept}
-use Rattle.messages.proofs.Writing.{writer-index, message-none, message-by}
-use Rattle.messages.proofs.line.message.Statement.{statement}
-use Rattle.messages.proofs.line.message.Tie as tie
+use Rattle.line_exchange.proofs.Writing.{writer-index, message-none, message-by}
+use Rattle.line_exchange.proofs.message.Statement.{statement}
+use Rattle.line_exchange.proofs.message.Tie as tie
 
 writer-requires : tie.Need-writer-requires
 writer-requires c κs =

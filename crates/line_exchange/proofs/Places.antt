@@ -11,7 +11,7 @@ use Rattle.register.specs.Cells.{valueOf, markOf, cellOf}
 use Rattle.register.specs.declared.cells.Cell.{Cell}
 use Rattle.register.proofs.Arrays.{cellOf-kept}
 use Rattle.places.specs.Places.{placeAt, Kept}
-use Rattle.messages.specs.Written.{Stored}
+use Rattle.line_exchange.specs.Written.{Stored}
 
 module _ {c : Cell} {j : ℕ} {values : List ℤ} {marks : List ℕ} where
   pub stored-place : Stored c j values marks → placeAt values marks j ≡ c

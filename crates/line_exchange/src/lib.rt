@@ -4,7 +4,7 @@ ghost use Prim.Native.Nat.{_≤_, _<_};
 ghost use Rattle.register.specs.Cells.{cellsOf};
 ghost use Rattle.register.specs.Shape.{Parts};
 ghost use Rattle.message_machine.specs.Counts.{isSent};
-ghost use Rattle.messages.specs.Written.{writerAt, knownAt, messageAt, ReadHeld, BackHeld, LineReady, LineSent};
+ghost use Rattle.line_exchange.specs.Written.{writerAt, knownAt, messageAt, ReadHeld, BackHeld, LineReady, LineSent};
 use chain::follow;
 use places;
 use register::Sizes;
