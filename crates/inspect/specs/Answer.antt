@@ -1,27 +1,14 @@
 -- What the look answers, and what it leaves in the caller's buffers.
 use mathlib.Core.Path.{_≡_}
 use mathlib.Core.List.{List}
-use Prim.Native.Nat.{ℕ, _+_, _*_, _≤_, _<_}
+use Prim.Native.Nat.{ℕ}
 use lib.IntN.{ℤ}
 use lib.ListN.{length}
 use Rattle.register.specs.Outcome.{Outcome, done, refused}
 use Rattle.register.specs.File.{sizesOf, cellsOfFile}
-use Rattle.register.specs.declared.Sizes.{Sizes}
-use Rattle.register.specs.declared.cells.Cell.{Cell}
-use Rattle.knowledge.specs.Plan.{Fact, line}
-use Rattle.message_machine.specs.Held.{heldAfter}
-use Rattle.places.specs.Places.{Kept}
-use Rattle.line_exchange.specs.Written.{Stored}
+use Rattle.knowledge.specs.Plan.{Fact}
+use Rattle.show.specs.Shown.{Shown}
 use Rattle.inspect.specs.declared.InspectAnswer.{InspectAnswer}
-
--- The lines l after round t: "Line i, from 0, and origin u have place i × n + u. It holds mark 1 exactly if that letter was sent
--- in rounds 1 to t, and then the value read (Read) or the addressee (Back); otherwise value 0 and mark 0. Places behind the
--- step's last line are not touched."
-pub record Shown (s : Sizes) (cells : List Cell) (l : List Fact) (t : ℕ) (values : List ℤ) (marks : List ℕ) (values′ : List ℤ) (marks′ : List ℕ) : Type 0 where
-  pub values-length : length values′ ≡ length values
-  pub marks-length : length marks′ ≡ length marks
-  pub held : (i u : ℕ) → i < length l → u < s .records → Stored (heldAfter s cells t (line l i) u) (i * s .records + u) values′ marks′
-  pub behind : (j : ℕ) → length l * s .records ≤ j → Kept j values marks values′ marks′
 
 -- a refusal
 abbrev pub refusedWith : ℕ → ℕ → InspectAnswer

@@ -1,4 +1,4 @@
--- `inspect::show` meets its contract: the lines' places are cleared, and the exchanges fill those of the rounds up to t.
+-- `show::show` meets its contract: the lines' places are cleared, and the exchanges fill those of the rounds up to t.
 -- Assumes nothing.
 use mathlib.Core.Path.{_≡_}
 use native.Mathlib.Omega.{arith}
@@ -7,9 +7,9 @@ use denote.Ref.{now}
 use Rattle.knowledge.specs.Plan.{last-round}
 use Rattle.plan.specs.Held.{facts-in}
 use Rattle.messages.proofs.Planned.{planned-lines, planned-followable, planned-count, planned-rounds, planned-last}
-use Rattle.inspect.proofs.Showing.{parts-cells, parts-valid, shown}
-use Rattle.inspect.proofs.show.Statement.{statement}
-use Rattle.inspect.proofs.show.Tie as tie
+use Rattle.show.proofs.Showing.{parts-cells, parts-valid, shown}
+use Rattle.show.proofs.show.Statement.{statement}
+use Rattle.show.proofs.show.Tie as tie
 
 -- before the exchanges
 module _ (c : tie.After-clear) where

@@ -19,7 +19,7 @@ use Rattle.places.proofs.Placed.{kept-again}
 use Rattle.messages.specs.Exchanged.{ExchangedTo, Cleared}
 use Rattle.line_exchange.proofs.Places.{stored-kept}
 use Rattle.line_exchange.proofs.Writing.{place-before}
-use Rattle.inspect.specs.Answer.{Shown}
+use Rattle.show.specs.Shown.{Shown}
 
 -- the parts of a register that the exchanges take
 module _ (s : Sizes) (file : List ℕ) {values marks : List ℕ} (v : values ≡ valuesPart s file) (m : marks ≡ marksPart s file) where
