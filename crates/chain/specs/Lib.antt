@@ -1,3 +1,3 @@
--- Chains of document 01: hop words, their text, following them, and a single reading.
+-- Chains of document 01 as hop words, and following them.
 pub mod Word
 pub mod Way

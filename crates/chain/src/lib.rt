@@ -1,3 +1,3 @@
-// Chains: their text, packed into one number, followed through a register.
+// Chains packed into one number, and followed through a register.
 pub mod follow;
 pub mod packed;

@@ -1,4 +1,4 @@
--- Two case distinctions that the proofs of this crate make.
+-- Two case distinctions that proofs make.
 use mathlib.Core.Path.{_≡_, refl}
 use mathlib.Core.Bool.{Bool, true, false}
 use mathlib.Core.Logic.{_⊎_, inl, inr, ⊎-elim}
