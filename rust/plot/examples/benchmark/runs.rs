@@ -95,10 +95,10 @@ pub fn print_messages_over_direct() {
     for case in cases::cases() {
         let mut messages = by_library(lent::run_messages, &case);
         let mut direct = by_library(lent::run_direct, &case);
-        let times = timing::medians(&mut messages, &mut direct);
+        let compared = timing::compare(&mut messages, &mut direct);
         println!(
             "{} {:>12}",
-            timing::columns(case.name, times),
+            timing::columns(case.name, &compared),
             letters(&case)
         );
     }
