@@ -1,11 +1,11 @@
 -- Where the run's loop stands: the register in the output, the column of the loop around in the buffers, and how it ends.
 use Prim.Native.Nat.{ℕ, suc, _+_, _*_, _≤_, _<_}
 use mathlib.Core.Path.{_≡_, refl, sym, ap, ap₂, subst, _∙_}
-use mathlib.Core.Bool.{Bool, true, false, cond}
+use mathlib.Core.Bool.{true, false, cond}
 use mathlib.Core.List.{List, [], _∷_, _++_}
 use mathlib.Core.Option.{Option, none, some}
 use native.Mathlib.Omega.{arith}
-use native.Mathlib.Nat.{mul-comm, mul-add}
+use native.Mathlib.Nat.{mul-comm, mul-add, mul-le-mul-right}
 use lib.IntN.{ℤ}
 use lib.ListN.{length, getD, drop}
 use lib.Seq.{drop-cons}
@@ -31,7 +31,7 @@ use Rattle.step.specs.Stepped.{GoesThrough, StopsAt}
 use Rattle.pass.specs.Column.{Column, InPass, HasPass, Entered, NextIs}
 use Rattle.message_machine.specs.declared.Machine.{Machine}
 use Rattle.gather.specs.Counted.{noCounts}
-use Rattle.run_program.specs.Answer.{countsOf, endedWith, Ends}
+use Rattle.run_program.specs.Answer.{countsOf, endedWith, Scratch, Ends}
 use Rattle.gather.specs.declared.counts.Counts.{Counts}
 use Rattle.run_program.proofs.Counting.{counts-none}
 use Rattle.run_program.proofs.Bounds.{Few}
@@ -41,7 +41,7 @@ abbrev pub noStep : Step
 noStep = record { rules = []; setting = Single }
 
 -- the room for the lines, the column and the working cells
-pub scratch-is : (s : Sizes) (lines : ℕ) → scratch s lines ≡ lines * s .records + s .records + cellCount s
+scratch-is : (s : Sizes) (lines : ℕ) → scratch s lines ≡ lines * s .records + s .records + cellCount s
 unfolding scratch cellCount
 scratch-is s lines =
     let n = s .records in
@@ -51,6 +51,13 @@ scratch-is s lines =
 pub record Behind (s : Sizes) (at : ℕ) (values : List ℤ) (marks : List ℕ) : Type 0 where
   pub values-room : at + s .records + cellCount s ≤ length values
   pub marks-room : at + s .records + cellCount s ≤ length marks
+
+-- the lines end early enough, and the scratch buffers have that room
+pub lines-end : (s : Sizes) {lines : ℕ} → lines ≤ 64 → s .records ≤ 4096 → lines * s .records ≤ 262144
+lines-end s few k = omega (arith, mul-le-mul-right (s .records) few, k)
+
+pub scratch-behind : {s : Sizes} {lines : ℕ} {values : List ℤ} {marks : List ℕ} → Scratch s lines values marks → Behind s (lines * s .records) values marks
+scratch-behind {s} {lines} t = record { values-room = omega (arith, scratch-is s lines, t .values-room); marks-room = omega (arith, scratch-is s lines, t .marks-room) }
 
 -- before step `step` of the program p
 pub record Stands (m : Machine) (s : Sizes) (p : Program) (at budget : ℕ) (file : List ℕ) (step first finished : ℕ) (counts : Counts) (out : List ℕ) (values : List ℤ) (marks : List ℕ) : Type 0 where

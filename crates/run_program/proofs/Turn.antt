@@ -1,18 +1,16 @@
 -- One turn of the run's loop: what the step at hand asks for, and what it leaves.
-use Prim.Native.Nat.{ℕ, zero, suc, _+_, _*_, _≤_, _<_, max}
-use mathlib.Core.Path.{_≡_, refl, sym, ap, ap₂, subst, _∙_}
+use Prim.Native.Nat.{ℕ, zero, suc, _+_, _*_, _≤_, _<_}
+use mathlib.Core.Path.{_≡_, sym, ap, subst, _∙_}
 use mathlib.Core.List.{List, [], _∷_, _++_}
 use native.Mathlib.Omega.{arith}
 use native.Mathlib.Nat.{mul-le-mul-right}
 use lib.IntN.{ℤ, pos}
-use lib.ListN.{length, getD, take, drop, set}
+use lib.ListN.{length, getD, take, set}
 use lib.Seq.{getD-take}
-use Rattle.register.specs.File.{cellCount, fileOf, cellsOfFile, valuesPart, marksPart}
-use Rattle.register.specs.Shape.{Parts}
+use Rattle.register.specs.File.{cellCount, fileOf, cellsOfFile}
 use Rattle.register.specs.declared.Sizes.{Sizes}
 use Rattle.register.specs.declared.cells.Cell.{Cell}
-use Rattle.register.proofs.Loading.{file-parts}
-use Rattle.plan.specs.Held.{facts, Keyed}
+use Rattle.plan.specs.Held.{facts}
 use Rattle.plan.proofs.Appending.{holds-count}
 use Rattle.actions.specs.declared.rule.Slot.{Slot}
 use Rattle.rules.specs.Program.{Rule, Step, Program, stepPlan, hasRemote, mostLines}
@@ -125,9 +123,6 @@ module _ {m : Machine} {s : Sizes} {p : R.Program} {budget : ℕ} {file : List �
 
   few : step < 32
   few = omega (arith, inside, a .passes .few)
-
-  pub parts : Parts s (valuesPart s out) (marksPart s out)
-  parts = file-parts out s (t .register .valid .limits) (t .register .whole)
 
   pub setting-passes : SettingPasses s (frame .setting)
   setting-passes = subst (SettingPasses s) (at-step .setting-is) (step-passes .field)

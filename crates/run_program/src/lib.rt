@@ -1,6 +1,9 @@
 // The run of a program, by either machine: step after step, within the budget.
+ghost use Prim.Native.Nat.{_+_, _*_};
 ghost use mathlib.Core.Path.{_≡_};
+ghost use Rattle.register.specs.File.{cellsOfFile};
 ghost use Rattle.register.specs.Shape.{Register};
+ghost use Rattle.work.specs.Work.{Holds};
 ghost use Rattle.rules.specs.Passed.{ProgramPasses};
 ghost use Rattle.reader.specs.Kept.{programOf, Complete};
 ghost use Rattle.run_program.specs.Answer.{endedWith, stoppedAt, Scratch, Ends};
@@ -12,7 +15,6 @@ use message_machine::Machine;
 use pass;
 use reader::Program;
 use register::Sizes;
-use register::cells;
 use step::local;
 use step::remote;
 use work;
@@ -57,9 +59,9 @@ fn out_of_range(finished: u16, counts: Counts, row: usize, column: usize) -> Run
     }
 }
 
-// The program over the register in `out`. The function holds the program's arrays and takes a step's rules out without a call,
-// their chains located in the step's plan.
-pub fn run_program(
+// The steps, over working cells that hold the register's. The function holds the program's arrays and takes a step's rules out
+// without a call, their chains located in the step's plan.
+fn run_steps(
     out: &mut [u8],
     values: &mut [i64],
     marks: &mut [u8],
@@ -68,7 +70,7 @@ pub fn run_program(
     machine: Machine,
     budget: u16,
 ) -> RunAnswer
-    requires { ⌜ Register sizes (now out) × Scratch sizes (program .lines) (now values) (now marks) × Complete program × ProgramPasses sizes (programOf program) ⌝ }
+    requires { ⌜ Register sizes (now out) × Scratch sizes (program .lines) (now values) (now marks) × Complete program × ProgramPasses sizes (programOf program) × Holds (program .lines * sizes .records + sizes .records) (cellsOfFile sizes (now out)) (now values) (now marks) ⌝ }
     ensures { λ r. ⌜ Ends machine sizes (programOf program) budget (now (out .entry)) (now (out .exit)) r ⌝ }
 {
     let slots = program.slots;
@@ -76,13 +78,6 @@ pub fn run_program(
     let steps = program.steps;
     let at = program.lines * sizes.records;
     let base = at + sizes.records;
-    work::begin(
-        cells::values_part(out, sizes),
-        cells::marks_part(out, sizes),
-        values,
-        marks,
-        base,
-    );
     let mut rules = [slots[0]; 32];
     let mut step = 0;
     let mut first = steps;
@@ -118,16 +113,7 @@ pub fn run_program(
         let mut stop = Stop::Nowhere;
         'records: for u in 0..sizes.records {
             for k in 0..used {
-                stop = local::apply_rule(
-                    cells::values_part(out, sizes),
-                    cells::marks_part(out, sizes),
-                    values,
-                    marks,
-                    sizes,
-                    base,
-                    u,
-                    rules[k],
-                );
+                stop = local::apply_rule(out, values, marks, sizes, base, u, rules[k]);
                 if let Stop::At(_, _) = stop {
                     break 'records;
                 }
@@ -138,16 +124,7 @@ pub fn run_program(
         }
         let mut sent = 0;
         if frame.remote {
-            sent = remote::apply(
-                cells::values_part(out, sizes),
-                cells::marks_part(out, sizes),
-                values,
-                marks,
-                sizes,
-                base,
-                rules,
-                used,
-            );
+            sent = remote::apply(out, values, marks, sizes, base, rules, used);
         }
         let total = commit::commit(out, values, marks, sizes, base);
         if let Stop::At(row, column) = total {
@@ -158,4 +135,22 @@ pub fn run_program(
         step = pass::next(out, values, marks, sizes, at, setting, step, first);
     }
     ended(0, finished, counts)
+}
+
+// The program over the register in `out`.
+pub fn run_program(
+    out: &mut [u8],
+    values: &mut [i64],
+    marks: &mut [u8],
+    sizes: Sizes,
+    program: Program,
+    machine: Machine,
+    budget: u16,
+) -> RunAnswer
+    requires { ⌜ Register sizes (now out) × Scratch sizes (program .lines) (now values) (now marks) × Complete program × ProgramPasses sizes (programOf program) ⌝ }
+    ensures { λ r. ⌜ Ends machine sizes (programOf program) budget (now (out .entry)) (now (out .exit)) r ⌝ }
+{
+    let at = program.lines * sizes.records;
+    work::begin(out, values, marks, sizes, at + sizes.records);
+    run_steps(out, values, marks, sizes, program, machine, budget)
 }

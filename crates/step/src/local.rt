@@ -1,11 +1,11 @@
 // A local rule of a step at one record.
 ghost use mathlib.Core.Path.{_≡_};
 ghost use mathlib.Core.Bool.{true};
-ghost use Prim.Native.Nat.{_+_, _<_};
+ghost use Prim.Native.Nat.{_+_, _*_, _<_};
 ghost use lib.ListN.{length, take};
-ghost use Rattle.register.specs.Cells.{cellOf, cellsOf};
-ghost use Rattle.register.specs.File.{cellCount, cellIndex};
-ghost use Rattle.register.specs.Shape.{Limits, Parts};
+ghost use Rattle.register.specs.Cells.{cellOf};
+ghost use Rattle.register.specs.File.{cellCount, cellIndex, cellsOfFile};
+ghost use Rattle.register.specs.Shape.{Limits};
 ghost use Rattle.chain.specs.Word.{hasField, column as columnOf};
 ghost use Rattle.step_plan.specs.Stored.{ruleOf};
 ghost use Rattle.work.specs.Work.{Room, Put};
@@ -16,6 +16,7 @@ use effects::rule;
 use effects::rule::Write;
 use places;
 use register::Sizes;
+use register::cells;
 use work;
 use work::commit::Stop;
 
@@ -37,10 +38,9 @@ fn store(
     places::put(values, marks, place, value, mark);
 }
 
-// One rule at record u.
+// One rule at record u of the register in `out`.
 pub fn apply_rule(
-    cells: &[u8],
-    filled: &[u8],
+    out: &[u8],
     values: &mut [i64],
     marks: &mut [u8],
     sizes: Sizes,
@@ -48,12 +48,12 @@ pub fn apply_rule(
     u: usize,
     slot: Slot,
 ) -> Stop
-    requires { ⌜ Parts sizes (now cells) (now filled) × (u < sizes .records) × Room base (length (now filled)) (now values) (now marks) × Ready sizes (cellsOf (now cells) (now filled)) (take base (now values)) (take base (now marks)) slot ⌝ }
-    ensures { λ r. ⌜ LocalRule sizes (cellsOf (now (cells .entry)) (now (filled .entry))) base u (ruleOf slot) (now (values .entry)) (now (marks .entry)) (now (values .exit)) (now (marks .exit)) r ⌝ }
+    requires { ⌜ Limits sizes × (length (now out) ≡ 12 + 5 * cellCount sizes) × (u < sizes .records) × Room base (cellCount sizes) (now values) (now marks) × Ready sizes (cellsOfFile sizes (now out)) (take base (now values)) (take base (now marks)) slot ⌝ }
+    ensures { λ r. ⌜ LocalRule sizes (cellsOfFile sizes (now (out .entry))) base u (ruleOf slot) (now (values .entry)) (now (marks .entry)) (now (values .exit)) (now (marks .exit)) r ⌝ }
 {
     match rule::local_write(
-        cells,
-        filled,
+        cells::values_part(out, sizes),
+        cells::marks_part(out, sizes),
         &values[..base],
         &marks[..base],
         sizes,

@@ -1,9 +1,10 @@
 // The remote writes of a step, delivered to the working cells.
 ghost use mathlib.Core.Path.{_≡_};
-ghost use Prim.Native.Nat.{_≤_, _<_};
+ghost use Prim.Native.Nat.{_+_, _*_, _≤_, _<_};
 ghost use lib.ListN.{length, take};
 ghost use Rattle.register.specs.Cells.{cellsOf};
-ghost use Rattle.register.specs.Shape.{Parts};
+ghost use Rattle.register.specs.File.{cellCount, cellsOfFile};
+ghost use Rattle.register.specs.Shape.{Limits, Parts};
 ghost use Rattle.step_plan.specs.Stored.{ruleOf, rulesIn};
 ghost use Rattle.work.specs.Work.{Room, Small};
 ghost use Rattle.step.specs.Ready.{Ready, AllReady};
@@ -12,6 +13,7 @@ use actions::rule::Slot;
 use effects::rule;
 use effects::rule::Sent;
 use register::Sizes;
+use register::cells;
 use work;
 
 // The message of one rule at record u, where it sends one. The number of messages.
@@ -47,10 +49,9 @@ fn apply_rule(
     }
 }
 
-// The messages of all rules at all records. Their number.
+// The messages of all rules at all records of the register in `out`. Their number.
 pub fn apply(
-    cells: &[u8],
-    filled: &[u8],
+    out: &[u8],
     values: &mut [i64],
     marks: &mut [u8],
     sizes: Sizes,
@@ -58,9 +59,11 @@ pub fn apply(
     slots: [Slot; 32],
     rules: usize,
 ) -> usize
-    requires { ⌜ Parts sizes (now cells) (now filled) × Room base (length (now filled)) (now values) (now marks) × (rules ≤ 32) × (length slots ≡ 32) × AllReady sizes (cellsOf (now cells) (now filled)) (take base (now values)) (take base (now marks)) (take rules slots) × Small 2147483648 base (length (now filled)) (now values) (now marks) ⌝ }
-    ensures { λ r. ⌜ Delivered sizes (cellsOf (now (cells .entry)) (now (filled .entry))) base (rulesIn rules slots) (now (values .entry)) (now (marks .entry)) (now (values .exit)) (now (marks .exit)) r ⌝ }
+    requires { ⌜ Limits sizes × (length (now out) ≡ 12 + 5 * cellCount sizes) × Room base (cellCount sizes) (now values) (now marks) × (rules ≤ 32) × (length slots ≡ 32) × AllReady sizes (cellsOfFile sizes (now out)) (take base (now values)) (take base (now marks)) (take rules slots) × Small 2147483648 base (cellCount sizes) (now values) (now marks) ⌝ }
+    ensures { λ r. ⌜ Delivered sizes (cellsOfFile sizes (now (out .entry))) base (rulesIn rules slots) (now (values .entry)) (now (marks .entry)) (now (values .exit)) (now (marks .exit)) r ⌝ }
 {
+    let cells = cells::values_part(out, sizes);
+    let filled = cells::marks_part(out, sizes);
     let mut sent = 0;
     for u in 0..sizes.records {
         for k in 0..rules {

@@ -1,12 +1,14 @@
 -- What a remote write makes of a place.
 use Prim.Native.Nat.{ℕ, _+_, _<_}
-use mathlib.Core.Path.{_≡_, refl}
+use mathlib.Core.Path.{_≡_, sym}
 use mathlib.Core.Logic.{_≢_}
 use mathlib.Core.Bool.{true, false}
 use mathlib.Core.List.{List}
 use native.Mathlib.Omega.{arith}
+use borrow.Author.Tests.{ne-eqb}
 use lib.IntN.{ℤ, pos, _+ℤ_}
 use lib.ListN.{getD, set}
+use lib.Seq.{set-getD}
 use lib.Signed.{ltZ, mag}
 use mir.Syntax.{w32}
 use mir.Val.{SFits}
@@ -44,14 +46,14 @@ module _ (values : List ℤ) (marks : List ℕ) (j : ℕ) (a : ℤ) where
     unfolding merged smaller
     least-kept h = put-kept (rw (← placeAt-value values marks j some) (simp h))
 
-    pub total-added : (z : ℤ) → z ≡ getD values j (pos 0) +ℤ a → Put j (merged Total (placeAt values marks j) a) values marks (set values j z) (set marks j 1)
+    pub total-added : (z : ℤ) → z ≡ getD values j (pos 0) +ℤ a → Put j (merged Total (placeAt values marks j) a) values marks (set values j z) marks
     unfolding merged increased cellOf
     total-added z e = record {
       value = getD values j (pos 0) +ℤ a;
-      mark = 1;
+      mark = getD marks j 0;
       values-are = rw e;
-      marks-are = refl;
-      cell-is = rw (← placeAt-value values marks j some) refl;
+      marks-are = sym (set-getD marks j 0);
+      cell-is = rw (← placeAt-value values marks j some) (simp (ne-eqb _ _ some));
     }
 
 -- a value grows by one amount at most

@@ -6,8 +6,8 @@ ghost use mathlib.Core.Path.{_≡_};
 ghost use mathlib.Core.Bool.{true};
 ghost use lib.ListN.{length};
 ghost use lib.Signed.{mag};
-ghost use Rattle.register.specs.Cells.{valueOf, cellsOf};
-ghost use Rattle.register.specs.File.{cellIndex};
+ghost use Rattle.register.specs.Cells.{valueOf};
+ghost use Rattle.register.specs.File.{cellCount, cellIndex, cellsOfFile};
 ghost use Rattle.register.specs.Shape.{Limits};
 ghost use Rattle.chain.specs.Word.{hasField, column as columnOf};
 ghost use Rattle.places.specs.Places.{placeAt};
@@ -18,13 +18,16 @@ use chain::follow;
 use machine::message::Sort;
 use places;
 use register::Sizes;
+use register::cells;
 use register::cells::Cell;
 
-// They begin as the register's cells.
-pub fn begin(cells: &[u8], filled: &[u8], values: &mut [i64], marks: &mut [u8], base: usize)
-    requires { ⌜ (length (now cells) ≡ 4 * length (now filled)) × Room base (length (now filled)) (now values) (now marks) ⌝ }
-    ensures { λ _. ⌜ Holds base (cellsOf (now (cells .entry)) (now (filled .entry))) (now (values .exit)) (now (marks .exit)) × Same base (now (values .entry)) (now (marks .entry)) (now (values .exit)) (now (marks .exit)) ⌝ }
+// They begin as the cells of the register in `out`.
+pub fn begin(out: &[u8], values: &mut [i64], marks: &mut [u8], sizes: Sizes, base: usize)
+    requires { ⌜ Limits sizes × (length (now out) ≡ 12 + 5 * cellCount sizes) × Room base (cellCount sizes) (now values) (now marks) ⌝ }
+    ensures { λ _. ⌜ Holds base (cellsOfFile sizes (now (out .entry))) (now (values .exit)) (now (marks .exit)) × Same base (now (values .entry)) (now (marks .entry)) (now (values .exit)) (now (marks .exit)) ⌝ }
 {
+    let cells = cells::values_part(out, sizes);
+    let filled = cells::marks_part(out, sizes);
     for j in 0..filled.len() {
         places::copy_cell(cells, filled, j, values, marks, base + j);
     }
@@ -60,7 +63,6 @@ fn add_total(values: &mut [i64], marks: &mut [u8], j: usize, amount: i32)
         return;
     }
     values[j] = integers::increase(values[j], amount);
-    marks[j] = 1;
 }
 
 // One remote write.

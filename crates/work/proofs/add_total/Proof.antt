@@ -37,10 +37,10 @@ increase-requires c κs =
     let z = getD (now (s .args .values)) (s .args .j) (pos 0) in
     rw (toZ-ofZ {w = w64} {z = z} (record { sfits = c .increase-arg .given })) (rw (← placeAt-value (now (s .args .values)) (now (s .args .marks)) (s .args .j) (c .before .if1 .left)) at (s .pre .2))
 
--- behind the sum: the total stands with its mark
+-- behind the sum: the total stands, and its mark as it was
 added : (c : tie.After-increase) → let s = c .before .before .before .before .before in
     Put (s .args .j) (merged Total (placeAt (now (s .args .values)) (now (s .args .marks)) (s .args .j)) (s .args .amount)) (now (s .args .values)) (now (s .args .marks))
-    (set (now (s .args .values)) (s .args .j) (toZ w64 (ofZ w64 (c .increase .result)))) (set (now (s .args .marks)) (s .args .j) 1)
+    (set (now (s .args .values)) (s .args .j) (toZ w64 (ofZ w64 (c .increase .result)))) (now (s .args .marks))
 added c =
     let s = c .before .before .before .before .before in
     let z = getD (now (s .args .values)) (s .args .j) (pos 0) in
@@ -59,8 +59,6 @@ add-total-spec =
     mul-increase
     slice-copy-out-increase
     increase-requires
-    (λ c. search needs)
-    (λ c. search needs)
     (λ c. search needs)
     (λ c. search needs)
     (λ c. search needs)
