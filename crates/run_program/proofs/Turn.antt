@@ -35,7 +35,7 @@ use Rattle.locate.proofs.Slots.{slots-alike, slots-ready}
 use Rattle.work.specs.Work.{Room, Holds, Same}
 use Rattle.step.specs.Ready.{reads, AllReady, LocalDone, LocalStops}
 use Rattle.step.specs.Delivered.{Delivered}
-use Rattle.work.specs.Committed.{AllCommitted, CommitStops}
+use Rattle.commit.specs.Committed.{AllCommitted, CommitStops}
 use Rattle.step.specs.Stepped.{GoesThrough, StopsAt}
 use Rattle.work.proofs.Working.{same-then}
 use Rattle.step.proofs.Stepping.{AllDone, all-done, local-stops, goes-through, commit-stops}

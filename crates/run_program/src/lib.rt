@@ -7,6 +7,8 @@ ghost use Rattle.work.specs.Work.{Holds};
 ghost use Rattle.rules.specs.Passed.{ProgramPasses};
 ghost use Rattle.reader.specs.Kept.{programOf, Complete};
 ghost use Rattle.run_program.specs.Answer.{endedWith, stoppedAt, Scratch, Ends};
+use commit;
+use commit::Stop;
 use gather;
 use gather::counts;
 use gather::counts::Counts;
@@ -18,8 +20,6 @@ use register::Sizes;
 use step::local;
 use step::remote;
 use work;
-use work::commit;
-use work::commit::Stop;
 
 // The refusal's number, 0 for none, with its line where it has one; the finished steps and what they count; for 21 the record and
 // the column where it happened.

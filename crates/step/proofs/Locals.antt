@@ -31,7 +31,7 @@ use Rattle.effects.specs.Answers.{cellWrite, writeOf}
 use Rattle.effects.specs.declared.rule.Write.the-variants.{Nothing, OutOfRange}
 use Rattle.work.specs.Work.{Room, Holds, Same, Put, Small}
 use Rattle.step.specs.Ready.{reads, Ready, AllReady, LocalRule, LocalDone, LocalStops}
-use Rattle.work.specs.declared.commit.Stop.the-variants.{Nowhere, At}
+use Rattle.commit.specs.declared.Stop.the-variants.{Nowhere, At}
 use Rattle.work.proofs.Working.{same-refl, same-then, same-put, holds-put, small-put}
 use Rattle.step.proofs.Writing.{told, told-cell}
 

@@ -25,7 +25,7 @@ use Rattle.evaluate.specs.Located.{located}
 use Rattle.work.specs.Work.{Holds, Same}
 use Rattle.step.specs.Ready.{reads, LocalDone, LocalStops}
 use Rattle.step.specs.Delivered.{Delivered}
-use Rattle.work.specs.Committed.{AllCommitted, CommitStops}
+use Rattle.commit.specs.Committed.{AllCommitted, CommitStops}
 use Rattle.step.specs.Stepped.{GoesThrough, StopsAt}
 
 -- all records read what they read before the stores

@@ -17,8 +17,8 @@ use Rattle.step_plan.specs.Stored.{actionOf}
 use Rattle.machine.specs.Local.{fieldOf, offends, localRule, localRecords, sumOffends}
 use Rattle.evaluate.specs.Located.{located, SlotReaches}
 use Rattle.work.specs.Work.{Holds, Same, Small}
-use Rattle.work.specs.declared.commit.Stop.{Stop}
-use Rattle.work.specs.declared.commit.Stop.the-variants.{Nowhere, At}
+use Rattle.commit.specs.declared.Stop.{Stop}
+use Rattle.commit.specs.declared.Stop.the-variants.{Nowhere, At}
 
 -- what record u reads in a step: over the cells before it, from the places of the lines below `base`
 abbrev pub reads : Sizes → List Cell → ℕ → List ℤ → List ℕ → ℕ → List ℕ → Cell

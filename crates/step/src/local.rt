@@ -12,13 +12,13 @@ ghost use Rattle.work.specs.Work.{Room, Put};
 ghost use Rattle.step.specs.Ready.{Ready, LocalRule};
 use actions::rule::Slot;
 use chain::follow;
+use commit::Stop;
 use effects::rule;
 use effects::rule::Write;
 use places;
 use register::Sizes;
 use register::cells;
 use work;
-use work::commit::Stop;
 
 // Stores a value and a mark in the working cell of record u and a field.
 fn store(

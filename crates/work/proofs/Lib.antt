@@ -1,4 +1,3 @@
 -- Laws of working cells, for the proofs here and in the crates above.
 pub mod Working
 pub mod Merging
-pub mod Committing

@@ -1,3 +1,2 @@
--- The working cells, and the register that they become.
+-- The working cells, and what a remote write makes of one.
 pub mod Work
-pub mod Committed

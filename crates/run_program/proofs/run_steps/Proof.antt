@@ -18,8 +18,8 @@ use Rattle.work.specs.Work.{Same}
 use Rattle.step.specs.Stepped.{GoesThrough}
 use Rattle.step.specs.Ready.{LocalDone, LocalAnswer}
 use Rattle.step.specs.Delivered.{Delivered}
-use Rattle.work.specs.declared.commit.Stop.{Stop}
-use Rattle.work.specs.declared.commit.Stop.the-variants.{Nowhere}
+use Rattle.commit.specs.declared.Stop.{Stop}
+use Rattle.commit.specs.declared.Stop.the-variants.{Nowhere}
 use Rattle.work.proofs.Working.{same-refl, same-then, room-same, small-held}
 use Rattle.step.proofs.Locals.{RecordDone, ready-at, record-start, record-more, record-stops, records-start, records-more, records-all, records-stop}
 use Rattle.step.proofs.Remotes.{silent-step}

@@ -1,4 +1,4 @@
--- `work::commit::commit` meets its contract. The loop's invariant: the cells passed are in range and written.
+-- `commit::commit` meets its contract. The loop's invariant: the cells passed are in range and written.
 -- Assumes nothing.
 use Prim.Native.Nat.{_-_, _<_}
 use mathlib.Core.Path.{_∙_}
@@ -7,9 +7,9 @@ use borrow.Author.Tests.{not-true, not-false}
 use Rattle.register.specs.File.{width, cellCount}
 use Rattle.register.proofs.Bounds.{cellCount≤}
 use Rattle.register.proofs.Bounds.{place-width}
-use Rattle.work.proofs.Committing.{Progress, progress-none, progress-next, progress-all, stops-at}
-use Rattle.work.proofs.commit.commit.Statement.{statement}
-use Rattle.work.proofs.commit.commit.Tie as tie
+use Rattle.commit.proofs.Committing.{Progress, progress-none, progress-next, progress-all, stops-at}
+use Rattle.commit.proofs.commit.Statement.{statement}
+use Rattle.commit.proofs.commit.Tie as tie
 
 abbrev Inv-loop : tie.InvT-loop
 Inv-loop out₀ values marks sizes base width j₀ j-end out j = Progress sizes base values marks out₀ j out

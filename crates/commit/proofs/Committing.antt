@@ -19,8 +19,8 @@ use Rattle.register.proofs.Arrays.{putCell-file}
 use Rattle.register.proofs.Bounds.{place-row, place-column, place-is}
 use Rattle.machine.specs.Value.{cellInRange}
 use Rattle.places.specs.Places.{placeAt}
 use Rattle.work.specs.Work.{Holds}
-use Rattle.work.specs.Committed.{AllCommitted, CommitStops}
+use Rattle.commit.specs.Committed.{AllCommitted, CommitStops}
 
 -- what the answer for a total tells
 abbrev Told : ℤ → Sum → Type 0

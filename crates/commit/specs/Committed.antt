@@ -10,9 +10,9 @@ use Rattle.register.specs.declared.Sizes.{Sizes}
 use Rattle.register.specs.declared.cells.Cell.{Cell}
 use Rattle.machine.specs.Value.{cellInRange}
 use Rattle.places.specs.Places.{placeAt}
 use Rattle.work.specs.Work.{Holds}
-use Rattle.work.specs.declared.commit.Stop.{Stop}
-use Rattle.work.specs.declared.commit.Stop.the-variants.{Nowhere, At}
+use Rattle.commit.specs.declared.Stop.{Stop}
+use Rattle.commit.specs.declared.Stop.the-variants.{Nowhere, At}
 
 -- cell j, or that it is out of range
 abbrev pub OneCommitted : Sizes → ℕ → ℕ → List ℤ → List ℕ → List ℕ → List ℕ → Bool → Type 0

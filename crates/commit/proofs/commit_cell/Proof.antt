@@ -1,4 +1,4 @@
--- `work::commit::commit_cell` meets its contract: a missing cell is in range, and `integers::in_range` tells it of a total.
+-- `commit::commit_cell` meets its contract: a missing cell is in range, and `integers::in_range` tells it of a total.
 -- Assumes nothing.
 use Prim.Native.Nat.{_+_}
 use mathlib.Core.Path.{_≡_, refl, sym, ap, _∙_}
@@ -14,9 +14,9 @@ use Rattle.register.specs.File.{putCell}
 use Rattle.register.specs.declared.cells.Cell.the-variants.{Value}
 use Rattle.machine.specs.Value.{cellInRange}
 use Rattle.places.proofs.Placed.{placeAt-missing, placeAt-value}
-use Rattle.work.proofs.Committing.{total-told}
-use Rattle.work.proofs.commit.commit_cell.Statement.{statement}
-use Rattle.work.proofs.commit.commit_cell.Tie as tie
+use Rattle.commit.proofs.Committing.{total-told}
+use Rattle.commit.proofs.commit_cell.Statement.{statement}
+use Rattle.commit.proofs.commit_cell.Tie as tie
 
 -- the value of the cell, for which the answer is
 abbrev total : tie.After-in-range → ℤ

@@ -1,0 +1,2 @@
+-- The working cells as the cells of a register file.
+pub mod Committed
