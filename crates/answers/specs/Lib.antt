@@ -1,3 +1,2 @@
--- The library's answers as numbers and arrays.
+-- A reading as numbers.
 pub mod Numbers
-pub mod PlanArrays

@@ -1,16 +1,10 @@
--- An outcome of a reading, and a flag, as numbers.
+-- An outcome of a reading as numbers.
 use Prim.Native.Nat.{ℕ}
-use mathlib.Core.Bool.{Bool, true, false}
 use lib.IntN.{pos}
 use Rattle.register.specs.Outcome.{Outcome, done, refused}
 use Rattle.register.specs.declared.cells.Cell.{Cell}
 use Rattle.register.specs.declared.cells.Cell.the-variants.{Missing, Value}
 use Rattle.answers.specs.declared.reading.ReadNumbers.{ReadNumbers}
-
--- a flag: 1 where it is set
-unfoldable pub flagNumber : Bool → ℕ
-flagNumber true = 1
-flagNumber false = 0
 
 -- a reading: the value is 0 where it is unfilled or refused, and `filled` is 1 where it is filled
 unfoldable pub readNumbers : Outcome Cell → ReadNumbers

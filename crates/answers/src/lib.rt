@@ -1,3 +1,2 @@
 // The library's answers as the numbers and arrays of the C interface.
-pub mod plan_arrays;
 pub mod reading;

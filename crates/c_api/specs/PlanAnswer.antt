@@ -5,8 +5,8 @@ use mathlib.Core.List.{List, [], _∷_}
 use lib.ListN.{length}
 use Rattle.register.specs.Outcome.{Outcome, done, refused}
 use Rattle.rules.specs.Text.{Planned}
-use Rattle.answers.specs.Numbers.{flagNumber}
-use Rattle.answers.specs.PlanArrays.{PlanArrays}
+use Rattle.plan_arrays.specs.PlanArrays.{flagNumber}
+use Rattle.plan_arrays.specs.PlanArrays.{PlanArrays}
 
 -- the caller's three arrays, document 01's lent arrays
 pub record Buffers : Type 0 where

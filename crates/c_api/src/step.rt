@@ -1,7 +1,7 @@
 // The plan of a step.
 ghost use Rattle.rules.specs.Text.{planOfStep};
 ghost use Rattle.c_api.specs.PlanAnswer.{PlanAnswer};
-use answers::plan_arrays;
+use plan_arrays;
 
 // The plan of a step, counted from 1: the refusal number, 0 for none. On a refusal the three arrays stay as they are.
 #[no_mangle]

@@ -1,11 +1,11 @@
--- `answers::plan_arrays::fill_rounds` meets its contract. The loop's invariant: the places passed hold their rounds, the others 0.
+-- `plan_arrays::fill_rounds` meets its contract. The loop's invariant: the places passed hold their rounds, the others 0.
 -- Assumes nothing.
 use Prim.Native.Nat.{_-_, _≤_}
 use native.Mathlib.Omega.{arith}
-use Rattle.answers.specs.PlanArrays.{roundAt, planLines}
-use Rattle.answers.proofs.Filling.{Progress, progress-none, progress-next, progress-all, round-value, round-behind}
-use Rattle.answers.proofs.plan_arrays.fill_rounds.Statement.{statement}
-use Rattle.answers.proofs.plan_arrays.fill_rounds.Tie as tie
+use Rattle.plan_arrays.specs.PlanArrays.{roundAt, planLines}
+use Rattle.plan_arrays.proofs.Filling.{Progress, progress-none, progress-next, progress-all, round-value, round-behind}
+use Rattle.plan_arrays.proofs.fill_rounds.Statement.{statement}
+use Rattle.plan_arrays.proofs.fill_rounds.Tie as tie
 
 abbrev Inv-loop : tie.InvT-loop
 Inv-loop rounds₀ plan count i₀ rounds i = (i ≤ count) × Progress (roundAt (planLines plan)) 64 i rounds

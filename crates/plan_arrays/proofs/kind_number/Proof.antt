@@ -1,4 +1,4 @@
--- `answers::plan_arrays::kind_number` meets its contract.
+-- `plan_arrays::kind_number` meets its contract.
 -- Assumes nothing.
 use Prim.Native.Nat.{ℕ}
 use mathlib.Core.Path.{_≡_, refl, sym, ap, _∙_}
@@ -7,9 +7,9 @@ use Rattle.knowledge.specs.Plan.{Fact, back, read}
 use Rattle.keys.specs.Keys.{kind}
 use Rattle.keys.specs.declared.key.Kind.{Kind}
 use Rattle.keys.specs.declared.key.Kind.the-variants.{Back, Read}
-use Rattle.answers.specs.PlanArrays.{kindNumber}
-use Rattle.answers.proofs.plan_arrays.kind_number.Statement.{statement}
-use Rattle.answers.proofs.plan_arrays.kind_number.Tie as tie
+use Rattle.plan_arrays.specs.PlanArrays.{kindNumber}
+use Rattle.plan_arrays.proofs.kind_number.Statement.{statement}
+use Rattle.plan_arrays.proofs.kind_number.Tie as tie
 
 abbrev number : Kind → ℕ
 number Back = 0

@@ -1,11 +1,11 @@
--- `answers::plan_arrays::letter_at` meets its contract.
+-- `plan_arrays::letter_at` meets its contract.
 -- Assumes nothing.
 use mathlib.Core.Path.{_∙_}
 use native.Mathlib.Omega.{arith}
 use borrow.Author.Needs.{needs}
-use Rattle.answers.proofs.Filling.{letter-none, letter-last, letter-more}
-use Rattle.answers.proofs.plan_arrays.letter_at.Statement.{statement}
-use Rattle.answers.proofs.plan_arrays.letter_at.Tie as tie
+use Rattle.plan_arrays.proofs.Filling.{letter-none, letter-last, letter-more}
+use Rattle.plan_arrays.proofs.letter_at.Statement.{statement}
+use Rattle.plan_arrays.proofs.letter_at.Tie as tie
 
 rest-requires : tie.Need-rest-requires
 rest-requires c κs = search needs

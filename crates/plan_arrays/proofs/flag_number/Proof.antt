@@ -1,9 +1,9 @@
--- `answers::plan_arrays::flag_number` meets its contract.
+-- `plan_arrays::flag_number` meets its contract.
 -- Assumes nothing.
 use mathlib.Core.Path.{sym, ap}
-use Rattle.answers.specs.Numbers.{flagNumber}
-use Rattle.answers.proofs.plan_arrays.flag_number.Statement.{statement}
-use Rattle.answers.proofs.plan_arrays.flag_number.Tie as tie
+use Rattle.plan_arrays.specs.PlanArrays.{flagNumber}
+use Rattle.plan_arrays.proofs.flag_number.Statement.{statement}
+use Rattle.plan_arrays.proofs.flag_number.Tie as tie
 
 returns : tie.Need-returns
 unfolding flagNumber

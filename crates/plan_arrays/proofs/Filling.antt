@@ -16,7 +16,7 @@ use Rattle.keys.specs.Keys.{fact-of}
 use Rattle.plan.specs.Held.{facts-in, facts, Holds}
 use Rattle.plan.specs.declared.Plan.{Plan}
 use Rattle.plan.proofs.Appending.{holds-count}
-use Rattle.answers.specs.PlanArrays.{kindNumber, letterOf, kindAt, lettersAt, letterAt, roundAt, Filled, planLines}
+use Rattle.plan_arrays.specs.PlanArrays.{kindNumber, letterOf, kindAt, lettersAt, letterAt, roundAt, Filled, planLines}
 
 -- the first i of n places hold the values of g, and those behind them 0
 pub record Progress (g : ℕ → ℕ) (n i : ℕ) (xs : List ℕ) : Type 0 where

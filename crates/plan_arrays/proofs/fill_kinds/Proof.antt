@@ -1,13 +1,13 @@
--- `answers::plan_arrays::fill_kinds` meets its contract. The loop's invariant: the places passed hold their kinds, the others 0.
+-- `plan_arrays::fill_kinds` meets its contract. The loop's invariant: the places passed hold their kinds, the others 0.
 -- Assumes nothing.
 use Prim.Native.Nat.{_-_, _≤_}
 use mathlib.Core.Path.{_∙_}
 use native.Mathlib.Omega.{arith}
 use borrow.Author.Needs.{needs}
-use Rattle.answers.specs.PlanArrays.{kindAt, planLines}
-use Rattle.answers.proofs.Filling.{Progress, progress-none, progress-next, progress-all, kind-value, kind-behind}
-use Rattle.answers.proofs.plan_arrays.fill_kinds.Statement.{statement}
-use Rattle.answers.proofs.plan_arrays.fill_kinds.Tie as tie
+use Rattle.plan_arrays.specs.PlanArrays.{kindAt, planLines}
+use Rattle.plan_arrays.proofs.Filling.{Progress, progress-none, progress-next, progress-all, kind-value, kind-behind}
+use Rattle.plan_arrays.proofs.fill_kinds.Statement.{statement}
+use Rattle.plan_arrays.proofs.fill_kinds.Tie as tie
 
 abbrev Inv-loop : tie.InvT-loop
 Inv-loop kinds₀ plan count i₀ kinds i = (i ≤ count) × Progress (kindAt (planLines plan)) 64 i kinds

@@ -1,13 +1,13 @@
--- `answers::plan_arrays::fill_chains` meets its contract. The loop's invariant: the places passed hold their letters, the others 0.
+-- `plan_arrays::fill_chains` meets its contract. The loop's invariant: the places passed hold their letters, the others 0.
 -- Assumes nothing.
 use Prim.Native.Nat.{_-_, _≤_}
 use mathlib.Core.Path.{_∙_}
 use native.Mathlib.Omega.{arith}
 use borrow.Author.Needs.{needs}
-use Rattle.answers.specs.PlanArrays.{letterAt, planLines}
-use Rattle.answers.proofs.Filling.{Progress, progress-none, progress-next, progress-all, letter-value, letter-behind}
-use Rattle.answers.proofs.plan_arrays.fill_chains.Statement.{statement}
-use Rattle.answers.proofs.plan_arrays.fill_chains.Tie as tie
+use Rattle.plan_arrays.specs.PlanArrays.{letterAt, planLines}
+use Rattle.plan_arrays.proofs.Filling.{Progress, progress-none, progress-next, progress-all, letter-value, letter-behind}
+use Rattle.plan_arrays.proofs.fill_chains.Statement.{statement}
+use Rattle.plan_arrays.proofs.fill_chains.Tie as tie
 
 abbrev Inv-loop : tie.InvT-loop
 Inv-loop chains₀ plan end k₀ chains k = (k ≤ end) × Progress (letterAt (planLines plan)) 1024 k chains

@@ -1,13 +1,18 @@
 -- A plan's lines as the three arrays of the C interface: 64 kinds, 64 times 16 letters, and 64 rounds.
 use Prim.Native.Nat.{ℕ, _+_, _/_, _%_, _<_}
 use mathlib.Core.Path.{_≡_}
-use mathlib.Core.Bool.{cond}
+use mathlib.Core.Bool.{Bool, true, false, cond}
 use mathlib.Core.List.{List, [], map}
 use lib.ListN.{getD}
 use Rattle.chain.specs.Word.{isReference}
 use Rattle.knowledge.specs.Plan.{Fact, back, read, word, round}
 use Rattle.plan.specs.Held.{facts}
 use Rattle.plan.specs.declared.Plan.{Plan}
+
+-- a flag: 1 where it is set
+unfoldable pub flagNumber : Bool → ℕ
+flagNumber true = 1
+flagNumber false = 0
 
 -- the number of a line's kind: 0 Back, 1 Read
 unfoldable pub kindNumber : Fact → ℕ

@@ -1,9 +1,9 @@
--- `answers::plan_arrays::letter` meets its contract.
+-- `plan_arrays::letter` meets its contract.
 -- Assumes nothing.
 use borrow.Author.Needs.{needs}
-use Rattle.answers.proofs.Filling.{letter-reference, letter-measure}
-use Rattle.answers.proofs.plan_arrays.letter.Statement.{statement}
-use Rattle.answers.proofs.plan_arrays.letter.Tie as tie
+use Rattle.plan_arrays.proofs.Filling.{letter-reference, letter-measure}
+use Rattle.plan_arrays.proofs.letter.Statement.{statement}
+use Rattle.plan_arrays.proofs.letter.Tie as tie
 
 cast-result : tie.Need-cast-result
 cast-result c = search needs
