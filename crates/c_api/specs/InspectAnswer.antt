@@ -1,16 +1,17 @@
 -- A look as the numbers of the C interface.
 use mathlib.Core.Path.{_≡_}
-use mathlib.Core.List.{List, [], _∷_}
+use mathlib.Core.List.{List}
 use Prim.Native.Nat.{ℕ}
 use lib.IntN.{ℤ}
 use Rattle.register.specs.Outcome.{Outcome}
 use Rattle.knowledge.specs.Plan.{Fact}
 use Rattle.inspect.specs.Answer.{Answered}
 use Rattle.inspect.specs.declared.InspectAnswer.{InspectAnswer}
+use Rattle.answer_array.specs.Numbers.{lookNumbers}
 
 -- what `plot_inspect` answers: its result and its answer array are those of the answer of this outcome
 pub record InspectCalled (o : Outcome (List Fact)) (file : List ℕ) (t : ℕ) (values : List ℤ) (marks : List ℕ) (values′ : List ℤ) (marks′ : List ℕ) (result : ℕ) (answer : List ℕ) : Type 0 where
   pub looked : InspectAnswer
   pub answered : Answered o file t values marks values′ marks′ looked
   pub result-is : result ≡ looked .refusal
-  pub answer-is : answer ≡ looked .line ∷ 0 ∷ 0 ∷ 0 ∷ 0 ∷ 0 ∷ looked .lines ∷ 0 ∷ []
+  pub answer-is : answer ≡ lookNumbers looked

@@ -1,6 +1,6 @@
 -- A run as the numbers of the C interface.
 use mathlib.Core.Path.{_≡_}
-use mathlib.Core.List.{List, [], _∷_}
+use mathlib.Core.List.{List}
 use Prim.Native.Nat.{ℕ}
 use lib.IntN.{ℤ}
 use Rattle.register.specs.Outcome.{Outcome}
@@ -8,14 +8,11 @@ use Rattle.machine.specs.Run.{Run}
 use Rattle.message_machine.specs.declared.Machine.{Machine}
 use Rattle.runs.specs.Answer.{Answered}
 use Rattle.run_program.specs.declared.RunAnswer.{RunAnswer}
-
--- the places of the answer array
-abbrev pub numbersOf : RunAnswer → List ℕ
-numbersOf r = r .line ∷ r .finished ∷ r .counts .exchanges ∷ r .counts .messages ∷ r .row ∷ r .column ∷ 0 ∷ 0 ∷ []
+use Rattle.answer_array.specs.Numbers.{runNumbers}
 
 -- what a run by a machine answers: its result and its answer array are those of the answer of this outcome
 pub record RunCalled (m : Machine) (o : Outcome Run) (file out : List ℕ) (values : List ℤ) (marks : List ℕ) (out′ : List ℕ) (values′ : List ℤ) (marks′ : List ℕ) (result : ℕ) (answer : List ℕ) : Type 0 where
   pub ran : RunAnswer
   pub answered : Answered m o file out values marks out′ values′ marks′ ran
   pub result-is : result ≡ ran .refusal
-  pub answer-is : answer ≡ numbersOf ran
+  pub answer-is : answer ≡ runNumbers ran

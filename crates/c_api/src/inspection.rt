@@ -2,6 +2,7 @@
 ghost use lib.ListN.{length};
 ghost use Rattle.inspect.specs.Inspection.{inspection};
 ghost use Rattle.c_api.specs.InspectAnswer.{InspectCalled};
+use answer_array;
 
 // Shows a step, counted from 1, after its round t: the refusal number, 0 for none. On a refusal both arrays stay as they are.
 #[no_mangle]
@@ -17,6 +18,6 @@ pub extern "C" fn plot_inspect(
     ensures { λ r. ⌜ InspectCalled (inspection (now (file .entry)) (now (text .entry)) step (length (now (values .entry))) (length (now (marks .entry)))) (now (file .entry)) t (now (values .entry)) (now (marks .entry)) (now (values .exit)) (now (marks .exit)) r (now (answer .exit)) ⌝ }
 {
     let looked = inspect::inspect(file, text, step, t, values, marks);
-    *answer = [looked.line as u64, 0, 0, 0, 0, 0, looked.lines as u64, 0];
+    *answer = answer_array::of_look(looked);
     looked.refusal
 }

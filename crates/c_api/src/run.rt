@@ -1,27 +1,9 @@
 // The two runs.
-ghost use mathlib.Core.Path.{_≡_};
 ghost use Rattle.message_machine.specs.declared.Machine.the-variants.{Direct, Messages};
 ghost use Rattle.runs.specs.Direct.{directRun};
 ghost use Rattle.runs.specs.Answer.{lengths};
-ghost use Rattle.c_api.specs.RunAnswer.{numbersOf, RunCalled};
-use run_program::RunAnswer;
-
-// A run's answer by its numbers.
-fn numbers(ran: RunAnswer) -> [u64; 8]
-    ensures { λ r. ⌜ r ≡ numbersOf ran ⌝ }
-{
-    let counts = ran.counts;
-    [
-        ran.line as u64,
-        ran.finished as u64,
-        counts.exchanges as u64,
-        counts.messages as u64,
-        ran.row as u64,
-        ran.column as u64,
-        0,
-        0,
-    ]
-}
+ghost use Rattle.c_api.specs.RunAnswer.{RunCalled};
+use answer_array;
 
 // Runs a text over a register, every reading by following references: the refusal number, 0 for none.
 #[no_mangle]
@@ -37,7 +19,7 @@ pub extern "C" fn plot_run_direct(
     ensures { λ r. ⌜ RunCalled Direct (directRun (now (file .entry)) (now (text .entry)) budget (lengths (now (out .entry)) (now (values .entry)) (now (marks .entry)))) (now (file .entry)) (now (out .entry)) (now (values .entry)) (now (marks .entry)) (now (out .exit)) (now (values .exit)) (now (marks .exit)) r (now (answer .exit)) ⌝ }
 {
     let ran = runs::run_direct(file, text, budget, out, values, marks);
-    *answer = numbers(ran);
+    *answer = answer_array::of_run(ran);
     ran.refusal
 }
 
@@ -55,6 +37,6 @@ pub extern "C" fn plot_run_messages(
     ensures { λ r. ⌜ RunCalled Messages (directRun (now (file .entry)) (now (text .entry)) budget (lengths (now (out .entry)) (now (values .entry)) (now (marks .entry)))) (now (file .entry)) (now (out .entry)) (now (values .entry)) (now (marks .entry)) (now (out .exit)) (now (values .exit)) (now (marks .exit)) r (now (answer .exit)) ⌝ }
 {
     let ran = runs::run_messages(file, text, budget, out, values, marks);
-    *answer = numbers(ran);
+    *answer = answer_array::of_run(ran);
     ran.refusal
 }

@@ -1,0 +1,2 @@
+-- The places of the C interface's answer array.
+pub mod Numbers
