@@ -1,4 +1,4 @@
--- `run_direct::copy` meets its contract. The loop's invariant: the bytes passed are copied.
+-- `runs::copy` meets its contract. The loop's invariant: the bytes passed are copied.
 -- Assumes nothing.
 use Prim.Native.Nat.{_-_}
 use mathlib.Core.Path.{_≡_, refl, sym, _∙_}
