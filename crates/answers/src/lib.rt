@@ -1,2 +1,2 @@
-// The library's answers as the numbers and arrays of the C interface.
+// A reading's answer as the numbers of the C interface.
 pub mod reading;

@@ -1,5 +1,4 @@
 // The working cells: a part of the scratch buffers from place `base` on, behind the places of the plan's lines.
-
 ghost use Prim.Native.Nat.{_+_, _*_, _≤_, _<_};
 ghost use mathlib.Core.Path.{_≡_};
 ghost use mathlib.Core.Bool.{true};
