@@ -1,5 +1,4 @@
 -- An outcome of a reading as numbers.
-use Prim.Native.Nat.{ℕ}
 use lib.IntN.{pos}
 use Rattle.register.specs.Outcome.{Outcome, done, refused}
 use Rattle.register.specs.declared.cells.Cell.{Cell}

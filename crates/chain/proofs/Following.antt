@@ -20,7 +20,7 @@ use Rattle.register.specs.declared.cells.Cell.{Cell}
 use Rattle.register.specs.declared.cells.Cell.the-variants.{Missing, Value}
 use Rattle.register.proofs.Bounds.{cellIndex-below}
 use Rattle.register.proofs.Arrays.{cellsOf-at}
-use Rattle.chain.specs.Word.{isReference, hasField, readable, column, cell, hop, follow, unpack}
+use Rattle.chain.specs.Word.{isReference, hasField, readable, column, fieldAt, cell, hop, follow, unpack}
 use Rattle.chain.proofs.Packing.{unpack-none, unpack-last, unpack-more, tail-some}
 use Rattle.chain.proofs.Fields.{or-cases}
 
@@ -35,6 +35,17 @@ column-below s l f h =
     let lo = leb-true 8 f (both .0) in
     let hi = ltb-true f (8 + s .measures) (both .1) in
     rw (le-ltb f 8 lo) (omega arith))
+    (or-cases _ _ h)
+
+-- a column tells its field
+pub field-column : (s : Sizes) → Limits s → (f : ℕ) → hasField s f ≡ true → fieldAt s (column s f) ≡ f
+unfolding fieldAt column isReference hasField
+field-column s l f h =
+    ⊎-elim
+    (λ (r : ltb f (s .references) ≡ true). let b = ltb-true f (s .references) r in simp (lt-ltb f 8 (omega (arith, l .references≤)), r))
+    (λ (m : leb 8 f && ltb f (8 + s .measures) ≡ true).
+    let lo = leb-true 8 f (and-both (leb 8 f) (ltb f (8 + s .measures)) m .0) in
+    rw (le-ltb f 8 lo, le-ltb (s .references + (f - 8)) (s .references) (omega arith)) (omega arith))
     (or-cases _ _ h)
 
 reference-column : (s : Sizes) → Limits s → (f : ℕ) → f < s .references → column s f ≡ f

@@ -35,6 +35,10 @@ pub record Passes (s : Sizes) (w : List ℕ) : Type 0 where
 unfoldable pub column : Sizes → ℕ → ℕ
 column s f = cond (isReference f) f (s .references + (f - 8))
 
+-- the field of a column
+unfoldable pub fieldAt : Sizes → ℕ → ℕ
+fieldAt s c = cond (ltb c (s .references)) c (8 + (c - s .references))
+
 -- the cell of record u and field f
 unfoldable pub cell : Sizes → List Cell → ℕ → ℕ → Cell
 cell s cells u f = getD cells (cellIndex s u (column s f)) Missing

@@ -3,8 +3,9 @@ ghost use mathlib.Core.Path.{_≡_};
 ghost use mathlib.Core.Bool.{true};
 ghost use Prim.Native.Nat.{_≤_, _<_};
 ghost use Rattle.register.specs.Cells.{cellsOf};
-ghost use Rattle.register.specs.Shape.{Parts, Valid};
-ghost use Rattle.chain.specs.Word.{hasField, column as columnOf, cell as cellIn, readable, unpack, valueAtRecord};
+ghost use Rattle.register.specs.File.{width};
+ghost use Rattle.register.specs.Shape.{Limits, Parts, Valid};
+ghost use Rattle.chain.specs.Word.{hasField, column as columnOf, fieldAt, cell as cellIn, readable, unpack, valueAtRecord};
 use register::Sizes;
 use register::cells;
 use register::cells::Cell;
@@ -18,6 +19,18 @@ pub fn column(sizes: Sizes, field: usize) -> usize
         field
     } else {
         sizes.references + (field - 8)
+    }
+}
+
+// The field of a column.
+pub fn field_at(sizes: Sizes, column: usize) -> usize
+    requires { ⌜ Limits sizes × (column < width sizes) ⌝ }
+    ensures { λ r. ⌜ (r ≡ fieldAt sizes column) × (r < 16) ⌝ }
+{
+    if column < sizes.references {
+        column
+    } else {
+        8 + (column - sizes.references)
     }
 }
 

@@ -1,9 +1,12 @@
--- The working cells as they are written to the file, one by one, up to one that is out of range.
-use Prim.Native.Nat.{ℕ, _+_, _/_, _%_, _≤_, _<_}
-use mathlib.Core.Path.{_≡_, refl, sym, ap, _∙_}
+-- The working cells as they are written to the file, column by column, up to one that is out of range.
+use Prim.Native.Nat.{ℕ, zero, suc, _+_, _/_, _%_, _≤_, _<_}
+use mathlib.Core.Path.{_≡_, refl, sym, ap, subst, _∙_}
+use mathlib.Core.Logic.{_⊎_, inl, inr, ⊎-elim}
 use mathlib.Core.Bool.{Bool, true, false, cond}
 use mathlib.Core.List.{List}
 use native.Mathlib.Omega.{arith}
+use native.Mathlib.Numerals.{add-one}
+use native.Mathlib.Decide.{ℕ-discrete}
 use borrow.Author.Count.{below-none, below-more}
 use lib.IntN.{ℤ}
 use lib.ListN.{length, getD, set, length-set}
@@ -11,16 +14,17 @@ use lib.Seq.{getD-set-same, getD-set-other, ext-getD}
 use Rattle.integers.specs.Range.{inRange, sumOf}
 use Rattle.integers.specs.declared.Sum.{Sum}
 use Rattle.integers.specs.declared.Sum.the-variants.{InRange, OutOfRange}
-use Rattle.register.specs.File.{width, cellCount, fileOf, putCell}
+use Rattle.integers.proofs.Bools.{true-false}
+use Rattle.register.specs.File.{width, cellCount, cellIndex, fileOf, putCell}
 use Rattle.register.specs.declared.Sizes.{Sizes}
 use Rattle.register.specs.declared.cells.Cell.{Cell}
 use Rattle.register.specs.declared.cells.Cell.the-variants.{Missing}
 use Rattle.register.proofs.Arrays.{putCell-file}
-use Rattle.register.proofs.Bounds.{place-row, place-column, place-is}
-use Rattle.machine.specs.Value.{cellInRange}
-use Rattle.places.specs.Places.{placeAt}
+use Rattle.register.proofs.Bounds.{cellIndex-below, place-row, place-column, place-is}
+use Rattle.knowledge.specs.Cases.{lt-or-le}
 use Rattle.work.specs.Work.{Holds}
-use Rattle.commit.specs.Committed.{AllCommitted, CommitStops}
+use Rattle.machine.specs.Value.{cellInRange}
+use Rattle.commit.specs.Committed.{OneCommitted, working, putColumn, isWritten, putColumns, OneColumn, AllCommitted}
 
 -- what the answer for a total tells
 abbrev Told : ℤ → Sum → Type 0
@@ -35,66 +39,136 @@ total-told z = go (inRange z) refl
     go true h = (h, refl)
     go false h = h
 
--- a file of cells, the first j of which are those of d
-pub record Written (s : Sizes) (d : List Cell) (j : ℕ) (file : List ℕ) : Type 0 where
-  pub cells : List Cell
-  pub count : length cells ≡ cellCount s
-  pub agree : (i : ℕ) → i < j → getD cells i Missing ≡ getD d i Missing
-  pub file-is : file ≡ fileOf s cells
-
--- one cell more is written, and all are
-module _ {s : Sizes} {d : List Cell} where
-  written-next : {j : ℕ} {file : List ℕ} → Written s d j file → j < cellCount s → Written s d (j + 1) (putCell s j (getD d j Missing) file)
-  written-next {j} w h = record {
-    cells = set (w .cells) j (getD d j Missing);
-    count = length-set (w .cells) j (getD d j Missing) ∙ w .count;
-    agree = below-more _ j
-        (λ i b. getD-set-other (w .cells) j i (getD d j Missing) Missing (λ e. omega arith) ∙ w .agree i b)
-        (getD-set-same (w .cells) j (getD d j Missing) Missing (omega (arith, w .count)));
-    file-is = ap (putCell s j (getD d j Missing)) (w .file-is) ∙ putCell-file s (w .cells) j (getD d j Missing) (w .count) h;
-  }
-
-  written-all : {j : ℕ} {file : List ℕ} → Written s d j file → cellCount s ≤ j → length d ≡ cellCount s → file ≡ fileOf s d
-  written-all w h l = w .file-is ∙ ap (fileOf s) (ext-getD Missing (w .cells) d (w .count ∙ sym l) (λ i b. w .agree i (omega (arith, w .count))))
-
--- the cells below j are in range, and are written to what was a file of cells
-pub record Progress (s : Sizes) (base : ℕ) (values : List ℤ) (marks : List ℕ) (file : List ℕ) (j : ℕ) (file′ : List ℕ) : Type 0 where
-  pub in-range : (i : ℕ) → i < j → cellInRange (placeAt values marks (base + i)) ≡ true
+-- the records below n are in range in column c, and written
+pub record ColumnTo (s : Sizes) (base c : ℕ) (values : List ℤ) (marks : List ℕ) (file : List ℕ) (n : ℕ) (file′ : List ℕ) : Type 0 where
+  pub in-range : (u : ℕ) → u < n → cellInRange (working base values marks (cellIndex s u c)) ≡ true
   pub length-is : length file′ ≡ length file
-  pub written : (cells d : List Cell) → length cells ≡ cellCount s → length d ≡ cellCount s → file ≡ fileOf s cells → Holds base d values marks → Written s d j file′
+  pub file-is : file′ ≡ putColumn s (working base values marks) c n file
 
--- before the first turn of the loop, behind one and behind the last
-module _ {s : Sizes} {base : ℕ} {values : List ℤ} {marks file : List ℕ} where
-  pub progress-none : Progress s base values marks file 0 file
-  progress-none = record {
-    in-range = below-none _;
-    length-is = refl;
-    written = λ cells d k l e h. record { cells = cells; count = k; agree = below-none _; file-is = e };
+module _ {s : Sizes} {base c : ℕ} {values : List ℤ} {marks file : List ℕ} where
+  pub column-none : ColumnTo s base c values marks file 0 file
+  unfolding putColumn
+  column-none = record { in-range = below-none _; length-is = refl; file-is = refl }
+
+  pub column-next : {n j : ℕ} {file′ file″ : List ℕ} → ColumnTo s base c values marks file n file′ → j ≡ cellIndex s n c → length file″ ≡ length file′
+      → OneCommitted s base j values marks file′ file″ true → ColumnTo s base c values marks file (n + 1) file″
+  unfolding putColumn
+  column-next {n} p e l h = record {
+    in-range = below-more _ n (p .in-range) (rw e at (h .0));
+    length-is = l ∙ p .length-is;
+    file-is = rw (add-one n, ← e, ← p .file-is) (h .1);
   }
 
-  module _ {j : ℕ} {file′ : List ℕ} (p : Progress s base values marks file j file′) where
-    pub progress-next : {file″ : List ℕ} → j < cellCount s → cellInRange (placeAt values marks (base + j)) ≡ true → length file″ ≡ length file′ → file″ ≡ putCell s j (placeAt values marks (base + j)) file′
-        → Progress s base values marks file (j + 1) file″
-    progress-next h r n e = record {
-      in-range = below-more _ j (p .in-range) r;
+  pub column-all : {n : ℕ} {file′ : List ℕ} → ColumnTo s base c values marks file n file′ → n ≡ s .records → OneColumn s base c values marks file file′
+  column-all p e = record { in-range = λ u l. p .in-range u (omega (arith, e)); file-is = p .file-is ∙ ap (λ (n : ℕ). putColumn s (working base values marks) c n file) e }
+
+-- the columns below k whose fields are written are in range, and written
+pub record ColumnsTo (s : Sizes) (base : ℕ) (fields : List Bool) (values : List ℤ) (marks : List ℕ) (file : List ℕ) (k : ℕ) (file′ : List ℕ) : Type 0 where
+  pub in-range : (u c : ℕ) → u < s .records → c < k → isWritten s fields c ≡ true → cellInRange (working base values marks (cellIndex s u c)) ≡ true
+  pub length-is : length file′ ≡ length file
+  pub file-is : file′ ≡ putColumns s (working base values marks) fields k file
+
+module _ {s : Sizes} {base : ℕ} {fields : List Bool} {values : List ℤ} {marks file : List ℕ} where
+  pub columns-none : ColumnsTo s base fields values marks file 0 file
+  unfolding putColumns
+  columns-none = record { in-range = λ u c l b. absurd (omega (arith, b)); length-is = refl; file-is = refl }
+
+  -- one more, which is not written
+  module _ {k : ℕ} {file′ : List ℕ} (p : ColumnsTo s base fields values marks file k file′) where
+    pub columns-skip : isWritten s fields k ≡ false → ColumnsTo s base fields values marks file (k + 1) file′
+    unfolding putColumns
+    columns-skip e = record {
+      in-range = λ u c l b w. ⊎-elim (λ (h : c < k). p .in-range u c l h w) (λ (h : k ≤ c). let q : c ≡ k = omega (arith, b) in true-false w (ap (isWritten s fields) q ∙ e)) (lt-or-le c k);
+      length-is = p .length-is;
+      file-is = rw (add-one k, e) (p .file-is);
+    }
+
+    -- or is
+    pub columns-next : {file″ : List ℕ} → isWritten s fields k ≡ true → length file″ ≡ length file′ → OneColumn s base k values marks file′ file″ → ColumnsTo s base fields values marks file (k + 1) file″
+    unfolding putColumns
+    columns-next e n h = record {
+      in-range = λ u c l b w. ⊎-elim (λ (i : c < k). p .in-range u c l i w) (λ (i : k ≤ c). let q : c ≡ k = omega (arith, b) in rw q (h .in-range u l)) (lt-or-le c k);
       length-is = n ∙ p .length-is;
-      written = λ cells d k l f w.
-          rw (e, w .place-is j (omega arith)) (written-next (p .written cells d k l f w) h);
+      file-is = rw (add-one k, e, ← p .file-is) (h .file-is);
     }
 
-    pub progress-all : cellCount s ≤ j → AllCommitted s base values marks file file′
-    progress-all h = record {
-      in-range = λ i b. p .in-range i (omega arith);
-      file-is = λ cells d k l f w. written-all (p .written cells d k l f w) h l;
-    }
+    pub columns-all : k ≡ width s → AllCommitted s base fields values marks file file′
+    columns-all e = record { in-range = λ u c l b. p .in-range u c l (omega (arith, e)); file-is = p .file-is ∙ ap (λ (n : ℕ). putColumns s (working base values marks) fields n file) e }
 
--- the place of a cell has a record and a column
-module _ (s : Sizes) (j : ℕ) (h : j < cellCount s) where
-  pub stops-at : (base : ℕ) (values : List ℤ) (marks file file′ : List ℕ) → cellInRange (placeAt values marks (base + j)) ≡ false → length file′ ≡ length file
-      → CommitStops s base values marks file file′ (j / width s) (j % width s)
-  stops-at base values marks file file′ r n = record {
-    row = place-row s j h;
-    col = place-column s j h;
-    out-of-range = rw (place-is s j h) r;
-    length-is = n;
+module _ (s : Sizes) (d : List Cell) where
+  -- a file of cells that agree with d at the records and columns of which P holds
+  record Agrees (P : ℕ → ℕ → Type 0) (file : List ℕ) : Type 0 where
+    pub cells : List Cell
+    pub count : length cells ≡ cellCount s
+    pub agree : (u c : ℕ) → u < s .records → c < width s → P u c → getD cells (cellIndex s u c) Missing ≡ getD d (cellIndex s u c) Missing
+    pub file-is : file ≡ fileOf s cells
+
+  -- the same with other words for the places
+  agrees-as : {P Q : ℕ → ℕ → Type 0} {file : List ℕ} → ((u c : ℕ) → u < s .records → c < width s → Q u c → P u c) → Agrees P file → Agrees Q file
+  agrees-as h a = record { cells = a .cells; count = a .count; agree = λ u c l b q. a .agree u c l b (h u c l b q); file-is = a .file-is }
+
+  -- cell j of d is written
+  agrees-cell : {P : ℕ → ℕ → Type 0} {file : List ℕ} (j : ℕ) {x : Cell} → j < cellCount s → x ≡ getD d j Missing → Agrees P file
+      → Agrees (λ u c. P u c ⊎ (cellIndex s u c ≡ j)) (putCell s j x file)
+  agrees-cell {P} j {x} h e a = record {
+    cells = set (a .cells) j x;
+    count = length-set (a .cells) j x ∙ a .count;
+    agree = λ u c l b q. go u c l b q (ℕ-discrete (cellIndex s u c) j);
+    file-is = ap (putCell s j x) (a .file-is) ∙ putCell-file s (a .cells) j x (a .count) h;
   }
+    where
+      go : (u c : ℕ) → u < s .records → c < width s → P u c ⊎ (cellIndex s u c ≡ j) → Dec (cellIndex s u c ≡ j)
+          → getD (set (a .cells) j x) (cellIndex s u c) Missing ≡ getD d (cellIndex s u c) Missing
+      go u c l b q (yes i) = rw i (getD-set-same (a .cells) j x Missing (omega (arith, a .count)) ∙ e)
+      go u c l b q (no i) = getD-set-other (a .cells) j (cellIndex s u c) x Missing i ∙ a .agree u c l b (⊎-elim (λ p. p) (λ k. absurd (i k)) q)
+
+  module _ (w : ℕ → Cell) (are : (j : ℕ) → j < cellCount s → w j ≡ getD d j Missing) where
+    -- column c at the records below n
+    agrees-column : {P : ℕ → ℕ → Type 0} {file : List ℕ} (c : ℕ) → c < width s → (n : ℕ) → n ≤ s .records → Agrees P file
+        → Agrees (λ u k. P u k ⊎ ((k ≡ c) × (u < n))) (putColumn s w c n file)
+    unfolding putColumn
+    agrees-column c b zero l a = agrees-as (λ u k r q. ⊎-elim (λ p. p) (λ (i : (k ≡ c) × (u < 0)). absurd (omega (arith, i .1)))) a
+    agrees-column {P} c b (suc n) l a =
+        let below = cellIndex-below s n c (omega arith) b in
+        agrees-as (λ u k r q. ⊎-elim (λ p. inl (inl p)) (λ (i : (k ≡ c) × (u < suc n)).
+        ⊎-elim (λ (h : u < n). inl (inr (i .0, h))) (λ (h : n ≤ u). let q : u ≡ n = omega (arith, i .1) in inr (rw (q, i .0) refl)) (lt-or-le u n)))
+        (agrees-cell (cellIndex s n c) below (are _ below) (agrees-column c b n (omega arith) a))
+
+    -- the columns below k whose fields are written, where the others agree from the start
+    agrees-columns : {file : List ℕ} (fields : List Bool) (k : ℕ) → k ≤ width s → Agrees (λ u c. isWritten s fields c ≡ false) file
+        → Agrees (λ u c. (isWritten s fields c ≡ false) ⊎ (c < k)) (putColumns s w fields k file)
+    unfolding putColumns
+    agrees-columns fields zero l a = agrees-as (λ u c r b. ⊎-elim (λ p. p) (λ (i : c < 0). absurd (omega (arith, i)))) a
+    agrees-columns {file} fields (suc k) l a = go (agrees-columns fields k (omega arith) a) (isWritten s fields k) refl
+      where
+        past : (c : ℕ) → c < suc k → (c < k) ⊎ (c ≡ k)
+        past c i = ⊎-elim (λ (h : c < k). inl h) (λ (h : k ≤ c). inr (omega arith)) (lt-or-le c k)
+
+        go : Agrees (λ u c. (isWritten s fields c ≡ false) ⊎ (c < k)) (putColumns s w fields k file) → (t : Bool) → isWritten s fields k ≡ t
+            → Agrees (λ u c. (isWritten s fields c ≡ false) ⊎ (c < suc k)) (cond t (putColumn s w k (s .records) (putColumns s w fields k file)) (putColumns s w fields k file))
+        go before true e =
+            agrees-as (λ u c r b. ⊎-elim (λ p. inl (inl p)) (λ (i : c < suc k). ⊎-elim (λ h. inl (inr h)) (λ q. inr (q, r)) (past c i)))
+            (agrees-column k (omega arith) (s .records) (omega arith) before)
+        go before false e =
+            agrees-as (λ u c r b. ⊎-elim (λ p. inl p) (λ (i : c < suc k). ⊎-elim (λ h. inr h) (λ q. inl (ap (isWritten s fields) q ∙ e)) (past c i))) before
+
+  -- then the file is that of d
+  agrees-all : {file : List ℕ} → length d ≡ cellCount s → Agrees (λ u c. c < width s) file → file ≡ fileOf s d
+  agrees-all l a =
+      a .file-is
+      ∙ ap (fileOf s)
+      (ext-getD Missing (a .cells) d (a .count ∙ sym l)
+      (λ j b.
+      let h : j < cellCount s = omega (arith, a .count) in
+      subst (λ (i : ℕ). getD (a .cells) i Missing ≡ getD d i Missing) (place-is s j h) (a .agree (j / width s) (j % width s) (place-row s j h) (place-column s j h) (place-column s j h))))
+
+-- the working cells d in the columns that are written, and in the others the cells that d has there too
+pub columns-file : (s : Sizes) (fields : List Bool) (base : ℕ) (values : List ℤ) (marks file : List ℕ) (cells d : List Cell) → length cells ≡ cellCount s → length d ≡ cellCount s
+    → file ≡ fileOf s cells → Holds base d values marks
+    → ((u c : ℕ) → u < s .records → c < width s → isWritten s fields c ≡ false → getD cells (cellIndex s u c) Missing ≡ getD d (cellIndex s u c) Missing)
+    → putColumns s (working base values marks) fields (width s) file ≡ fileOf s d
+columns-file s fields base values marks file cells d k l e h same =
+    agrees-all s d l
+    (agrees-as s d (λ u c r b i. inr i)
+    (agrees-columns s d (working base values marks) (λ j b. h .place-is j (omega (arith, l))) fields (width s) (omega arith)
+    (record { cells = cells; count = k; agree = same; file-is = e })))

@@ -2,10 +2,11 @@
 ghost use Prim.Native.Nat.{_+_, _*_, _<_};
 ghost use lib.ListN.{length};
 ghost use mathlib.Core.Path.{_≡_};
-ghost use Rattle.register.specs.File.{cellCount};
+ghost use Rattle.register.specs.File.{width, cellCount};
 ghost use Rattle.register.specs.Shape.{Limits};
 ghost use Rattle.work.specs.Work.{Room};
-ghost use Rattle.commit.specs.Committed.{OneCommitted, Committed};
+ghost use Rattle.commit.specs.Committed.{OneCommitted, ColumnCommitted, Committed};
+use chain::follow;
 use integers::Sum;
 use register::Sizes;
 use register::cells;
@@ -42,14 +43,45 @@ fn commit_cell(
     }
 }
 
-pub fn commit(out: &mut [u8], values: &[i64], marks: &[u8], sizes: Sizes, base: usize) -> Stop
-    requires { ⌜ Limits sizes × (length (now out) ≡ 12 + 5 * cellCount sizes) × Room base (cellCount sizes) (now values) (now marks) ⌝ }
-    ensures { λ r. ⌜ Committed sizes base (now (values .entry)) (now (marks .entry)) (now (out .entry)) (now (out .exit)) r ⌝ }
+// The cells of one column.
+fn commit_column(
+    out: &mut [u8],
+    values: &[i64],
+    marks: &[u8],
+    sizes: Sizes,
+    base: usize,
+    column: usize,
+) -> Stop
+    requires { ⌜ Limits sizes × (length (now out) ≡ 12 + 5 * cellCount sizes) × Room base (cellCount sizes) (now values) (now marks) × (column < width sizes) ⌝ }
+    ensures { λ r. ⌜ ColumnCommitted sizes base column (now (values .entry)) (now (marks .entry)) (now (out .entry)) (now (out .exit)) r ⌝ }
 {
-    let width = sizes.references + sizes.measures;
-    for j in 0..register::cell_count(sizes) {
+    for u in 0..sizes.records {
+        let j = register::cell_index(sizes, u, column);
         if !commit_cell(out, values, marks, sizes, base, j) {
-            return Stop::At(j / width, j % width);
+            return Stop::At(u, column);
+        }
+    }
+    Stop::Nowhere
+}
+
+// The columns of the fields that a step writes: no other has changed.
+pub fn commit(
+    out: &mut [u8],
+    values: &[i64],
+    marks: &[u8],
+    sizes: Sizes,
+    base: usize,
+    fields: [bool; 16],
+) -> Stop
+    requires { ⌜ Limits sizes × (length (now out) ≡ 12 + 5 * cellCount sizes) × Room base (cellCount sizes) (now values) (now marks) ⌝ }
+    ensures { λ r. ⌜ Committed sizes base fields (now (values .entry)) (now (marks .entry)) (now (out .entry)) (now (out .exit)) r ⌝ }
+{
+    for column in 0..sizes.references + sizes.measures {
+        if fields[follow::field_at(sizes, column)] {
+            let stop = commit_column(out, values, marks, sizes, base, column);
+            if let Stop::At(_, _) = stop {
+                return stop;
+            }
         }
     }
     Stop::Nowhere

@@ -17,10 +17,10 @@ use Rattle.register.specs.declared.cells.Cell.the-variants.{Missing, Value}
 use Rattle.actions.specs.declared.rule.Rule.{Rule}
 use Rattle.actions.specs.declared.rule.Slot.{Slot}
 use Rattle.rules.specs.Program as P
-use Rattle.rules.specs.Program.{Action, isRemote}
+use Rattle.rules.specs.Program.{Action, isRemote, fieldOf}
 use Rattle.step_plan.specs.Stored.{testOf, actionOf, ruleOf}
 use Rattle.machine.specs.Value.{holds, cellInRange}
-use Rattle.machine.specs.Local.{sumCell, formed, stored, fieldOf, offends}
+use Rattle.machine.specs.Local.{sumCell, formed, stored, offends}
 use Rattle.machine.specs.Remote.{actionMessages, ruleMessages}
 use Rattle.machine.proofs.Folding.{cond-both, ruleMessages-local}
 use Rattle.effects.specs.Answers.{cellWrite, sumAnswer, sumWrite, writeStored, writeOf}

@@ -7,10 +7,10 @@ use Rattle.integers.specs.declared.Sum.{Sum}
 use Rattle.integers.specs.declared.Sum.the-variants.{InRange, OutOfRange}
 use Rattle.register.specs.declared.cells.Cell.{Cell}
 use Rattle.register.specs.declared.cells.Cell.the-variants.{Missing, Value}
-use Rattle.rules.specs.Program.{Rule}
+use Rattle.rules.specs.Program.{Rule, fieldOf}
 use Rattle.machine.specs.declared.message.Message.{Message}
 use Rattle.machine.specs.Value.{holds, cellInRange}
-use Rattle.machine.specs.Local.{stored, fieldOf, offends}
+use Rattle.machine.specs.Local.{stored, offends}
 use Rattle.effects.specs.declared.rule.Write.{Write}
 use Rattle.effects.specs.declared.rule.Write.the-variants as W
 use Rattle.effects.specs.declared.rule.Sent.{Sent}

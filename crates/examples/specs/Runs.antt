@@ -10,9 +10,9 @@ use Rattle.register.specs.declared.Sizes.{Sizes}
 use Rattle.register.specs.declared.cells.Cell.{Cell}
 use Rattle.register.specs.declared.cells.Cell.the-variants.{Missing, Value}
 use Rattle.chain.specs.Word.{isReference, column, cell, hop, follow, valueAtRecord}
-use Rattle.rules.specs.Program.{Step, Program}
+use Rattle.rules.specs.Program.{Step, Program, fieldOf}
 use Rattle.machine.specs.Value.{both, termValue, holds, cellInRange}
-use Rattle.machine.specs.Local.{sumCell, formed, stored, fieldOf, store, localRule, localRules, localRecords, offends, sumOffends}
+use Rattle.machine.specs.Local.{sumCell, formed, stored, store, localRule, localRules, localRecords, offends, sumOffends}
 use Rattle.machine.specs.Remote.{sentTo, actionMessages, ruleMessages, messages, recordMessages, increased, merged, deliver, deliverAll}
 use Rattle.machine.specs.Step.{stepCells, offendsAt, someBelow, stops}
 use Rattle.machine.specs.Run.{Run, complete, spent, offended, direct, entered, following, behind, stepFirst, runFrom, run}

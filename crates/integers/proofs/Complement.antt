@@ -10,7 +10,7 @@ use lib.Signed.{mag, leZ, ltZ, nonNeg}
 use mir.Syntax.{w32, w64}
 use mir.Val.{toZ, ofZ, SFits, Fits}
 use mir.Facts.{toZ-ofZ, sfits-toZ, sfits-widen, toZ-pos}
-use Rattle.integers.specs.Range.{eqZ, isIndex}
+use Rattle.integers.specs.Range.{inRange, eqZ, isIndex}
 
 -- a value that a callee gave is read back from its bits
 pub kept : (z : ℤ) → mag z < 2147483648 → toZ w32 (ofZ w32 z) ≡ z
@@ -112,6 +112,11 @@ module _ (op : ℤ → ℤ → ℤ) {a b : ℤ} (ha : SFits w32 a) (hb : SFits w
 pub range-fits : (z : ℤ) → leZ (negsuc 2147483647) z ≡ true → leZ z (pos 2147483647) ≡ true → SFits w32 z
 range-fits (pos n) lo hi = record { sfits = omega (arith, leb-true n 2147483647 hi) }
 range-fits (negsuc n) lo hi = record { sfits = omega (arith, leb-true n 2147483647 lo) }
+
+pub fits-range : (z : ℤ) → SFits w32 z → inRange z ≡ true
+unfolding inRange
+fits-range (pos n) h = le-leb n 2147483647 (omega (arith, h .sfits))
+fits-range (negsuc n) h = simp (le-leb n 2147483647 (omega (arith, h .sfits)))
 
 -- an index below n, and zero, as the tests have them
 pub index-is : (n : ℕ) (z : ℤ) → isIndex n z ≡ true → (z ≡ pos (natAbs z)) × (natAbs z < n)

@@ -8,7 +8,7 @@ ghost use lib.Seq.{sets};
 ghost use lib.Signed.{mag, ltZ, nonNeg};
 ghost use mir.Syntax.{w32};
 ghost use mir.Val.{SFits, toZ, ofZ};
-ghost use Rattle.integers.specs.Bytes.{word as wordOf, wordAt, wordBytes, valueAt, valueBytes};
+ghost use Rattle.integers.specs.Bytes.{word as wordOf, wordAt, valueAt, valueBytes};
 ghost use Rattle.integers.specs.Range.{sumOf, eqZ, isIndex};
 
 // A sum, or that it leaves the range of a value.

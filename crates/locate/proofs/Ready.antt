@@ -23,7 +23,7 @@ use Rattle.actions.specs.declared.rule.Slot.{Slot}
 use Rattle.rules.specs.Program as P
 use Rattle.rules.specs.Passed.{Target, ActionPasses}
 use Rattle.step_plan.specs.Stored.{actionOf, ruleOf}
-use Rattle.machine.specs.Local.{fieldOf}
+use Rattle.rules.specs.Program.{fieldOf}
 use Rattle.machine.specs.Run.{direct}
 use Rattle.machine.proofs.Direct.{direct-refers}
 use Rattle.evaluate.specs.Located.{located, ChainReaches, TermReaches, TestReaches, RuleReaches, SlotReaches}

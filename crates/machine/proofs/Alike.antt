@@ -11,11 +11,11 @@ use Rattle.register.specs.File.{width, cellIndex}
 use Rattle.register.specs.declared.Sizes.{Sizes}
 use Rattle.register.specs.declared.cells.Cell.{Cell}
 use Rattle.register.specs.declared.cells.Cell.the-variants.{Missing}
-use Rattle.rules.specs.Program.{Test, Action, Rule}
+use Rattle.rules.specs.Program.{Test, Action, Rule, fieldOf}
 use Rattle.machine.specs.declared.message.Sort.the-variants.{Least, Total}
 use Rattle.machine.specs.declared.message.Message.{Message}
 use Rattle.machine.specs.Value.{compareCells, holds, cellInRange}
-use Rattle.machine.specs.Local.{sumCell, formed, stored, fieldOf, store, localRule, localRules, localRecords, offends, sumOffends}
+use Rattle.machine.specs.Local.{sumCell, formed, stored, store, localRule, localRules, localRecords, offends, sumOffends}
 use Rattle.machine.specs.Remote.{sentTo, actionMessages, ruleMessages, messages, recordMessages, deliverAll}
 use Rattle.machine.specs.Step.{stepCells, offendsAt, someBelow, stops}
 use Rattle.machine.specs.Alike.{TestAlike, always-alike, when-alike, ActionAlike, set-alike, sum-alike, difference-alike, least-alike, total-alike, RuleAlike, RulesAlike, none, more}

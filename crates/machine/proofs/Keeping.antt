@@ -10,7 +10,7 @@ use mir.Syntax.{w32}
 use mir.Val.{SFits}
 use Rattle.integers.specs.Range.{inRange}
 use Rattle.integers.proofs.Bools.{and-both, true-false}
-use Rattle.integers.proofs.Complement.{range-fits}
+use Rattle.integers.proofs.Complement.{range-fits, fits-range}
 use Rattle.register.specs.Cells.{valueOf}
 use Rattle.register.specs.Shape.{Limits, Valid, refersWithin}
 use Rattle.register.specs.declared.Sizes.{Sizes}
@@ -31,11 +31,16 @@ use Rattle.machine.proofs.Folding.{cond-both, stepCells-length}
 use Rattle.machine.proofs.Stops.{in-range-each}
 use Rattle.machine.proofs.Refers.{Refers, Change, change-refers}
 
--- a cell in range fits
+-- a cell in range fits, and one that fits is in range
 pub in-range-fits : (c : Cell) → cellInRange c ≡ true → SFits w32 (valueOf c)
 unfolding cellInRange valueOf inRange
 in-range-fits Missing e = record { sfits = omega arith }
 in-range-fits (Value z) e = let bounds = and-both _ _ e in range-fits z (bounds .0) (bounds .1)
+
+pub fits-in-range : (c : Cell) → SFits w32 (valueOf c) → cellInRange c ≡ true
+unfolding cellInRange valueOf
+fits-in-range Missing h = refl
+fits-in-range (Value z) h = fits-range z h
 
 -- "`<?=` keeps the smaller": one of two references
 smaller-refers : (n : ℕ) (c : Cell) (a : ℤ) → refersWithin n c ≡ true → refersWithin n (Value a) ≡ true → refersWithin n (smaller c a) ≡ true

@@ -6,6 +6,7 @@ pub mod Readable
 pub mod Readings
 pub mod Refers
 pub mod Keeping
+pub mod Untouched
 pub mod Direct
 pub mod Columns
 pub mod RunningPass

@@ -1,7 +1,7 @@
 -- Every line of a plan can be followed where the readings can: all hops before a word's last are references.
 use Prim.Native.Nat.{ℕ, zero, suc, _≤_, _<_}
 use mathlib.Core.Path.{_≡_, refl}
-use mathlib.Core.Bool.{Bool, true, _&&_, _||_}
+use mathlib.Core.Bool.{Bool, true}
 use mathlib.Core.List.{List, [], _∷_, List·Memᴰ}
 use native.Mathlib.Omega.{arith}
 use lib.Dec.{ltb}
@@ -10,7 +10,7 @@ use Rattle.integers.proofs.Bools.{and-both}
 use Rattle.register.specs.declared.Sizes.{Sizes}
 use Rattle.chain.specs.Word.{hasField, readable}
 use Rattle.chain_text.specs.Text.{every}
-use Rattle.knowledge.specs.Plan.{Fact, back, read, word, hops, half, front, rest, back-need, read-need}
+use Rattle.knowledge.specs.Plan.{Fact, back, read, hops, half, front, rest, back-need, read-need}
 use Rattle.knowledge.specs.Half.{half-below}
 use Rattle.knowledge.specs.Promise.{Needed, itself, by-back, by-read, Wanted}
 

@@ -28,7 +28,7 @@ change-keeps P g k (c ∷ cells) (suc j) zero h = h
 change-keeps P g k (c ∷ cells) (suc j) (suc i) h = change-keeps P g k cells j i h
 
 -- a place tells its column
-place-column : (s : Sizes) (u v c d : ℕ) → c < width s → d < width s → cellIndex s u c ≡ cellIndex s v d → c ≡ d
+pub place-column : (s : Sizes) (u v c d : ℕ) → c < width s → d < width s → cellIndex s u c ≡ cellIndex s v d → c ≡ d
 unfolding cellIndex
 place-column s u v c d hc hd e = sym (digits-mod u hc) ∙ ap (λ (k : ℕ). k % width s) e ∙ digits-mod v hd
 

@@ -1,7 +1,7 @@
 -- A step in its setting: the loop that it stands in, the pass that it is done in, and the step that comes next.
 use Prim.Native.Nat.{ℕ}
 use mathlib.Core.Path.{_≡_, refl, sym, ap}
-use mathlib.Core.Bool.{Bool, true, false, cond, not, _||_}
+use mathlib.Core.Bool.{Bool, true, false, cond}
 use mathlib.Core.List.{List}
 use mathlib.Core.Option.{Option, none, some}
 use borrow.Author.Tests.{eqb-true}
@@ -13,7 +13,7 @@ use Rattle.rules.specs.declared.around.Setting.{Setting}
 use Rattle.rules.specs.declared.around.Setting.the-variants.{Single, Looped}
 use Rattle.rules.specs.Program.{Program}
 use Rattle.rules.specs.Passed.{settingFits, openBehind}
-use Rattle.machine.specs.Run.{sameColumn, Pass, begins, goesOn, entered, following}
+use Rattle.machine.specs.Run.{Pass, begins, goesOn, entered, following}
 
 -- the loop that is open before a step
 abbrev pub openBefore : Setting → Option ℕ

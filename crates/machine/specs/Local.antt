@@ -11,7 +11,7 @@ use Rattle.register.specs.declared.Sizes.{Sizes}
 use Rattle.register.specs.declared.cells.Cell.{Cell}
 use Rattle.register.specs.declared.cells.Cell.the-variants.{Missing, Value}
 use Rattle.chain.specs.Word.{column}
-use Rattle.rules.specs.Program.{Term, Action, set, sum, difference, least, total, Rule}
+use Rattle.rules.specs.Program.{Action, set, sum, difference, least, total, Rule, fieldOf}
 use Rattle.machine.specs.Value.{both, termValue, holds, cellInRange}
 
 -- "a sum with an unfilled side is unfilled"
@@ -33,14 +33,6 @@ stored read (sum f x y) = some (f, formed read (sum f x y))
 stored read (difference f x y) = some (f, formed read (difference f x y))
 stored read (least f c x) = none
 stored read (total f c x) = none
-
--- the field that a rule writes
-unfoldable pub fieldOf : Action → ℕ
-fieldOf (set f x) = f
-fieldOf (sum f x y) = f
-fieldOf (difference f x y) = f
-fieldOf (least f c x) = f
-fieldOf (total f c x) = f
 
 -- the cells with this stored for record u
 unfoldable pub store : Sizes → ℕ → Option (ℕ × Cell) → List Cell → List Cell

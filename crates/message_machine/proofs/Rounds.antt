@@ -5,7 +5,7 @@ use mathlib.Core.List.{List, [], _∷_, List·Memᴰ, List·Memᴰ·head, List·
 use mathlib.Core.Logic.{⊎-elim}
 use native.Mathlib.Omega.{arith}
 use lib.ListN.{length}
-use Rattle.knowledge.specs.Plan.{Fact, read, round, place, plan, last-round, line}
+use Rattle.knowledge.specs.Plan.{Fact, read, round, place, plan, last-round}
 use Rattle.knowledge.specs.Promise.{Needed, Promise}
 use Rattle.knowledge.specs.Cases.{lt-or-le}
 use Rattle.knowledge.specs.Facts.{round-none, round-both, needed-ind}

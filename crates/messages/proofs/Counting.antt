@@ -1,6 +1,6 @@
 -- Messages counted: of a round, and of all rounds so far.
 use Prim.Native.Nat.{ℕ, zero, suc, _+_, _*_, _≤_, _<_}
-use mathlib.Core.Path.{_≡_, refl, sym, ap, ap₂, _∙_}
+use mathlib.Core.Path.{_≡_, refl, sym, ap₂, _∙_}
 use mathlib.Core.Bool.{Bool, true, false, cond}
 use mathlib.Core.List.{List, [], _∷_}
 use mathlib.Core.Logic.{_≢_, ⊎-elim}
@@ -11,11 +11,10 @@ use lib.Dec.{eqb}
 use lib.ListN.{length, take}
 use Rattle.register.specs.declared.Sizes.{Sizes}
 use Rattle.register.specs.declared.cells.Cell.{Cell}
-use Rattle.register.specs.declared.cells.Cell.the-variants.{Missing, Value}
 use Rattle.knowledge.specs.Plan.{Fact, round, line}
 use Rattle.knowledge.specs.Cases.{true-or-false}
 use Rattle.message_machine.specs.Held.{Held, heldAfter}
-use Rattle.message_machine.specs.Counts.{isSent, lineMessages, planMessages}
+use Rattle.message_machine.specs.Counts.{lineMessages, planMessages}
 use Rattle.line_exchange.proofs.Sent.{line-le, line-alike, line-missing}
 use Rattle.messages.specs.Exchanged.{roundMessages}
 use Rattle.message_machine.proofs.Settling.{held-same, held-before}

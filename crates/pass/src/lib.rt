@@ -10,7 +10,7 @@ ghost use Rattle.register.specs.Shape.{Limits, Parts};
 ghost use Rattle.chain.specs.Word.{hasField};
 ghost use Rattle.rules.specs.Passed.{SettingPasses};
 ghost use Rattle.machine.specs.Run.{sameCell as sameCellOf, begins};
-ghost use Rattle.pass.specs.Column.{Space, HasColumn, Column, SameAs, HasPass, Behind, Entered, NextIs};
+ghost use Rattle.pass.specs.Column.{Space, HasColumn, SameAs, HasPass, Entered, NextIs};
 use chain::follow;
 use places;
 use places::column;

@@ -87,9 +87,9 @@ frame-at : (fs : List Frame) (xs : Program) (k : ℕ) (d : Frame) → Framed fs 
 unfolding rulesAt
 frame-at fs [] k d h b = absurd (omega arith)
 frame-at [] (x ∷ xs) k d h b = absurd h
-frame-at (f ∷ fs) (x ∷ xs) zero d h b = record { rules = x .rules; there = refl; remote-is = h .1; holds = h .2 }
+frame-at (f ∷ fs) (x ∷ xs) zero d h b = record { rules = x .rules; there = refl; remote-is = h .0 .remote-is; holds = h .0 .holds }
 frame-at (f ∷ fs) (x ∷ xs) (suc k) d h b =
-    let r = frame-at fs xs k d (h .3) (omega arith) in
+    let r = frame-at fs xs k d (h .1) (omega arith) in
     record { rules = r .rules; there = r .there; remote-is = r .remote-is; holds = r .holds }
 
 pub step-frame : (fs : List Frame) (xs : Program) (k : ℕ) (d : Frame) → Framed fs xs → 1 ≤ k → k ≤ length xs → FrameAt xs k (getD fs (k - 1) d)

@@ -46,7 +46,7 @@ use Rattle.rules.proofs.Checked.{Clean, rule-fine}
 use Rattle.rules.proofs.Loops.{openLoop}
 use Rattle.rules.proofs.Passing.{Reached}
 use Rattle.step_plan.specs.Stored.{termOf, testOf, actionOf, ruleOf, rulesIn}
-use Rattle.reader.specs.Kept.{stepsIn, Framed}
+use Rattle.reader.specs.Kept.{stepsIn, FrameOf, Framed}
 use Rattle.step_plan.specs.Readings.{chainIn, testChains, ruleChains, slotChains, pairWords, words, Short, Sound, PlannedWith, allSettled}
 use Rattle.reader_state.specs.State.{noRules, moreRules, withRemote, withRule, frameOf, lastFrame, standing, advanceOf}
 use Rattle.reader_state.specs.declared.tally.Tally.{Tally}
@@ -284,6 +284,15 @@ module _ (s : Sizes) (lim : Limits s) {slots : List Slot} {frames : List Frame} 
     pub end-count : p .count ≡ length (stepPlan (openRules st))
     end-count = sym (holds-count end-holds)
 
+    end-frame : FrameOf (frameOf x p) (openRules st)
+    unfolding frameOf
+    end-frame = record {
+      few = omega (arith, r .rules .few, h .tally-is .rules-are);
+      remote-is = h .tally-is .remote-is;
+      fields-are = h .tally-is .fields-are;
+      holds = end-holds;
+    }
+
     pub at-end : {q : Plan} → Holds q [] → Behind slots (set frames (x .steps) (frameOf x p)) q full (advanceOf x n L.End) (advance st end)
     unfolding advanceOf advance openRules rulesIn noRules stepPlan readings plan add-readings frameOf
     at-end {q} e =
@@ -301,7 +310,8 @@ module _ (s : Sizes) (lim : Limits s) {slots : List Slot} {frames : List Frame} 
             frames-length = length-set frames (x .steps) f ∙ b .kept .frames-length;
             steps-are = new;
             rules-are = refl;
-            framed = rw (h .steps-are) (framed-more frames (st .steps) f (record { rules = openRules st; setting = settingIn (st .around) }) (b .kept .framed) (omega (arith, end-steps, b .kept .frames-length, h .steps-are)) (omega (arith, r .rules .few, h .tally-is .rules-are)) (h .tally-is .remote-is) end-holds);
+            framed = rw (h .steps-are) (framed-more frames (st .steps) f (record { rules = openRules st; setting = settingIn (st .around) })
+                (b .kept .framed) (omega (arith, end-steps, b .kept .frames-length, h .steps-are)) end-frame);
           };
           planned = rw same (extended-same e);
         }

@@ -1,17 +1,16 @@
 -- The reader's arrays, and what a store does to the steps that they hold.
 use Prim.Native.Nat.{ℕ, zero, suc, _+_, _-_, _*_, _≤_, _<_}
 use mathlib.Core.Path.{_≡_, refl, ap, ap₂, subst⁻¹, _∙_}
-use mathlib.Core.List.{List, [], _∷_, _++_, map, map-append}
+use mathlib.Core.List.{List, [], _∷_, _++_, map-append}
 use native.Mathlib.Omega.{arith}
 use native.Mathlib.Numerals.{add-one}
 use lib.ListN.{length, getD, take, drop, set, length-take, length-drop}
 use lib.Seq.{take-set-le, drop-set-add, take-set-lt, take-suc-set, drop-drop}
-use Rattle.plan.specs.Held.{Holds}
 use Rattle.actions.specs.declared.rule.Slot.{Slot}
-use Rattle.rules.specs.Program.{Step, stepPlan, hasRemote}
+use Rattle.rules.specs.Program.{Step}
 use Rattle.rules.specs.Text.{closeLoop}
 use Rattle.step_plan.specs.Stored.{ruleOf, rulesIn}
-use Rattle.reader.specs.Kept.{stepsIn, Framed}
+use Rattle.reader.specs.Kept.{stepsIn, FrameOf, Framed}
 use Rattle.reader_state.specs.State.{lastFrame}
 use Rattle.reader_state.specs.declared.state.Frame.{Frame}
 
@@ -46,11 +45,11 @@ more-frames slots (g ∷ fs) f =
     more-frames (drop 32 slots) fs f
     ∙ ap (λ (l : List Slot). stepsIn (drop 32 slots) fs ++ (record { rules = rulesIn (f .rules) (take 32 l); setting = f .setting } ∷ [])) (drop-drop (32 * length fs) 32 slots ∙ ap (λ (n : ℕ). drop n slots) at))
 
-pub framed-more : (fs : List Frame) (xs : List Step) (f : Frame) (x : Step) → Framed fs xs → length xs < length fs → f .rules ≤ 32 → f .remote ≡ hasRemote (x .rules) → Holds (f .plan) (stepPlan (x .rules))
+pub framed-more : (fs : List Frame) (xs : List Step) (f : Frame) (x : Step) → Framed fs xs → length xs < length fs → FrameOf f (x .rules)
     → Framed (set fs (length xs) f) (xs ++ (x ∷ []))
-framed-more [] xs f x h b n r p = absurd (omega arith)
-framed-more (g ∷ fs) [] f x h b n r p = (n, r, p, tt)
-framed-more (g ∷ fs) (y ∷ xs) f x h b n r p = (h .0, h .1, h .2, framed-more fs xs f x (h .3) (omega arith) n r p)
+framed-more [] xs f x h b k = absurd (omega arith)
+framed-more (g ∷ fs) [] f x h b k = (k, tt)
+framed-more (g ∷ fs) (y ∷ xs) f x h b k = (h .0, framed-more fs xs f x (h .1) (omega arith) k)
 
 -- the last frame is the last of its loop
 close-frame : (slots : List Slot) (fs : List Frame) (n : ℕ) (d : Frame) → n < length fs
@@ -65,10 +64,12 @@ framed-last : (fs : List Frame) (xs : List Step) (n : ℕ) (d : Frame) → Frame
 unfolding closeLoop lastFrame
 framed-last fs [] n d h e = absurd (omega arith)
 framed-last [] (x ∷ xs) n d h e = absurd h
-framed-last (f ∷ fs) (x ∷ []) zero d h e = h
+framed-last (f ∷ fs) (x ∷ []) zero d h e =
+    let k = h .0 in
+    (record { few = k .few; remote-is = k .remote-is; fields-are = k .fields-are; holds = k .holds }, tt)
 framed-last (f ∷ fs) (x ∷ []) (suc n) d h e = absurd (omega arith)
 framed-last (f ∷ fs) (x ∷ y ∷ xs) zero d h e = absurd (omega arith)
-framed-last (f ∷ fs) (x ∷ y ∷ xs) (suc n) d h e = (h .0, h .1, h .2, framed-last fs (y ∷ xs) n d (h .3) (omega arith))
+framed-last (f ∷ fs) (x ∷ y ∷ xs) (suc n) d h e = (h .0, framed-last fs (y ∷ xs) n d (h .1) (omega arith))
 
 -- the same, with the place counted back from the number of steps
 module _ (slots : List Slot) (fs : List Frame) (n : ℕ) (d : Frame) (p : 1 ≤ n) where

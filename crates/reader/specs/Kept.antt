@@ -1,11 +1,13 @@
 -- What the reader's arrays hold of a program, and its answer.
-use Prim.Native.Nat.{_≤_}
+use Prim.Native.Nat.{ℕ, _≤_}
 use mathlib.Core.Path.{_≡_}
+use mathlib.Core.Bool.{false}
 use mathlib.Core.List.{List, [], _∷_}
-use lib.ListN.{length, take, drop}
+use lib.ListN.{length, getD, take, drop}
 use Rattle.register.specs.Outcome.{Outcome, done, unless}
 use Rattle.plan.specs.Held.{Holds}
-use Rattle.rules.specs.Program.{Step, Program, stepPlan, hasRemote, mostLines}
+use Rattle.rules.specs.Program.{Rule, Step, Program, stepPlan, writes, hasRemote, mostLines}
+use Rattle.rules.specs.Check.{someAction}
 use Rattle.actions.specs.declared.rule.Slot.{Slot}
 use Rattle.step_plan.specs.Stored.{rulesIn}
 use Rattle.reader_state.specs.declared.state.Frame.{Frame}
@@ -21,11 +23,18 @@ stepsIn slots (f ∷ fs) = record { rules = rulesIn (f .rules) (take 32 slots); 
 unfoldable pub programOf : R.Program → Program
 programOf p = stepsIn (p .slots) (take (p .steps) (p .frames))
 
--- each step's frame has at most 32 rules, the step's plan, and whether one of its rules is remote
+-- what the frame of a step keeps of its rules: at most 32, whether one is remote, which fields they write, and their plan
+pub record FrameOf (f : Frame) (rs : List Rule) : Type 0 where
+  pub few : f .rules ≤ 32
+  pub remote-is : f .remote ≡ hasRemote rs
+  pub fields-are : (i : ℕ) → getD (f .fields) i false ≡ someAction (writes i) rs
+  pub holds : Holds (f .plan) (stepPlan rs)
+
+-- each step has its frame
 abbrev pub Framed : List Frame → List Step → Type 0
 Framed fs [] = Unit {0}
 Framed [] (x ∷ xs) = ⊥
-Framed (f ∷ fs) (x ∷ xs) = (f .rules ≤ 32) × (f .remote ≡ hasRemote (x .rules)) × Holds (f .plan) (stepPlan (x .rules)) × Framed fs xs
+Framed (f ∷ fs) (x ∷ xs) = FrameOf f (x .rules) × Framed fs xs
 
 -- 32 places for each of 32 steps; its frames, its number of steps and its most lines are those of the program that its array holds
 pub record Complete (p : R.Program) : Type 0 where

@@ -46,6 +46,7 @@ fn empty_frame() -> Frame {
     Frame {
         rules: 0,
         remote: false,
+        fields: [false; 16],
         setting: Setting::Single,
         plan: Plan::empty(),
     }

@@ -1,19 +1,19 @@
 -- What the reader keeps of the lines so far stands for the state of the definition.
-use Prim.Native.Nat.{ℕ, zero, suc, _+_, _≤_, _<_, max}
+use Prim.Native.Nat.{ℕ, zero, suc, _+_, _<_, max}
 use mathlib.Core.Path.{_≡_, refl, sym, ap, _∙_}
-use mathlib.Core.Bool.{Bool, true, false, _&&_, _||_, or-true, or-false}
+use mathlib.Core.Bool.{Bool, true, false, _||_, or-true, or-false}
 use mathlib.Core.List.{List, [], _∷_, _++_}
 use mathlib.Core.Option.{some}
 use native.Mathlib.Omega.{arith}
 use native.Mathlib.Decide.{ℕ-discrete}
-use borrow.Author.Tests.{ltb-true, eq-eqb, ne-eqb}
-use lib.Dec.{leb, ltb, eqb}
+use borrow.Author.Tests.{eq-eqb, ne-eqb}
+use lib.Dec.{eqb}
 use lib.ListN.{length, getD, set, replicate, length-append, length-set}
 use lib.Seq.{getD-set-same, getD-set-other}
 use Rattle.register.specs.Shape.{Limits}
 use Rattle.register.specs.declared.Sizes.{Sizes}
 use Rattle.integers.proofs.Bools.{and-both}
-use Rattle.chain.specs.Word.{hasField}
+use Rattle.chain.proofs.Fields.{field-below}
 use Rattle.chain_text.specs.Text.{names, fieldOf}
 use Rattle.syntax.specs.Written as W
 use Rattle.syntax.specs.Written.{Line, step, end, done, loop, rule}
@@ -21,7 +21,8 @@ use Rattle.syntax.specs.Parts.{named, fieldNamed, target}
 use Rattle.actions.specs.ActionRead.{ruleOfAction}
 use Rattle.lines.specs.LineRead.{lineRead}
 use Rattle.rules.proofs.Passing.{close-length}
-use Rattle.rules.specs.Program.{Test, Action, Rule, Step, stepPlan, isRemote, hasRemote, mostLines}
+use Rattle.rules.specs.Program as P
+use Rattle.rules.specs.Program.{Test, Action, Rule, Step, stepPlan, writes, isRemote, hasRemote, mostLines}
 use Rattle.rules.specs.Check.{isOpen, openRules, isLeast, isTotal, someAction}
 use Rattle.rules.specs.Check as C
 use Rattle.rules.specs.Text.{testOf, actionOf, closeLoop, withStep, advance, start}
@@ -35,8 +36,10 @@ use Rattle.reader_state.specs.declared.state.State.{State}
 pub record Counts (x : Tally) (rs : List Rule) : Type 0 where
   pub rules-are : x .rules ≡ length rs
   pub remote-is : x .remote ≡ hasRemote rs
+  pub fields-length : length (x .fields) ≡ 16
   pub leasts-length : length (x .leasts) ≡ 16
   pub totals-length : length (x .totals) ≡ 16
+  pub fields-are : (f : ℕ) → getD (x .fields) f false ≡ someAction (writes f) rs
   pub leasts-are : (f : ℕ) → getD (x .leasts) f false ≡ someAction (isLeast f) rs
   pub totals-are : (f : ℕ) → getD (x .totals) f false ≡ someAction (isTotal f) rs
 
@@ -54,13 +57,22 @@ none-taken (suc n) (suc f) = none-taken n f
 
 counts-none : Counts noRules []
 unfolding noRules hasRemote someAction
-counts-none = record { rules-are = refl; remote-is = refl; leasts-length = refl; totals-length = refl; leasts-are = none-taken 16; totals-are = none-taken 16 }
+counts-none = record {
+  rules-are = refl;
+  remote-is = refl;
+  fields-length = refl;
+  leasts-length = refl;
+  totals-length = refl;
+  fields-are = none-taken 16;
+  leasts-are = none-taken 16;
+  totals-are = none-taken 16;
+}
 
 pub start-stands : Stands startState start
 unfolding startState start mostLines isOpen openRules
 start-stands = record { steps-are = refl; lines-are = refl; around-is = refl; in-step = refl; tally-is = counts-none }
 
--- a field that has taken a remote write, and the others
+-- a field that has taken a write, and the others
 taken-more : (l : List Bool) (g f : ℕ) → g < length l → getD (set l g true) f false ≡ getD l f false || eqb f g
 taken-more l g f h = go (ℕ-discrete f g)
   where
@@ -79,62 +91,60 @@ remote-append (q ∷ rs) r = go (remote-append rs r) (isRemote (q .action))
 
 -- one more rule, by what it adds
 module _ {x : Tally} {rs : List Rule} (h : Counts x rs) (r : Rule) where
-  one-more : x .rules + 1 ≡ length (rs ++ (r ∷ []))
-  one-more = rw (h .rules-are, length-append rs (r ∷ []))
-
-  -- the fields that have taken one sort of remote write: as before, or with the rule's own
+  -- the fields that have taken one sort of write: as before, or with the rule's own
   module _ (sort : ℕ → Action → Bool) (l : List Bool) (k : (f : ℕ) → getD l f false ≡ someAction (sort f) rs) where
     sort-same : ((f : ℕ) → sort f (r .action) ≡ false) → (f : ℕ) → getD l f false ≡ someAction (sort f) (rs ++ (r ∷ []))
     sort-same b f = k f ∙ sym (some-append (sort f) rs r ∙ rw (b f, or-false))
 
-    sort-taken : (g : ℕ) → g < length l → ((f : ℕ) → sort f (r .action) ≡ eqb f g) → (f : ℕ) → getD (set l g true) f false ≡ someAction (sort f) (rs ++ (r ∷ []))
+    sort-taken : (g : ℕ) → g < length l → ((f : ℕ) → sort f (r .action) ≡ eqb f g)
+        → (f : ℕ) → getD (set l g true) f false ≡ someAction (sort f) (rs ++ (r ∷ []))
     sort-taken g i b f = taken-more l g f i ∙ sym (some-append (sort f) rs r ∙ rw (b f, k f))
 
-  counts-local : isRemote (r .action) ≡ false → ((f : ℕ) → isLeast f (r .action) ≡ false) → ((f : ℕ) → isTotal f (r .action) ≡ false) → Counts (moreRules x) (rs ++ (r ∷ []))
-  unfolding moreRules
-  counts-local a b d = record {
-    rules-are = one-more;
-    remote-is = h .remote-is ∙ sym (remote-append rs r ∙ rw (a, or-false));
-    leasts-length = h .leasts-length;
-    totals-length = h .totals-length;
-    leasts-are = sort-same isLeast (x .leasts) (h .leasts-are) b;
-    totals-are = sort-same isTotal (x .totals) (h .totals-are) d;
-  }
+  -- the rule writes its field
+  module _ (k : P.fieldOf (r .action) < 16) where
+    abbrev fields : List Bool
+    fields = set (x .fields) (P.fieldOf (r .action)) true
 
-  counts-remote : (leasts totals : List Bool) → isRemote (r .action) ≡ true → length leasts ≡ 16 → length totals ≡ 16
-      → ((f : ℕ) → getD leasts f false ≡ someAction (isLeast f) (rs ++ (r ∷ []))) → ((f : ℕ) → getD totals f false ≡ someAction (isTotal f) (rs ++ (r ∷ [])))
-      → Counts (withRemote (moreRules x) leasts totals) (rs ++ (r ∷ []))
-  unfolding moreRules withRemote
-  counts-remote leasts totals a m n b d = record {
-    rules-are = one-more;
-    remote-is = sym (remote-append rs r ∙ rw (a, or-true));
-    leasts-length = m;
-    totals-length = n;
-    leasts-are = b;
-    totals-are = d;
-  }
+    counts-more : (remote : Bool) (leasts totals : List Bool) → remote ≡ hasRemote rs || isRemote (r .action) → length leasts ≡ 16 → length totals ≡ 16
+        → ((f : ℕ) → getD leasts f false ≡ someAction (isLeast f) (rs ++ (r ∷ [])))
+        → ((f : ℕ) → getD totals f false ≡ someAction (isTotal f) (rs ++ (r ∷ [])))
+        → Counts (record { rules = x .rules + 1; remote = remote; fields = fields; leasts = leasts; totals = totals }) (rs ++ (r ∷ []))
+    unfolding writes
+    counts-more remote leasts totals a m n b d = record {
+      rules-are = rw (h .rules-are, length-append rs (r ∷ []));
+      remote-is = a ∙ sym (remote-append rs r);
+      fields-length = length-set (x .fields) _ true ∙ h .fields-length;
+      leasts-length = m;
+      totals-length = n;
+      fields-are = sort-taken writes (x .fields) (h .fields-are) _ (omega (arith, k, h .fields-length)) (λ f. refl);
+      leasts-are = b;
+      totals-are = d;
+    }
+
+    counts-local : isRemote (r .action) ≡ false → ((f : ℕ) → isLeast f (r .action) ≡ false) → ((f : ℕ) → isTotal f (r .action) ≡ false)
+        → Counts (moreRules x (P.fieldOf (r .action))) (rs ++ (r ∷ []))
+    unfolding moreRules
+    counts-local a b d =
+        counts-more (x .remote) (x .leasts) (x .totals) (h .remote-is ∙ sym (rw (a, or-false))) (h .leasts-length) (h .totals-length)
+        (sort-same isLeast (x .leasts) (h .leasts-are) b) (sort-same isTotal (x .totals) (h .totals-are) d)
 
 -- a rule that has passed
 counts-rule : {x : Tally} {rs : List Rule} (t : Test) (a : W.Action) → Counts x rs → fieldOf (target a) < 16
     → Counts (withRule x (ruleOfAction a)) (rs ++ (record { test = t; action = actionOf a } ∷ []))
-unfolding withRule ruleOfAction actionOf target isRemote isLeast isTotal
-counts-rule t (W.set f x) h k = counts-local h _ refl (λ i. refl) (λ i. refl)
-counts-rule t (W.sum f x y) h k = counts-local h _ refl (λ i. refl) (λ i. refl)
-counts-rule t (W.difference f x y) h k = counts-local h _ refl (λ i. refl) (λ i. refl)
-counts-rule {x} t (W.least f c y) h k =
+unfolding withRule moreRules withRemote ruleOfAction actionOf target P.fieldOf isRemote isLeast isTotal
+counts-rule t (W.set f x) h k = counts-local h _ k refl (λ i. refl) (λ i. refl)
+counts-rule t (W.sum f x y) h k = counts-local h _ k refl (λ i. refl) (λ i. refl)
+counts-rule t (W.difference f x y) h k = counts-local h _ k refl (λ i. refl) (λ i. refl)
+counts-rule {x} {rs} t (W.least f c y) h k =
     let taken = sort-taken h _ isLeast (x .leasts) (h .leasts-are) (fieldOf f) (omega (arith, k, h .leasts-length)) (λ i. refl) in
-    counts-remote h _ (set (x .leasts) (fieldOf f) true) (x .totals) refl (length-set (x .leasts) (fieldOf f) true ∙ h .leasts-length) (h .totals-length) taken (sort-same h _ isTotal (x .totals) (h .totals-are) (λ i. refl))
-counts-rule {x} t (W.total f c y) h k =
+    counts-more h _ k true (set (x .leasts) (fieldOf f) true) (x .totals) (sym (or-true (hasRemote rs)))
+    (length-set (x .leasts) (fieldOf f) true ∙ h .leasts-length) (h .totals-length)
+    taken (sort-same h _ isTotal (x .totals) (h .totals-are) (λ i. refl))
+counts-rule {x} {rs} t (W.total f c y) h k =
     let taken = sort-taken h _ isTotal (x .totals) (h .totals-are) (fieldOf f) (omega (arith, k, h .totals-length)) (λ i. refl) in
-    counts-remote h _ (x .leasts) (set (x .totals) (fieldOf f) true) refl (h .leasts-length) (length-set (x .totals) (fieldOf f) true ∙ h .totals-length) (sort-same h _ isLeast (x .leasts) (h .leasts-are) (λ i. refl)) taken
-
-field-below : (s : Sizes) (f : ℕ) → Limits s → hasField s f ≡ true → f < 16
-unfolding hasField
-field-below s f lim h = go (ltb f (s .references)) refl h
-  where
-    go : (b : Bool) → ltb f (s .references) ≡ b → b || (leb 8 f && ltb f (8 + s .measures)) ≡ true → f < 16
-    go true e k = omega (arith, ltb-true f (s .references) e, lim .references≤)
-    go false e k = omega (arith, ltb-true f (8 + s .measures) (and-both (leb 8 f) (ltb f (8 + s .measures)) k .1), lim .measures≤)
+    counts-more h _ k true (x .leasts) (set (x .totals) (fieldOf f) true) (sym (or-true (hasRemote rs)))
+    (h .leasts-length) (length-set (x .totals) (fieldOf f) true ∙ h .totals-length)
+    (sort-same h _ isLeast (x .leasts) (h .leasts-are) (λ i. refl)) taken
 
 -- the most lines with one more step, and with the last step the last of its loop
 most-append : (xs : List Step) (x : Step) → mostLines (xs ++ (x ∷ [])) ≡ max (mostLines xs) (length (stepPlan (x .rules)))
@@ -167,5 +177,5 @@ module _ (s : Sizes) (lim : Limits s) {x : State} {st : C.State} (h : Stands x s
     lines-are = h .lines-are;
     around-is = h .around-is;
     in-step = refl;
-    tally-is = counts-rule (testOf c) a (h .tally-is) (field-below s (fieldOf (target a)) lim (letter-field s lim (target a) (and-both (names s (target a)) _ (k .is-named) .0)));
+    tally-is = counts-rule (testOf c) a (h .tally-is) (field-below s lim (fieldOf (target a)) (letter-field s lim (target a) (and-both (names s (target a)) _ (k .is-named) .0)));
   }

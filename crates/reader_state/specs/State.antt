@@ -17,7 +17,7 @@ use Rattle.reader_state.specs.declared.state.Frame.{Frame}
 
 -- at the start of a step
 unfoldable pub noRules : Tally
-noRules = record { rules = 0; remote = false; leasts = replicate 16 false; totals = replicate 16 false }
+noRules = record { rules = 0; remote = false; fields = replicate 16 false; leasts = replicate 16 false; totals = replicate 16 false }
 
 -- 14: the field has taken the other sort
 unfoldable pub otherSort : Tally → Rule → Bool
@@ -27,28 +27,28 @@ otherSort o (Difference f x y) = false
 otherSort o (Least f c x) = getD (o .totals) f false
 otherSort o (Total f c x) = getD (o .leasts) f false
 
--- one more rule, that is not remote
-unfoldable pub moreRules : Tally → Tally
-moreRules o = record { rules = o .rules + 1; remote = o .remote; leasts = o .leasts; totals = o .totals }
+-- one more rule, that writes field f and is not remote
+unfoldable pub moreRules : Tally → ℕ → Tally
+moreRules o f = record { rules = o .rules + 1; remote = o .remote; fields = set (o .fields) f true; leasts = o .leasts; totals = o .totals }
 
 -- a remote rule, behind which these fields have taken the one sort and these the other
 unfoldable pub withRemote : Tally → List Bool → List Bool → Tally
-withRemote o leasts totals = record { rules = o .rules; remote = true; leasts = leasts; totals = totals }
+withRemote o leasts totals = record { rules = o .rules; remote = true; fields = o .fields; leasts = leasts; totals = totals }
 
 -- behind one more rule of the open step
 unfoldable pub withRule : Tally → Rule → Tally
-withRule o (Set f x) = moreRules o
-withRule o (Sum f x y) = moreRules o
-withRule o (Difference f x y) = moreRules o
-withRule o (Least f c x) = withRemote (moreRules o) (set (o .leasts) f true) (o .totals)
-withRule o (Total f c x) = withRemote (moreRules o) (o .leasts) (set (o .totals) f true)
+withRule o (Set f x) = moreRules o f
+withRule o (Sum f x y) = moreRules o f
+withRule o (Difference f x y) = moreRules o f
+withRule o (Least f c x) = withRemote (moreRules o f) (set (o .leasts) f true) (o .totals)
+withRule o (Total f c x) = withRemote (moreRules o f) (o .leasts) (set (o .totals) f true)
 
 -- the frame of the open step, and of a step that is the last of its loop
 unfoldable pub frameOf : State → Plan → Frame
-frameOf st p = record { rules = st .tally .rules; remote = st .tally .remote; setting = settingIn (st .around); plan = p }
+frameOf st p = record { rules = st .tally .rules; remote = st .tally .remote; fields = st .tally .fields; setting = settingIn (st .around); plan = p }
 
 unfoldable pub lastFrame : Frame → Frame
-lastFrame f = record { rules = f .rules; remote = f .remote; setting = lastOf (f .setting); plan = f .plan }
+lastFrame f = record { rules = f .rules; remote = f .remote; fields = f .fields; setting = lastOf (f .setting); plan = f .plan }
 
 -- before the first line
 unfoldable pub startState : State

@@ -20,10 +20,12 @@ pub struct State {
     pub tally: Tally,
 }
 
-// What stands beside the rules of a closed step: their number, whether one is remote, its loop, and its plan.
+// What stands beside the rules of a closed step: their number, whether one is remote, which fields they write, its loop, and
+// its plan.
 pub struct Frame {
     pub rules: usize,
     pub remote: bool,
+    pub fields: [bool; 16],
     pub setting: Setting,
     pub plan: Plan,
 }
@@ -55,9 +57,11 @@ pub fn open_frame(state: State, plan: Plan) -> Frame
 {
     let around = state.around;
     let tally = state.tally;
+    let fields = tally.fields;
     Frame {
         rules: tally.rules,
         remote: tally.remote,
+        fields,
         setting: around::setting_in(around),
         plan,
     }
@@ -69,9 +73,11 @@ pub fn last_frame(frame: Frame) -> Frame
 {
     let setting = frame.setting;
     let plan = frame.plan;
+    let fields = frame.fields;
     Frame {
         rules: frame.rules,
         remote: frame.remote,
+        fields,
         setting: around::last_of(setting),
         plan,
     }

@@ -3,13 +3,14 @@ ghost use mathlib.Core.Path.{_≡_};
 ghost use mathlib.Core.Bool.{true, false};
 ghost use Prim.Native.Nat.{_≤_};
 ghost use lib.ListN.{getD, set};
-ghost use Rattle.reader_state.specs.State.{noRules, otherSort, withRemote, withRule};
+ghost use Rattle.reader_state.specs.State.{noRules, otherSort, moreRules, withRemote, withRule};
 use actions::rule::Rule;
 
-// Their number, whether one is remote, and which fields have taken a `<?=` and which a `+=`.
+// Their number, whether one is remote, which fields they write, and which of these have taken a `<?=` and which a `+=`.
 pub struct Tally {
     pub rules: usize,
     pub remote: bool,
+    pub fields: [bool; 16],
     pub leasts: [bool; 16],
     pub totals: [bool; 16],
 }
@@ -20,6 +21,7 @@ pub fn no_rules() -> Tally
     Tally {
         rules: 0,
         remote: false,
+        fields: [false; 16],
         leasts: [false; 16],
         totals: [false; 16],
     }
@@ -60,13 +62,32 @@ pub fn is_other_sort(tally: Tally, rule: Rule) -> bool
     }
 }
 
+// One more rule, that writes a field and is not remote.
+fn more_rules(tally: Tally, field: u64) -> Tally
+    requires { ⌜ tally .rules ≤ 32 ⌝ }
+    ensures { λ r. ⌜ r ≡ moreRules tally field ⌝ }
+{
+    let fields = tally.fields;
+    let leasts = tally.leasts;
+    let totals = tally.totals;
+    Tally {
+        rules: tally.rules + 1,
+        remote: tally.remote,
+        fields: with_taken(fields, field),
+        leasts,
+        totals,
+    }
+}
+
 // A remote rule, behind which these fields have taken the one sort and these the other.
 fn with_remote(tally: Tally, leasts: [bool; 16], totals: [bool; 16]) -> Tally
     ensures { λ r. ⌜ r ≡ withRemote tally leasts totals ⌝ }
 {
+    let fields = tally.fields;
     Tally {
         rules: tally.rules,
         remote: true,
+        fields,
         leasts,
         totals,
     }
@@ -79,13 +100,19 @@ pub fn with_rule(tally: Tally, rule: Rule) -> Tally
 {
     let leasts = tally.leasts;
     let totals = tally.totals;
-    let mut next = tally;
-    next.rules += 1;
     match rule {
-        Rule::Set(_, _) => next,
-        Rule::Sum(_, _, _) => next,
-        Rule::Difference(_, _, _) => next,
-        Rule::Least(field, _, _) => with_remote(next, with_taken(leasts, field), totals),
-        Rule::Total(field, _, _) => with_remote(next, leasts, with_taken(totals, field)),
+        Rule::Set(field, _) => more_rules(tally, field),
+        Rule::Sum(field, _, _) => more_rules(tally, field),
+        Rule::Difference(field, _, _) => more_rules(tally, field),
+        Rule::Least(field, _, _) => with_remote(
+            more_rules(tally, field),
+            with_taken(leasts, field),
+            totals,
+        ),
+        Rule::Total(field, _, _) => with_remote(
+            more_rules(tally, field),
+            leasts,
+            with_taken(totals, field),
+        ),
     }
 }

@@ -2,7 +2,7 @@
 ghost use mathlib.Core.Path.{_≡_};
 ghost use Prim.Native.Nat.{_+_, _*_, _≤_, _<_};
 ghost use lib.ListN.{length};
-ghost use Rattle.register.specs.Cells.{cellAt, valueOf, markOf};
+ghost use Rattle.register.specs.Cells.{cellAt};
 ghost use Rattle.register.specs.File.{cellCount, valuesPart, marksPart, putCell};
 ghost use Rattle.register.specs.Shape.{Limits};
 ghost use lib.ListN.{set};

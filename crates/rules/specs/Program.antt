@@ -3,6 +3,7 @@ use Prim.Native.Nat.{ℕ, max}
 use mathlib.Core.Bool.{Bool, true, false, _||_}
 use mathlib.Core.List.{List, [], _∷_, _++_}
 use lib.IntN.{ℤ}
+use lib.Dec.{eqb}
 use lib.ListN.{length}
 use Rattle.knowledge.specs.Plan.{Fact, plan}
 use Rattle.syntax.specs.Written.{Comparison}
@@ -70,6 +71,17 @@ stepPlan rs = plan (readings rs)
 unfoldable pub mostLines : Program → ℕ
 mostLines [] = 0
 mostLines (x ∷ xs) = max (length (stepPlan (x .rules))) (mostLines xs)
+
+-- the field that a rule writes
+unfoldable pub fieldOf : Action → ℕ
+fieldOf (set f x) = f
+fieldOf (sum f x y) = f
+fieldOf (difference f x y) = f
+fieldOf (least f c x) = f
+fieldOf (total f c x) = f
+
+unfoldable pub writes : ℕ → Action → Bool
+writes f a = eqb f (fieldOf a)
 
 -- whether a rule is a remote one, and whether a step holds one: then "a remote exchange follows"
 unfoldable pub isRemote : Action → Bool

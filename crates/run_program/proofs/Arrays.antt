@@ -1,23 +1,22 @@
 -- The program in its arrays: what a step's places and frame hold of it.
-use Prim.Native.Nat.{ℕ, zero, suc, _+_, _*_, _≤_, _<_}
+use Prim.Native.Nat.{ℕ, zero, suc, _+_, _*_, _<_}
 use mathlib.Core.Path.{_≡_, refl, ap, _∙_}
 use mathlib.Core.Bool.{false}
 use mathlib.Core.List.{List, [], _∷_}
 use native.Mathlib.Omega.{arith}
 use lib.ListN.{length, getD, take, drop, length-drop}
 use lib.Seq.{drop-drop, getD-take, getD-drop, length-take-le}
-use Rattle.plan.specs.Held.{Holds}
 use Rattle.actions.specs.declared.rule.Slot.{Slot}
 use Rattle.rules.specs.declared.around.Setting.the-variants.{Single}
-use Rattle.rules.specs.Program.{Step, Program, stepPlan, hasRemote}
+use Rattle.rules.specs.Program.{Step, Program}
 use Rattle.step_plan.specs.Stored.{rulesIn}
 use Rattle.reader_state.specs.declared.state.Frame.{Frame}
-use Rattle.reader.specs.Kept.{stepsIn, programOf, Framed, Complete}
+use Rattle.reader.specs.Kept.{stepsIn, programOf, FrameOf, Framed, Complete}
 use Rattle.reader.specs.declared.Program as R
 
 -- what a place behind the last frame would hold
 abbrev pub noFrame : Frame
-noFrame = record { rules = 0; remote = false; setting = Single; plan = record { keys = []; rounds = []; backs = []; reads = []; count = 0 } }
+noFrame = record { rules = 0; remote = false; fields = []; setting = Single; plan = record { keys = []; rounds = []; backs = []; reads = []; count = 0 } }
 
 -- step i has the rules of its 32 places, and its frame's setting
 steps-at : (slots : List Slot) (fs : List Frame) (i : ℕ) (d : Step) (e : Frame) → i < length fs
@@ -37,20 +36,15 @@ steps-length slots [] = refl
 steps-length slots (f ∷ fs) = ap suc (steps-length (drop 32 slots) fs)
 
 -- what its frame keeps of it
-pub record FrameAt (f : Frame) (x : Step) : Type 0 where
-  pub few : f .rules ≤ 32
-  pub remote-is : f .remote ≡ hasRemote (x .rules)
-  pub holds : Holds (f .plan) (stepPlan (x .rules))
-
-frame-at : (fs : List Frame) (xs : Program) (i : ℕ) (d : Step) (e : Frame) → Framed fs xs → i < length xs → FrameAt (getD fs i e) (getD xs i d)
+frame-at : (fs : List Frame) (xs : Program) (i : ℕ) (d : Step) (e : Frame) → Framed fs xs → i < length xs → FrameOf (getD fs i e) (getD xs i d .rules)
 frame-at fs [] i d e h b = absurd (omega arith)
 frame-at [] (x ∷ xs) i d e h b = absurd h
-frame-at (f ∷ fs) (x ∷ xs) zero d e h b = record { few = h .0; remote-is = h .1; holds = h .2 }
-frame-at (f ∷ fs) (x ∷ xs) (suc i) d e h b = frame-at fs xs i d e (h .3) (omega arith)
+frame-at (f ∷ fs) (x ∷ xs) zero d e h b = h .0
+frame-at (f ∷ fs) (x ∷ xs) (suc i) d e h b = frame-at fs xs i d e (h .1) (omega arith)
 
 -- step i of a program that is kept in its arrays
 pub record StepAt (p : R.Program) (i : ℕ) (f : Frame) (x : Step) : Type 0 where
-  pub frame : FrameAt f x
+  pub frame : FrameOf f (x .rules)
   pub setting-is : x .setting ≡ f .setting
   pub rules-are : x .rules ≡ rulesIn (f .rules) (take 32 (drop (32 * i) (p .slots)))
 

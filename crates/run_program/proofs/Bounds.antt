@@ -1,15 +1,14 @@
 -- How large the counts of a run can grow: each record sends at most one message for each rule, and each step a bounded number.
-use Prim.Native.Nat.{ℕ, zero, suc, _+_, _*_, _≤_}
+use Prim.Native.Nat.{ℕ, zero, suc, _*_, _≤_}
 use mathlib.Core.Path.{_≡_}
 use mathlib.Core.Bool.{Bool, true, false, cond}
-use mathlib.Core.List.{List, [], _∷_, _++_}
+use mathlib.Core.List.{List, [], _∷_}
 use native.Mathlib.Omega.{arith}
 use lib.ListN.{length, length-append}
 use Rattle.register.specs.declared.cells.Cell.{Cell}
 use Rattle.register.specs.declared.cells.Cell.the-variants.{Missing, Value}
 use Rattle.rules.specs.Program.{Action, set, sum, difference, least, total, Rule}
 use Rattle.machine.specs.declared.message.Sort.{Sort}
-use Rattle.machine.specs.declared.message.Message.{Message}
 use Rattle.machine.specs.Value.{both, holds}
 use Rattle.machine.specs.Remote.{sentTo, actionMessages, ruleMessages, messages, recordMessages}
 use Rattle.message_machine.specs.declared.Machine.{Machine}

@@ -1,7 +1,7 @@
 -- What a run has counted, step by step: exchanges and messages by each machine.
-use Prim.Native.Nat.{ℕ, _+_, _*_, _≤_, _<_}
-use mathlib.Core.Path.{_≡_, refl, sym, ap, ap₂, _∙_}
-use mathlib.Core.Bool.{Bool, true, false, cond}
+use Prim.Native.Nat.{ℕ, _+_}
+use mathlib.Core.Path.{_≡_, refl, ap, ap₂}
+use mathlib.Core.Bool.{Bool, cond}
 use mathlib.Core.List.{List, [], _∷_, _++_}
 use native.Mathlib.Nat.{add-assoc}
 use lib.ListN.{length}
@@ -9,7 +9,7 @@ use Rattle.register.specs.Shape.{Valid}
 use Rattle.register.specs.declared.Sizes.{Sizes}
 use Rattle.register.specs.declared.cells.Cell.{Cell}
 use Rattle.knowledge.specs.Plan.{Fact, last-round}
-use Rattle.rules.specs.Program.{Rule, Step, readings, stepPlan, hasRemote}
+use Rattle.rules.specs.Program.{Step, readings, stepPlan, hasRemote}
 use Rattle.rules.specs.Passed.{RulesPass}
 use Rattle.machine.specs.Remote.{recordMessages}
 use Rattle.machine.specs.Run.{direct}

@@ -1,15 +1,17 @@
 -- One turn of the run's loop: what the step at hand asks for, and what it leaves.
 use Prim.Native.Nat.{ℕ, zero, suc, _+_, _*_, _≤_, _<_}
 use mathlib.Core.Path.{_≡_, sym, ap, subst, _∙_}
+use mathlib.Core.Bool.{false}
 use mathlib.Core.List.{List, [], _∷_, _++_}
 use native.Mathlib.Omega.{arith}
 use native.Mathlib.Nat.{mul-le-mul-right}
 use lib.IntN.{ℤ, pos}
 use lib.ListN.{length, getD, take, set}
 use lib.Seq.{getD-take}
-use Rattle.register.specs.File.{cellCount, fileOf, cellsOfFile}
+use Rattle.register.specs.File.{width, cellCount, cellIndex, fileOf, cellsOfFile}
 use Rattle.register.specs.declared.Sizes.{Sizes}
 use Rattle.register.specs.declared.cells.Cell.{Cell}
+use Rattle.register.specs.declared.cells.Cell.the-variants.{Missing}
 use Rattle.plan.specs.Held.{facts}
 use Rattle.plan.proofs.Appending.{holds-count}
 use Rattle.actions.specs.declared.rule.Slot.{Slot}
@@ -22,8 +24,10 @@ use Rattle.reader.specs.declared.Program as R
 use Rattle.machine.specs.Remote.{recordMessages}
 use Rattle.machine.specs.Alike.{RulesAlike}
 use Rattle.machine.specs.Run.{direct}
+use Rattle.machine.specs.Step.{stepCells}
 use Rattle.machine.proofs.Alike.{stepCells-alike, offendsAt-alike, stops-alike, recordMessages-alike}
 use Rattle.machine.proofs.Running.{running-passes}
+use Rattle.machine.proofs.Untouched.{step-untouched}
 use Rattle.message_machine.specs.declared.Machine.{Machine}
 use Rattle.places.specs.Places.{Kept}
 use Rattle.places.proofs.Placed.{kept-again, placeAt-kept}
@@ -35,7 +39,7 @@ use Rattle.locate.proofs.Slots.{slots-alike, slots-ready}
 use Rattle.work.specs.Work.{Room, Holds, Same}
 use Rattle.step.specs.Ready.{reads, AllReady, LocalDone, LocalStops}
 use Rattle.step.specs.Delivered.{Delivered}
-use Rattle.commit.specs.Committed.{AllCommitted, CommitStops}
+use Rattle.commit.specs.Committed.{isWritten, AllCommitted, CommitStops}
 use Rattle.step.specs.Stepped.{GoesThrough, StopsAt}
 use Rattle.work.proofs.Working.{same-then}
 use Rattle.step.proofs.Stepping.{AllDone, all-done, local-stops, goes-through, commit-stops}
@@ -232,9 +236,16 @@ module _ {m : Machine} {s : Sizes} {p : R.Program} {budget : ℕ} {file : List �
       pub turn-same : Same base values₂ marks₂ values₄ marks₄
       turn-same = same-then (local .0) (delivered .same)
 
-      pub turn-through : {out′ : List ℕ} → AllCommitted s base values₄ marks₄ out out′ → GoesThrough s (direct s rs cells) rs out out′ base values₄ marks₄ sent
+      -- no other column than those of the step's fields has changed
+      untouched : (u c : ℕ) → u < s .records → c < width s → isWritten s (frame .fields) c ≡ false
+          → getD (stepCells s (reads s cells base values₂ marks₂) ls cells) (cellIndex s u c) Missing ≡ getD cells (cellIndex s u c) Missing
+      untouched u c row col w =
+          ap (λ (l : List Cell). getD l (cellIndex s u c) Missing) (stepCells-alike s _ (direct s rs cells) ls rs located-alike cells)
+          ∙ step-untouched s (t .register .valid .limits) (direct s rs cells) rs cells (step-passes .rules .each) u c col (sym (at-step .frame .fields-are _) ∙ w)
+
+      pub turn-through : {out′ : List ℕ} → AllCommitted s base (frame .fields) values₄ marks₄ out out′ → GoesThrough s (direct s rs cells) rs out out′ base values₄ marks₄ sent
       turn-through {out′} c =
-          through-alike s _ (direct s rs cells) ls rs located-alike (goes-through s out out′ ls base values₂ values₄ marks₂ marks₄ sent (t .register) all c)
+          through-alike s _ (direct s rs cells) ls rs located-alike (goes-through s out out′ ls base values₂ values₄ marks₂ marks₄ sent (t .register) all untouched c)
 
       pub turn-stops : {out′ : List ℕ} {u c : ℕ} → CommitStops s base values₄ marks₄ out out′ u c → StopsAt s (direct s rs cells) rs out out′ u c
       turn-stops {out′} c =

@@ -126,7 +126,8 @@ fn run_steps(
         if frame.remote {
             sent = remote::apply(out, values, marks, sizes, base, rules, used);
         }
-        let total = commit::commit(out, values, marks, sizes, base);
+        let fields = frame.fields;
+        let total = commit::commit(out, values, marks, sizes, base, fields);
         if let Stop::At(row, column) = total {
             return out_of_range(finished, counts, row, column);
         }

@@ -7,12 +7,12 @@ use native.Mathlib.Omega.{arith}
 use lib.Dec.{eqb}
 use lib.IntN.{ℤ}
 use native.Mathlib.Decide.{decLt}
-use lib.ListN.{length, getD, take, drop, set, length-take}
+use lib.ListN.{length, getD, take, drop, length-take}
 use lib.Seq.{take-suc, split-at, getD-take}
 use mir.Syntax.{w32}
 use mir.Val.{SFits}
 use borrow.Author.Tests.{eq-eqb}
-use Rattle.register.specs.Cells.{valueOf, markOf}
+use Rattle.register.specs.Cells.{valueOf}
 use Rattle.register.specs.File.{cellCount, cellIndex}
 use Rattle.register.specs.Shape.{Limits}
 use Rattle.register.specs.declared.Sizes.{Sizes}
@@ -21,10 +21,10 @@ use Rattle.register.proofs.Bounds.{cellIndex-below}
 use Rattle.chain.specs.Word.{hasField, column}
 use Rattle.chain.proofs.Following.{column-below}
 use Rattle.actions.specs.declared.rule.Slot.{Slot}
-use Rattle.rules.specs.Program.{Rule}
+use Rattle.rules.specs.Program.{Rule, fieldOf}
 use Rattle.rules.specs.Passed.{Each}
 use Rattle.step_plan.specs.Stored.{ruleOf, rulesIn}
-use Rattle.machine.specs.Local.{fieldOf, offends, localRule, localRules, localRecords, sumOffends}
+use Rattle.machine.specs.Local.{offends, localRule, localRules, localRecords, sumOffends}
 use Rattle.machine.proofs.Folding.{localRules-more, localRules-length, localRecords-length, sumOffends-more}
 use Rattle.evaluate.specs.Located.{located}
 use Rattle.effects.specs.Answers.{cellWrite, writeOf}

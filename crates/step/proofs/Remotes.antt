@@ -21,13 +21,12 @@ use Rattle.chain.specs.Word.{hasField, column}
 use Rattle.chain.proofs.Following.{column-below}
 use Rattle.actions.specs.declared.rule.Slot.{Slot}
 use Rattle.rules.specs.Program as P
-use Rattle.rules.specs.Program.{Rule, Action, hasRemote}
+use Rattle.rules.specs.Program.{Rule, Action, hasRemote, fieldOf}
 use Rattle.step_plan.specs.Stored.{ruleOf, rulesIn}
 use Rattle.machine.specs.declared.message.Sort.{Sort}
 use Rattle.machine.specs.declared.message.Sort.the-variants.{Least, Total}
 use Rattle.machine.specs.declared.message.Message.{Message}
 use Rattle.machine.specs.Value.{both, termValue, holds}
-use Rattle.machine.specs.Local.{fieldOf}
 use Rattle.machine.specs.Remote.{sentTo, actionMessages, ruleMessages, messages, recordMessages, merged, deliver, deliverAll}
 use Rattle.machine.proofs.Folding.{recordMessages-local, messages-more, deliverAll-append, deliverAll-length}
 use Rattle.places.specs.Places.{placeAt}

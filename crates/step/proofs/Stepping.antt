@@ -1,7 +1,8 @@
 -- A whole step from its parts: the working cells hold the register's, then local rules, then remote writes, then the commit.
 use Prim.Native.Nat.{ℕ, _+_, _<_}
 use mathlib.Core.Path.{_≡_, refl, sym, ap, ap₂, subst, _∙_}
-use mathlib.Core.Bool.{false, not}
+use mathlib.Core.Logic.{⊎-elim}
+use mathlib.Core.Bool.{Bool, true, false, not}
 use mathlib.Core.List.{List}
 use native.Mathlib.Omega.{arith}
 use lib.IntN.{ℤ}
@@ -13,6 +14,7 @@ use Rattle.register.specs.declared.Sizes.{Sizes}
 use Rattle.register.specs.declared.cells.Cell.{Cell}
 use Rattle.register.specs.declared.cells.Cell.the-variants.{Missing}
 use Rattle.register.proofs.Bounds.{cellIndex-below}
+use Rattle.knowledge.specs.Cases.{true-or-false}
 use Rattle.rules.specs.Program.{Rule}
 use Rattle.machine.specs.Value.{cellInRange}
 use Rattle.machine.specs.Local.{localRecords, sumOffends}
@@ -20,12 +22,14 @@ use Rattle.machine.specs.Remote.{recordMessages, deliverAll}
 use Rattle.machine.specs.Step.{stepCells, offendsAt}
 use Rattle.machine.proofs.Folding.{localRecords-length, stepCells-length}
 use Rattle.machine.proofs.Stops.{stops-nowhere}
+use Rattle.machine.proofs.Keeping.{fits-in-range}
 use Rattle.places.specs.Places.{placeAt}
 use Rattle.evaluate.specs.Located.{located}
 use Rattle.work.specs.Work.{Holds, Same}
 use Rattle.step.specs.Ready.{reads, LocalDone, LocalStops}
 use Rattle.step.specs.Delivered.{Delivered}
-use Rattle.commit.specs.Committed.{AllCommitted, CommitStops}
+use Rattle.commit.specs.Committed.{isWritten, AllCommitted, CommitStops}
+use Rattle.commit.proofs.Committing.{columns-file}
 use Rattle.step.specs.Stepped.{GoesThrough, StopsAt}
 
 -- all records read what they read before the stores
@@ -74,15 +78,26 @@ module _ (s : Sizes) (file file′ : List ℕ) (rs : List Rule) (base : ℕ) (v 
   place : (u c : ℕ) → u < s .records → c < width s → placeAt v′ m′ (base + cellIndex s u c) ≡ getD after (cellIndex s u c) Missing
   place u c row col = done .holds .place-is (cellIndex s u c) (omega (arith, cellIndex-below s u c row col, count))
 
-  pub goes-through : AllCommitted s base v′ m′ file file′ → GoesThrough s read rs file file′ base v′ m′ n
-  unfolding offendsAt
-  goes-through t = record {
-    file-is = t .file-is (cellsOfFile s file) after (register .valid .count) count (register .file-is) (done .holds);
-    holds = done .holds;
-    sent-is = done .sent-is;
-    stops-not = stops-nowhere s read rs (cellsOfFile s file)
-        (λ u c row col. simp (done .in-range u c row, sym (place u c row col), t .in-range (cellIndex s u c) (cellIndex-below s u c row col)));
-  }
+  -- the columns whose fields are written are committed, and the others are as they were
+  module _ {fields : List Bool}
+      (untouched : (u c : ℕ) → u < s .records → c < width s → isWritten s fields c ≡ false → getD after (cellIndex s u c) Missing ≡ getD (cellsOfFile s file) (cellIndex s u c) Missing)
+      (t : AllCommitted s base fields v′ m′ file file′) where
+    all-in-range : (u c : ℕ) → u < s .records → c < width s → cellInRange (getD after (cellIndex s u c) Missing) ≡ true
+    all-in-range u c row col =
+        ⊎-elim
+        (λ (w : isWritten s fields c ≡ true). ap cellInRange (sym (place u c row col)) ∙ t .in-range u c row col w)
+        (λ (w : isWritten s fields c ≡ false). ap cellInRange (untouched u c row col w) ∙ fits-in-range _ (register .valid .values (cellIndex s u c)))
+        (true-or-false (isWritten s fields c))
+
+    pub goes-through : GoesThrough s read rs file file′ base v′ m′ n
+    unfolding offendsAt
+    goes-through = record {
+      file-is = t .file-is
+          ∙ columns-file s fields base v′ m′ file (cellsOfFile s file) after (register .valid .count) count (register .file-is) (done .holds) (λ u c row col w. sym (untouched u c row col w));
+      holds = done .holds;
+      sent-is = done .sent-is;
+      stops-not = stops-nowhere s read rs (cellsOfFile s file) (λ u c row col. simp (done .in-range u c row, all-in-range u c row col));
+    }
 
   pub commit-stops : {u c : ℕ} → CommitStops s base v′ m′ file file′ u c → StopsAt s read rs file file′ u c
   unfolding offendsAt

@@ -12,9 +12,9 @@ use Rattle.register.specs.declared.cells.Cell.{Cell}
 use Rattle.register.specs.declared.cells.Cell.the-variants.{Missing, Value}
 use Rattle.chain.specs.Word.{column}
 use Rattle.rules.specs.Program as P
-use Rattle.rules.specs.Program.{Rule, Action}
+use Rattle.rules.specs.Program.{Rule, Action, fieldOf}
 use Rattle.machine.specs.Value.{holds}
-use Rattle.machine.specs.Local.{stored, fieldOf, store, offends, localRule}
+use Rattle.machine.specs.Local.{stored, store, offends, localRule}
 use Rattle.effects.specs.Answers.{cellWrite, writeStored, writeOf}
 use Rattle.effects.specs.declared.rule.Write.{Write}
 use Rattle.effects.specs.declared.rule.Write.the-variants.{Nothing, Clear, Store, OutOfRange}

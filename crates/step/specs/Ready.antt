@@ -11,10 +11,10 @@ use Rattle.register.specs.declared.Sizes.{Sizes}
 use Rattle.register.specs.declared.cells.Cell.{Cell}
 use Rattle.chain.specs.Word.{hasField, column}
 use Rattle.actions.specs.declared.rule.Slot.{Slot}
-use Rattle.rules.specs.Program.{Action, set, sum, difference, least, total, Rule}
+use Rattle.rules.specs.Program.{Action, set, sum, difference, least, total, Rule, fieldOf}
 use Rattle.rules.specs.Passed.{Each}
 use Rattle.step_plan.specs.Stored.{actionOf}
-use Rattle.machine.specs.Local.{fieldOf, offends, localRule, localRecords, sumOffends}
+use Rattle.machine.specs.Local.{offends, localRule, localRecords, sumOffends}
 use Rattle.evaluate.specs.Located.{located, SlotReaches}
 use Rattle.work.specs.Work.{Holds, Same, Small}
 use Rattle.commit.specs.declared.Stop.{Stop}

@@ -32,7 +32,7 @@ use Rattle.inspect.proofs.inspect.Statement.{statement}
 use Rattle.inspect.proofs.inspect.Tie as tie
 
 abbrev noFrame : Frame
-noFrame = record { rules = 0; remote = false; setting = Single; plan = record { keys = []; rounds = []; backs = []; reads = []; count = 0 } }
+noFrame = record { rules = 0; remote = false; fields = []; setting = Single; plan = record { keys = []; rounds = []; backs = []; reads = []; count = 0 } }
 
 -- a refusal
 module _ (e : tie.Start) where

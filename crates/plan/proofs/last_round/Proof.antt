@@ -1,7 +1,7 @@
 -- `plan::last_round` meets its contract. The loop's invariant: the last of the rounds passed.
 -- Assumes nothing.
 use borrow.Author.Needs.{needs}
-use Prim.Native.Nat.{_-_, _≤_, max}
+use Prim.Native.Nat.{_-_, _≤_}
 use mathlib.Core.Path.{sym}
 use native.Mathlib.Omega.{arith}
 use denote.Ref.{now}

@@ -87,7 +87,7 @@ abbrev readies : tie.Joined2 Inv-loop2 μ-loop2 Inv-loop3 μ-loop3 Inv-records �
 readies c = c .before .before .before .before .before .before .before .before
 
 abbrev commits : tie.After-enum-told4 Inv-loop2 μ-loop2 Inv-loop3 μ-loop3 Inv-records μ-records Inv-loop μ-loop → tie.Joined2 Inv-loop2 μ-loop2 Inv-loop3 μ-loop3 Inv-records μ-records Inv-loop μ-loop
-commits c = c .before .before .before .before .before .before .before .before
+commits c = c .before .before .before .before .before .before .before .before .before
 
 -- the entry: at most 32 steps and 64 lines
 module _ (c : tie.Start Inv-loop2 μ-loop2 Inv-loop3 μ-loop3 Inv-records μ-records Inv-loop μ-loop) where
@@ -364,7 +364,7 @@ done-same c = turn-same (turn (turns (readies c))) (prepared (readies c)) (local
 
 commit-requires : tie.Need-commit-requires Inv-loop2 μ-loop2 Inv-loop3 μ-loop3 Inv-records μ-records Inv-loop μ-loop
 commit-requires c κs =
-    let b = c .before .before .before in
+    let b = c .before .before .before .before in
     (starts (tops (turns (readies b))) .pre .0 .valid .limits, tops (turns (readies b)) .loop .inv .0 .register .whole, room-same (done-same b) (step-room (turn (turns (readies b))) (prepared (readies b))))
 
 enum-known-total : tie.Need-enum-known-total Inv-loop2 μ-loop2 Inv-loop3 μ-loop3 Inv-records μ-records Inv-loop μ-loop
@@ -375,27 +375,27 @@ out-of-range-requires-2 c κs = tt
 
 same-length-7 : tie.Need-same-length-7 Inv-loop2 μ-loop2 Inv-loop3 μ-loop3 Inv-records μ-records Inv-loop μ-loop
 same-length-7 c =
-    let b = c .before .before .before .before .before .before .before .before .before .before in
+    let b = c .before .before .before .before .before .before .before .before .before .before .before in
     c .before .before .before .before .before .before .commit .kept .0 ∙ tops (turns (readies b)) .loop .inv .0 .register .whole ∙ sym (starts (tops (turns (readies b))) .pre .0 .whole)
 
 same-length-8 : tie.Need-same-length-8 Inv-loop2 μ-loop2 Inv-loop3 μ-loop3 Inv-records μ-records Inv-loop μ-loop
 same-length-8 c =
-    let b = c .before .before .before .before .before .before .before .before .before .before in
+    let b = c .before .before .before .before .before .before .before .before .before .before .before in
     done-same b .values-length ∙ gathered-lengths (readies b) .0
 
 same-length-9 : tie.Need-same-length-9 Inv-loop2 μ-loop2 Inv-loop3 μ-loop3 Inv-records μ-records Inv-loop μ-loop
 same-length-9 c =
-    let b = c .before .before .before .before .before .before .before .before .before .before in
+    let b = c .before .before .before .before .before .before .before .before .before .before .before in
     done-same b .marks-length ∙ gathered-lengths (readies b) .1
 
 returns-3 : tie.Need-returns-3 Inv-loop2 μ-loop2 Inv-loop3 μ-loop3 Inv-records μ-records Inv-loop μ-loop
 unfolding programOf
 returns-3 c =
-    let b = c .before .before .before .before .before .before .before .before .before .before in
+    let b = c .before .before .before .before .before .before .before .before .before .before .before in
     let t = turn (turns (readies b)) in
     rw (c .out-of-range2 .ensures)
     (stands-offended (t .stands) (inside t) (later (turns (readies b)))
-    (turn-stops t (prepared (readies b)) (locals (c .before .before .before .before .before .before .before .before .before .before .before)) (delivered b) (rw (c .before .before .total .given .1) at (c .before .before .before .before .before .before .commit .ensures))))
+    (turn-stops t (prepared (readies b)) (locals (c .before .before .before .before .before .before .before .before .before .before .before .before)) (delivered b) (rw (c .before .before .total .given .1) at (c .before .before .before .before .before .before .commit .ensures))))
 
 enum-told-4 : tie.Need-enum-told-4 Inv-loop2 μ-loop2 Inv-loop3 μ-loop3 Inv-records μ-records Inv-loop μ-loop
 enum-told-4 c = search needs

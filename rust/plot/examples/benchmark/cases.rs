@@ -1,7 +1,7 @@
 //! Registers and texts whose runs are timed.
 
 use generate::ranking::{self, list};
-use reference::register::{Cell, MAX_RECORDS, Sizes, encode};
+use reference::register::{Cell, MAX_FIELDS, MAX_RECORDS, Sizes, encode};
 
 /// A run: a register, a text that passes for it, and a budget.
 pub struct Case {
@@ -41,6 +41,12 @@ pub fn cases() -> Vec<Case> {
             65_535,
         ),
         case("65,535 steps, 16 records", few(), counting(), 65_535),
+        case(
+            "100 steps, 4,096 records of 16 fields",
+            full(),
+            counting(),
+            100,
+        ),
     ]
 }
 
@@ -111,6 +117,13 @@ fn few() -> Vec<u8> {
     file(sizes(16, 1, 1), |u, f| match f {
         0 => Cell::Value(((u + 1) % 16) as i32),
         _ => Cell::Value(0),
+    })
+}
+
+/// All fields that there are; the first reference leads far about.
+fn full() -> Vec<u8> {
+    file(sizes(MAX_RECORDS, MAX_FIELDS, MAX_FIELDS), |u, f| {
+        Cell::Value(((u * 2_654_435 + 977 * f) % MAX_RECORDS) as i32)
     })
 }
 

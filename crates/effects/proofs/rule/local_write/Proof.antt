@@ -1,8 +1,9 @@
 -- `effects::rule::local_write` meets its contract.
 -- Assumes nothing.
 use Rattle.step_plan.specs.Stored.{actionOf}
+use Rattle.rules.specs.Program.{fieldOf}
 use Rattle.machine.specs.Value.{cellInRange}
-use Rattle.machine.specs.Local.{formed, stored, fieldOf}
+use Rattle.machine.specs.Local.{formed, stored}
 use Rattle.effects.specs.Answers.{sumWrite, writeStored}
 use Rattle.effects.proofs.Answering.{done, write-remote, write-nothing, write-done}
 use borrow.Author.Needs.{needs}

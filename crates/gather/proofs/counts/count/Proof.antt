@@ -1,6 +1,6 @@
 -- `gather::counts::count` meets its contract.
 -- Assumes nothing.
-use mathlib.Core.Path.{_≡_, refl}
+use mathlib.Core.Path.{refl}
 use borrow.Author.Needs.{needs}
 use Rattle.gather.proofs.counts.count.Statement.{statement}
 use Rattle.gather.proofs.counts.count.Tie as tie

@@ -14,8 +14,9 @@ setting-in-requires c κs = search needs
 returns : tie.Need-returns
 unfolding frameOf
 returns c =
-    let a = c .before .before .args in
-    ap {B = Frame} (λ (x : Setting). record { rules = a .state .tally .rules; remote = a .state .tally .remote; setting = x; plan = a .plan }) (c .setting-in .ensures)
+    let a = c .before .before .before .args in
+    let t = a .state .tally in
+    ap {B = Frame} (λ (x : Setting). record { rules = t .rules; remote = t .remote; fields = t .fields; setting = x; plan = a .plan }) (c .setting-in .ensures)
 
 pub open-frame-spec : {M : Type 1} → statement M
 open-frame-spec = tie.close (tie.spec setting-in-requires returns)
