@@ -24,8 +24,8 @@ use Rattle.machine.specs.Local.{sumCell, formed, stored, offends}
 use Rattle.machine.specs.Remote.{actionMessages, ruleMessages}
 use Rattle.machine.proofs.Folding.{cond-both, ruleMessages-local}
 use Rattle.effects.specs.Answers.{cellWrite, sumAnswer, sumWrite, writeStored, writeOf}
-use Rattle.effects.specs.declared.rule.Write.{Write}
-use Rattle.effects.specs.declared.rule.Write.the-variants as W
+use Rattle.effects.specs.declared.stored.Write.{Write}
+use Rattle.effects.specs.declared.stored.Write.the-variants as W
 use Rattle.evaluate.proofs.Sides.{both-first, both-second, both-values}
 
 -- the answer for a sum is that for a sum of any size

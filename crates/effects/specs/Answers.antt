@@ -11,10 +11,10 @@ use Rattle.rules.specs.Program.{Rule, fieldOf}
 use Rattle.machine.specs.declared.message.Message.{Message}
 use Rattle.machine.specs.Value.{holds, cellInRange}
 use Rattle.machine.specs.Local.{stored, offends}
-use Rattle.effects.specs.declared.rule.Write.{Write}
-use Rattle.effects.specs.declared.rule.Write.the-variants as W
-use Rattle.effects.specs.declared.rule.Sent.{Sent}
-use Rattle.effects.specs.declared.rule.Sent.the-variants as S
+use Rattle.effects.specs.declared.stored.Write.{Write}
+use Rattle.effects.specs.declared.stored.Write.the-variants as W
+use Rattle.effects.specs.declared.sent.Sent.{Sent}
+use Rattle.effects.specs.declared.sent.Sent.the-variants as S
 
 -- a cell for a field
 unfoldable pub cellWrite : ℕ → Cell → Write

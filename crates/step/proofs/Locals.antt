@@ -28,7 +28,7 @@ use Rattle.machine.specs.Local.{offends, localRule, localRules, localRecords, s
 use Rattle.machine.proofs.Folding.{localRules-more, localRules-length, localRecords-length, sumOffends-more}
 use Rattle.evaluate.specs.Located.{located}
 use Rattle.effects.specs.Answers.{cellWrite, writeOf}
-use Rattle.effects.specs.declared.rule.Write.the-variants.{Nothing, OutOfRange}
+use Rattle.effects.specs.declared.stored.Write.the-variants.{Nothing, OutOfRange}
 use Rattle.work.specs.Work.{Room, Holds, Same, Put, Small}
 use Rattle.step.specs.Ready.{reads, Ready, AllReady, LocalRule, LocalDone, LocalStops}
 use Rattle.commit.specs.declared.Stop.the-variants.{Nowhere, At}

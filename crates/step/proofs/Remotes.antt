@@ -32,8 +32,8 @@ use Rattle.machine.proofs.Folding.{recordMessages-local, messages-more, deliver
 use Rattle.places.specs.Places.{placeAt}
 use Rattle.evaluate.specs.Located.{Names, Points}
 use Rattle.effects.specs.Answers.{messagesIn}
-use Rattle.effects.specs.declared.rule.Sent.{Sent}
-use Rattle.effects.specs.declared.rule.Sent.the-variants as S
+use Rattle.effects.specs.declared.sent.Sent.{Sent}
+use Rattle.effects.specs.declared.sent.Sent.the-variants as S
 use Rattle.work.specs.Work.{Room, Holds, Same, Put, Small}
 use Rattle.step.specs.Ready.{reads, Targets}
 use Rattle.step.specs.Delivered.{RuleDelivered, Delivered}

@@ -16,8 +16,8 @@ use Rattle.rules.specs.Program.{Rule, Action, fieldOf}
 use Rattle.machine.specs.Value.{holds}
 use Rattle.machine.specs.Local.{stored, store, offends, localRule}
 use Rattle.effects.specs.Answers.{cellWrite, writeStored, writeOf}
-use Rattle.effects.specs.declared.rule.Write.{Write}
-use Rattle.effects.specs.declared.rule.Write.the-variants.{Nothing, Clear, Store, OutOfRange}
+use Rattle.effects.specs.declared.stored.Write.{Write}
+use Rattle.effects.specs.declared.stored.Write.the-variants.{Nothing, Clear, Store, OutOfRange}
 
 -- the rule stores nothing
 pub record Idles (read : List ℕ → Cell) (r : Rule) : Type 0 where

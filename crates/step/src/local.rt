@@ -13,8 +13,8 @@ ghost use Rattle.step.specs.Ready.{Ready, LocalRule};
 use actions::rule::Slot;
 use chain::follow;
 use commit::Stop;
-use effects::rule;
-use effects::rule::Write;
+use effects::stored;
+use effects::stored::Write;
 use places;
 use register::Sizes;
 use register::cells;
@@ -51,7 +51,7 @@ pub fn apply_rule(
     requires { ⌜ Limits sizes × (length (now out) ≡ 12 + 5 * cellCount sizes) × (u < sizes .records) × Room base (cellCount sizes) (now values) (now marks) × Ready sizes (cellsOfFile sizes (now out)) (take base (now values)) (take base (now marks)) slot ⌝ }
     ensures { λ r. ⌜ LocalRule sizes (cellsOfFile sizes (now (out .entry))) base u (ruleOf slot) (now (values .entry)) (now (marks .entry)) (now (values .exit)) (now (marks .exit)) r ⌝ }
 {
-    match rule::local_write(
+    match stored::local_write(
         cells::values_part(out, sizes),
         cells::marks_part(out, sizes),
         &values[..base],

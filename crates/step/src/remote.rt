@@ -10,8 +10,8 @@ ghost use Rattle.work.specs.Work.{Room, Small};
 ghost use Rattle.step.specs.Ready.{Ready, AllReady};
 ghost use Rattle.step.specs.Delivered.{RuleDelivered, Delivered};
 use actions::rule::Slot;
-use effects::rule;
-use effects::rule::Sent;
+use effects::sent;
+use effects::sent::Sent;
 use register::Sizes;
 use register::cells;
 use work;
@@ -30,7 +30,7 @@ fn apply_rule(
     requires { ⌜ Parts sizes (now cells) (now filled) × (u < sizes .records) × Room base (length (now filled)) (now values) (now marks) × Ready sizes (cellsOf (now cells) (now filled)) (take base (now values)) (take base (now marks)) slot × Small 4611686018427387904 base (length (now filled)) (now values) (now marks) ⌝ }
     ensures { λ r. ⌜ RuleDelivered sizes (cellsOf (now (cells .entry)) (now (filled .entry))) base u (ruleOf slot) (now (values .entry)) (now (marks .entry)) (now (values .exit)) (now (marks .exit)) r ⌝ }
 {
-    match rule::message_of(
+    match sent::message_of(
         cells,
         filled,
         &values[..base],

@@ -41,12 +41,7 @@ pub fn cases() -> Vec<Case> {
             65_535,
         ),
         case("65,535 steps, 16 records", few(), counting(), 65_535),
-        case(
-            "100 steps, 4,096 records of 16 fields",
-            full(),
-            counting(),
-            100,
-        ),
+        case("100 steps, records of 16 fields", full(), counting(), 100),
     ]
 }
 

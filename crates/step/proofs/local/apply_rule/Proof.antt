@@ -19,7 +19,7 @@ use Rattle.chain.specs.Word.{hasField}
 use Rattle.chain.proofs.Fields.{field-below}
 use Rattle.step_plan.specs.Stored.{ruleOf}
 use Rattle.effects.specs.Answers.{cellWrite, writeOf}
-use Rattle.effects.specs.declared.rule.Write.the-variants.{OutOfRange}
+use Rattle.effects.specs.declared.stored.Write.the-variants.{OutOfRange}
 use Rattle.step.specs.Ready.{reads}
 use Rattle.step.proofs.Locals.{rule-idles, rule-offends, rule-stores, stores-field, offends-field}
 use borrow.Author.Needs.{needs}

@@ -1,12 +1,12 @@
--- `effects::rule::write_cell` meets its contract.
+-- `effects::stored::write_cell` meets its contract.
 -- Assumes nothing.
 use mathlib.Core.Path.{sym, ap, _∙_}
 use Rattle.integers.proofs.Complement.{kept}
 use Rattle.effects.specs.Answers.{cellWrite}
-use Rattle.effects.specs.declared.rule.Write.the-variants.{Store}
+use Rattle.effects.specs.declared.stored.Write.the-variants.{Store}
 use borrow.Author.Needs.{needs}
-use Rattle.effects.proofs.rule.write_cell.Statement.{statement}
-use Rattle.effects.proofs.rule.write_cell.Tie as tie
+use Rattle.effects.proofs.stored.write_cell.Statement.{statement}
+use Rattle.effects.proofs.stored.write_cell.Tie as tie
 
 enum-told : tie.Need-enum-told
 enum-told c = search needs

@@ -1,12 +1,12 @@
--- `effects::rule::send` meets its contract: without a target or an amount nothing is sent.
+-- `effects::sent::send` meets its contract: without a target or an amount nothing is sent.
 -- Assumes nothing.
 use mathlib.Core.Path.{sym, _∙_}
 use Rattle.machine.specs.Remote.{sentTo}
 use Rattle.effects.specs.Answers.{messagesIn}
 use Rattle.evaluate.proofs.Sides.{both-first, both-second, both-values, named}
 use borrow.Author.Needs.{needs}
-use Rattle.effects.proofs.rule.send.Statement.{statement}
-use Rattle.effects.proofs.rule.send.Tie as tie
+use Rattle.effects.proofs.sent.send.Statement.{statement}
+use Rattle.effects.proofs.sent.send.Tie as tie
 
 chain-value-requires : tie.Need-chain-value-requires
 chain-value-requires c κs = search needs

@@ -1,4 +1,4 @@
--- `effects::rule::local_write` meets its contract.
+-- `effects::stored::local_write` meets its contract.
 -- Assumes nothing.
 use Rattle.step_plan.specs.Stored.{actionOf}
 use Rattle.rules.specs.Program.{fieldOf}
@@ -7,8 +7,8 @@ use Rattle.machine.specs.Local.{formed, stored}
 use Rattle.effects.specs.Answers.{sumWrite, writeStored}
 use Rattle.effects.proofs.Answering.{done, write-remote, write-nothing, write-done}
 use borrow.Author.Needs.{needs}
-use Rattle.effects.proofs.rule.local_write.Statement.{statement}
-use Rattle.effects.proofs.rule.local_write.Tie as tie
+use Rattle.effects.proofs.stored.local_write.Statement.{statement}
+use Rattle.effects.proofs.stored.local_write.Tie as tie
 
 is-remote-requires : tie.Need-is-remote-requires
 is-remote-requires c κs = search needs

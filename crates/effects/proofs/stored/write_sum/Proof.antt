@@ -1,12 +1,12 @@
--- `effects::rule::write_sum` meets its contract.
+-- `effects::stored::write_sum` meets its contract.
 -- Assumes nothing.
 use mathlib.Core.Path.{sym, ap, _∙_}
 use Rattle.integers.proofs.Complement.{kept}
 use Rattle.effects.specs.Answers.{sumAnswer}
-use Rattle.effects.specs.declared.rule.Write.the-variants.{Store}
+use Rattle.effects.specs.declared.stored.Write.the-variants.{Store}
 use borrow.Author.Needs.{needs}
-use Rattle.effects.proofs.rule.write_sum.Statement.{statement}
-use Rattle.effects.proofs.rule.write_sum.Tie as tie
+use Rattle.effects.proofs.stored.write_sum.Statement.{statement}
+use Rattle.effects.proofs.stored.write_sum.Tie as tie
 
 enum-known-sum : tie.Need-enum-known-sum
 enum-known-sum c = search needs

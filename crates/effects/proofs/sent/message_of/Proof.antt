@@ -1,4 +1,4 @@
--- `effects::rule::message_of` meets its contract.
+-- `effects::sent::message_of` meets its contract.
 -- Assumes nothing.
 use mathlib.Core.Path.{_∙_}
 use Rattle.step_plan.specs.Stored.{actionOf}
@@ -6,8 +6,8 @@ use Rattle.machine.specs.Remote.{actionMessages}
 use Rattle.effects.specs.Answers.{messagesIn}
 use Rattle.effects.proofs.Answering.{send-local, send-nothing, send-done}
 use borrow.Author.Needs.{needs}
-use Rattle.effects.proofs.rule.message_of.Statement.{statement}
-use Rattle.effects.proofs.rule.message_of.Tie as tie
+use Rattle.effects.proofs.sent.message_of.Statement.{statement}
+use Rattle.effects.proofs.sent.message_of.Tie as tie
 
 is-remote-requires : tie.Need-is-remote-requires
 is-remote-requires c κs = search needs

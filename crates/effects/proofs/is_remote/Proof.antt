@@ -1,12 +1,12 @@
--- `effects::rule::is_remote` meets its contract.
+-- `effects::is_remote` meets its contract.
 -- Assumes nothing.
 use mathlib.Core.Path.{sym, ap}
 use Rattle.rules.specs.Program.{isRemote}
 use Rattle.step_plan.specs.Stored.{actionOf}
 use Rattle.actions.specs.declared.rule.Rule.{Rule}
 use borrow.Author.Needs.{needs}
-use Rattle.effects.proofs.rule.is_remote.Statement.{statement}
-use Rattle.effects.proofs.rule.is_remote.Tie as tie
+use Rattle.effects.proofs.is_remote.Statement.{statement}
+use Rattle.effects.proofs.is_remote.Tie as tie
 
 enum-told : tie.Need-enum-told
 enum-told c = search needs

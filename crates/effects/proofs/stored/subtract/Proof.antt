@@ -1,11 +1,11 @@
--- `effects::rule::add` meets its contract: a sum with a missing side is missing.
+-- `effects::stored::subtract` meets its contract: a difference with a missing side is missing.
 -- Assumes nothing.
 use mathlib.Core.Path.{sym, _∙_}
-use lib.IntN.{_+ℤ_}
+use lib.IntN.{_-ℤ_}
 use Rattle.effects.proofs.Answering.{sum-first, sum-second, sum-written}
 use borrow.Author.Needs.{needs}
-use Rattle.effects.proofs.rule.add.Statement.{statement}
-use Rattle.effects.proofs.rule.add.Tie as tie
+use Rattle.effects.proofs.stored.subtract.Statement.{statement}
+use Rattle.effects.proofs.stored.subtract.Tie as tie
 
 term-value-requires : tie.Need-term-value-requires
 term-value-requires c κs = search needs
@@ -17,7 +17,7 @@ enum-told : tie.Need-enum-told
 enum-told c = search needs
 
 returns : tie.Need-returns
-returns c = sum-first _+ℤ_ _ _ (sym (c .before .before .term-value .ensures) ∙ c .enum-told .given .1)
+returns c = sum-first _-ℤ_ _ _ (sym (c .before .before .term-value .ensures) ∙ c .enum-told .given .1)
 
 term-value-requires-2 : tie.Need-term-value-requires-2
 term-value-requires-2 c κs = search needs
@@ -29,10 +29,10 @@ enum-told-2 : tie.Need-enum-told-2
 enum-told-2 c = search needs
 
 returns-2 : tie.Need-returns-2
-returns-2 c = sum-second _+ℤ_ _ _ (sym (c .before .before .term-value2 .ensures) ∙ c .enum-told2 .given .1)
+returns-2 c = sum-second _-ℤ_ _ _ (sym (c .before .before .term-value2 .ensures) ∙ c .enum-told2 .given .1)
 
-add-requires : tie.Need-add-requires
-add-requires c κs = search needs
+subtract-requires : tie.Need-subtract-requires
+subtract-requires c κs = search needs
 
 write-sum-requires : tie.Need-write-sum-requires
 write-sum-requires c κs = search needs
@@ -44,10 +44,10 @@ returns-3 c =
     let k = y .before in
     let x = k .before .before .before in
     c .write-sum .ensures
-    ∙ sum-written _+ℤ_ _ (sym (x .term-value .ensures) ∙ k .before .a .given .1) (sym (y .term-value2 .ensures) ∙ l .before .b .given .1) (k .known-told .given .0 .1) (l .known-told2 .given .0 .1) (c .before .add .ensures)
+    ∙ sum-written _-ℤ_ _ (sym (x .term-value .ensures) ∙ k .before .a .given .1) (sym (y .term-value2 .ensures) ∙ l .before .b .given .1) (k .known-told .given .0 .1) (l .known-told2 .given .0 .1) (c .before .subtract .ensures)
 
-pub add-spec : {M : Type 1} → statement M
-add-spec =
+pub subtract-spec : {M : Type 1} → statement M
+subtract-spec =
     tie.close
     (tie.spec
     term-value-requires
@@ -58,6 +58,6 @@ add-spec =
     enum-known-b
     enum-told-2
     returns-2
-    add-requires
+    subtract-requires
     write-sum-requires
     returns-3)
