@@ -1,27 +1,31 @@
--- What the program has of the library's run.
+-- The run that is printed, and what the program has of it.
 use mathlib.Core.Path.{_≡_}
 use mathlib.Core.List.{List}
 use Prim.Native.Nat.{ℕ}
 use lib.IntN.{ℤ}
-use lib.ListN.{length}
+use Rattle.register.specs.Outcome.{Outcome, done, after}
+use Rattle.register.specs.File.{sizesOf, cellsOfFile}
+use Rattle.rules.specs.Text.{check}
+use Rattle.machine.specs.Run.{Run, direct, run}
 use Rattle.message_machine.specs.declared.Machine.the-variants.{Messages}
 use Rattle.run_program.specs.declared.RunAnswer.{RunAnswer}
-use Rattle.runs.specs.Direct.{directRun}
-use Rattle.runs.specs.Answer.{lengths, Answered}
+use Rattle.runs.specs.Answer.{Answered}
 use Rattle.listing.specs.declared.Ran.{Ran}
+
+-- the run by letters, "allowance 1,000"; no refusal 18 or 19, for no length of a buffer is in it
+unfoldable pub printedRun : List ℕ → List ℕ → Outcome Run
+printedRun file text = let s = sizesOf file in after (check file text) (λ p. done (run s (direct s) p 1000 (cellsOfFile s file)))
 
 -- what is printed of an answer: "records, finished steps, exchanges, letters", or the refusal with its line
 abbrev pub ranOf : RunAnswer → Ran
 ranOf a = record { refusal = a .refusal; line = a .line; finished = a .finished; exchanges = a .counts .exchanges; letters = a .counts .messages }
 
--- the run by messages, "allowance 1,000", over scratch buffers of 6,600 places
+-- the answer of that run over some scratch buffers
 pub record RanBy (file text out out′ : List ℕ) (r : Ran) : Type 0 where
   pub answer : RunAnswer
   pub values : List ℤ
   pub marks : List ℕ
   pub values′ : List ℤ
   pub marks′ : List ℕ
-  pub values-length : length values ≡ 6600
-  pub marks-length : length marks ≡ 6600
-  pub answered : Answered Messages (directRun file text 1000 (lengths out values marks)) file out values marks out′ values′ marks′ answer
+  pub answered : Answered Messages (printedRun file text) file out values marks out′ values′ marks′ answer
   pub numbers : r ≡ ranOf answer

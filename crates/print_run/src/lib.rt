@@ -1,5 +1,7 @@
 // The library's run, and what of its answer is printed.
 ghost use mathlib.Core.Path.{_≡_};
+ghost use Prim.Native.Nat.{_≤_};
+ghost use lib.ListN.{length};
 ghost use Rattle.print_run.specs.Behind.{behindAt};
 ghost use Rattle.print_run.specs.RanBy.{RanBy};
 use listing::Ran;
@@ -7,9 +9,9 @@ use listing::Ran;
 // "allowance 1,000"
 const BUDGET: u16 = 1000;
 
-// The run of a text over a register file of at most 512 bytes. That has at most 100 cells, so 100 records and 100 × (64 + 1) + 100
-// places; or no field, so no plan line, and 4,096 records.
+// The run of a text over a register file of at most 512 bytes, for which 6,600 places are enough (`proofs/Enough`).
 pub fn run(file: &[u8], text: &[u8], out: &mut [u8]) -> Ran
+    requires { ⌜ (length (now file) ≤ 512) × (length (now out) ≡ length (now file)) ⌝ }
     ensures { λ r. ⌜ RanBy (now (file .entry)) (now (text .entry)) (now (out .entry)) (now (out .exit)) r ⌝ }
 {
     let mut values = [0i64; 6600];

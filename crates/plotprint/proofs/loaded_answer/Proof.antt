@@ -18,7 +18,7 @@ slice-aggregate-out : tie.Need-slice-aggregate-out
 slice-aggregate-out c = front _ _ (c .before .before .before .before .pre .0)
 
 run-requires : tie.Need-run-requires
-run-requires c κs = search needs
+run-requires c κs = (c .before .before .before .before .before .pre .0, sym (slice-aggregate-out (c .before)))
 
 behind-at-requires : tie.Need-behind-at-requires
 behind-at-requires c κs = search needs

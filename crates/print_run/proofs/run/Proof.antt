@@ -1,9 +1,15 @@
--- `print_run::run` meets its contract.
+-- `print_run::run` meets its contract: the working arrays have enough places.
 -- Assumes nothing.
-use mathlib.Core.Path.{refl}
+use Prim.Native.Nat.{ℕ}
+use mathlib.Core.Path.{_≡_, refl}
+use mathlib.Core.List.{List}
 use lib.IntN.{pos}
 use lib.ListN.{replicate}
+use native.Mathlib.Omega.{arith}
 use borrow.Author.Needs.{needs}
+use denote.Ref.{now}
+use Rattle.runs.specs.Answer.{lengths}
+use Rattle.print_run.proofs.Enough.{run-printed}
 use Rattle.print_run.proofs.run.Statement.{statement}
 use Rattle.print_run.proofs.run.Tie as tie
 
@@ -19,17 +25,26 @@ run-messages-requires c κs = search needs
 same-length : tie.Need-same-length
 same-length c = search needs
 
+-- the places of a working array, as the code counts them
+abbrev counted : {n m : ℕ} → n ≡ m → ℕ
+counted {n} e = n
+
 returns : tie.Need-returns
 returns c =
+    let ran = c .before .before .before .before .before in
+    let entry = ran .before .before .before .before .before .before .before in
+    let a = entry .args in
+    let values = replicate (counted (slice-aggregate-run-messages (ran .before .before))) (pos 0) in
+    let marks : List ℕ = replicate (counted (slice-aggregate-run-messages-2 (ran .before))) 0 in
+    let n = lengths (now (a .out)) values marks in
+    let same = run-printed (now (a .file)) (now (a .text)) (entry .pre .0) n (entry .pre .1) (omega arith) (omega arith) in
     record {
-      answer = c .before .before .before .before .before .run-messages .result;
-      values = replicate 6600 (pos 0);
-      marks = replicate 6600 0;
-      values′ = c .before .before .before .before .before .run-messages .last .1 .1 .1 .1 .0;
-      marks′ = c .before .before .before .before .before .run-messages .last .1 .1 .1 .1 .1 .0;
-      values-length = refl;
-      marks-length = refl;
-      answered = c .before .before .before .before .before .run-messages .ensures;
+      answer = ran .run-messages .result;
+      values = values;
+      marks = marks;
+      values′ = ran .run-messages .last .1 .1 .1 .1 .0;
+      marks′ = ran .run-messages .last .1 .1 .1 .1 .1 .0;
+      answered = rw (← same) (ran .run-messages .ensures);
       numbers = refl;
     }
 
