@@ -1,56 +1,45 @@
--- The answer of a look: by the check, by the step, and by the lengths of the buffers.
-use Prim.Native.Nat.{ℕ, _*_, _≤_, _<_}
-use mathlib.Core.Path.{_≡_, refl, sym, ap, subst, _∙_}
+-- The answer of a look: by the plan of the step, and by the lengths of the buffers.
+use Prim.Native.Nat.{ℕ, _*_, _≤_}
+use mathlib.Core.Path.{_≡_, refl, sym, subst}
 use mathlib.Core.Bool.{true, false}
 use mathlib.Core.List.{List}
 use native.Mathlib.Omega.{arith}
 use native.Mathlib.Nat.{mul-le-mul-right}
 use lib.IntN.{ℤ}
-use lib.ListN.{length}
 use Rattle.register.specs.Outcome.{Outcome, done, refused, after}
 use Rattle.register.specs.File.{sizesOf}
 use Rattle.register.specs.declared.Sizes.{Sizes}
 use Rattle.knowledge.specs.Plan.{Fact}
 use Rattle.rules.specs.Program.{Rule, Program, mostLines, stepPlan}
-use Rattle.rules.specs.Text.{check, rulesAt}
+use Rattle.rules.specs.Text.{check, rulesAt, planOfStep}
 use Rattle.machine.specs.Run.{scratch, isShort}
-use Rattle.program.proofs.Checks.{no-step, past-step}
 use Rattle.program.proofs.Room.{room}
 use Rattle.inspect.specs.Inspection.{stepLines, inspection}
 use Rattle.inspect.specs.Answer.{refusedWith, StepAnswered, Answered}
 use Rattle.inspect.specs.declared.InspectAnswer.{InspectAnswer}
 
+-- a refusal stays, whatever follows a result
+same-refusal : {A B C : Type 0} (o : Outcome A) {f : A → Outcome B} {g : A → Outcome C} {n k : ℕ}
+    → ((a : A) → f a ≡ refused n k → g a ≡ refused n k) → after o f ≡ refused n k → after o g ≡ refused n k
+unfolding after
+same-refusal (done a) h e = h a e
+same-refusal (refused a b) {n = n} {k = k} h e = let x : a ≡ n = cc in let y : b ≡ k = cc in rw (x, y)
+
 module _ (file text : List ℕ) (step values marks : ℕ) where
-  -- the check refuses
-  pub look-refused : {a b : ℕ} → check file text ≡ refused a b → inspection file text step values marks ≡ refused a b
-  unfolding inspection after
-  look-refused e = rw e
+  -- the plan of the step is refused
+  pub look-refused : {n k : ℕ} → planOfStep file text step ≡ refused n k → inspection file text step values marks ≡ refused n k
+  unfolding planOfStep inspection stepLines
+  look-refused = same-refusal (check file text) (λ p. same-refusal (rulesAt p step) (λ rs e. absurd (let z : _≡_ {A = ℕ} 0 1 = cc in omega arith)))
 
-  module _ {p : Program} (e : check file text ≡ done p) where
-    program : inspection file text step values marks ≡ stepLines file step values marks p
-    unfolding inspection after
-    program = rw e
+  -- the step is there: by the lengths of the buffers
+  module _ {p : Program} (e : check file text ≡ done p) {rs : List Rule} (there : rulesAt p step ≡ done rs) where
+    pub look-short : isShort (scratch (sizesOf file) (mostLines p)) values marks ≡ true → inspection file text step values marks ≡ refused 19 0
+    unfolding inspection stepLines after
+    look-short h = rw (e, there, h)
 
-    -- a step that is not there
-    missing-step : rulesAt p step ≡ refused 17 0 → inspection file text step values marks ≡ refused 17 0
-    unfolding stepLines after
-    missing-step h = program ∙ rw h
-
-    pub look-zero : step ≡ 0 → inspection file text step values marks ≡ refused 17 0
-    look-zero h = missing-step (ap (rulesAt p) h ∙ no-step p)
-
-    pub look-past : length p < step → inspection file text step values marks ≡ refused 17 0
-    look-past h = missing-step (past-step p step h)
-
-    -- one that is, by the lengths of the buffers
-    module _ {rs : List Rule} (there : rulesAt p step ≡ done rs) where
-      pub look-short : isShort (scratch (sizesOf file) (mostLines p)) values marks ≡ true → inspection file text step values marks ≡ refused 19 0
-      unfolding stepLines after
-      look-short h = program ∙ rw (there, h)
-
-      pub look-done : isShort (scratch (sizesOf file) (mostLines p)) values marks ≡ false → inspection file text step values marks ≡ done (stepPlan rs)
-      unfolding stepLines after
-      look-done h = program ∙ rw (there, h)
+    pub look-done : isShort (scratch (sizesOf file) (mostLines p)) values marks ≡ false → inspection file text step values marks ≡ done (stepPlan rs)
+    unfolding inspection stepLines after
+    look-done h = rw (e, there, h)
 
 -- both buffers have room for the lines of a step
 pub lines-room : (s : Sizes) {lines most values marks : ℕ} → lines ≤ most → isShort (scratch s most) values marks ≡ false

@@ -3,8 +3,8 @@ ghost use mathlib.Core.Path.{_≡_};
 ghost use lib.ListN.{length};
 ghost use Rattle.inspect.specs.Inspection.{inspection};
 ghost use Rattle.inspect.specs.Answer.{refusedWith, Answered};
-use program::check;
 use program::scratch;
+use program::step;
 use register;
 use show;
 
@@ -36,24 +36,15 @@ pub fn inspect(
 ) -> InspectAnswer
     ensures { λ r. ⌜ Answered (inspection (now (file .entry)) (now (text .entry)) step (length (now (values .entry))) (length (now (marks .entry)))) (now (file .entry)) t (now (values .entry)) (now (marks .entry)) (now (values .exit)) (now (marks .exit)) r ⌝ }
 {
-    let checked = check::check(file, text);
-    if checked.refusal != 0 {
-        return refused(checked.refusal, checked.line);
-    }
-    let program = checked.program;
-    if step == 0 {
-        return refused(17, 0);
-    }
-    if (program.steps as u64) < step {
-        return refused(17, 0);
+    let planned = step::plan_step(file, text, step);
+    if planned.refusal != 0 {
+        return refused(planned.refusal, planned.line);
     }
     let sizes = register::sizes_of(file);
-    if scratch::is_short(sizes, program.lines, values.len(), marks.len()) {
+    if scratch::is_short(sizes, planned.most, values.len(), marks.len()) {
         return refused(19, 0);
     }
-    let frames = program.frames;
-    let frame = frames[(step - 1) as usize];
-    let plan = frame.plan;
+    let plan = planned.plan;
     show::show(
         file,
         values,

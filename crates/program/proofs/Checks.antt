@@ -16,10 +16,10 @@ use Rattle.plan.specs.Held.{Holds}
 use Rattle.plan.specs.declared.Plan.{Plan}
 use Rattle.plan.proofs.Adding.{holds-facts}
 use Rattle.plan.proofs.Appending.{holds-count}
-use Rattle.rules.specs.Program.{Rule, Program, stepPlan, hasRemote}
+use Rattle.rules.specs.Program.{Rule, Program, mostLines, stepPlan}
 use Rattle.rules.specs.Text.{lines, start, readFrom, textProgram, check, rulesAt, Planned, planned, planOfStep}
-use Rattle.reader.specs.Kept.{programOf, Framed, outcomeOf, Answers}
-use Rattle.program.specs.StepPlan.{zip, linesOf, planOutcome, PlanAnswers, RefusedPlan}
+use Rattle.reader.specs.Kept.{programOf, FrameOf, Framed, outcomeOf, Answers}
+use Rattle.program.specs.StepPlan.{zip, linesOf, planOutcome, PlanAnswers, StepFound, RefusedPlan}
 use Rattle.reader_state.specs.declared.state.Frame.{Frame}
 use Rattle.reader.specs.declared.Checked.{Checked}
 use Rattle.program.specs.declared.step.StepPlan.{StepPlan}
@@ -64,35 +64,33 @@ module _ {o : Outcome Program} {r : Checked} (a : Answers o r) where
   answered-program h = sym (a .outcome-is) ∙ rw h
 
 -- a step that is not there
-pub no-step : (xs : Program) → rulesAt xs 0 ≡ refused 17 0
+no-step : (xs : Program) → rulesAt xs 0 ≡ refused 17 0
 unfolding rulesAt
 no-step [] = refl
 no-step (x ∷ xs) = refl
 
-pub past-step : (xs : Program) (k : ℕ) → length xs < k → rulesAt xs k ≡ refused 17 0
+past-step : (xs : Program) (k : ℕ) → length xs < k → rulesAt xs k ≡ refused 17 0
 unfolding rulesAt
 past-step [] k h = refl
 past-step (x ∷ xs) zero h = absurd (omega arith)
 past-step (x ∷ xs) (suc zero) h = absurd (omega arith)
 past-step (x ∷ xs) (suc (suc k)) h = past-step xs (suc k) (omega arith)
 
--- the frame of step k holds its plan
-pub record FrameAt (xs : Program) (k : ℕ) (f : Frame) : Type 0 where
-  pub rules : List Rule
-  pub there : rulesAt xs k ≡ O.done rules
-  pub remote-is : f .remote ≡ hasRemote rules
-  pub holds : Holds (f .plan) (stepPlan rules)
+-- the frame of step k
+record FrameAt (xs : Program) (k : ℕ) (f : Frame) : Type 0 where
+  rules : List Rule
+  there : rulesAt xs k ≡ O.done rules
+  kept : FrameOf f rules
 
 frame-at : (fs : List Frame) (xs : Program) (k : ℕ) (d : Frame) → Framed fs xs → k < length xs → FrameAt xs (suc k) (getD fs k d)
 unfolding rulesAt
 frame-at fs [] k d h b = absurd (omega arith)
 frame-at [] (x ∷ xs) k d h b = absurd h
-frame-at (f ∷ fs) (x ∷ xs) zero d h b = record { rules = x .rules; there = refl; remote-is = h .0 .remote-is; holds = h .0 .holds }
+frame-at (f ∷ fs) (x ∷ xs) zero d h b = record { rules = x .rules; there = refl; kept = h .0 }
 frame-at (f ∷ fs) (x ∷ xs) (suc k) d h b =
-    let r = frame-at fs xs k d (h .1) (omega arith) in
-    record { rules = r .rules; there = r .there; remote-is = r .remote-is; holds = r .holds }
+    let r = frame-at fs xs k d (h .1) (omega arith) in record { rules = r .rules; there = r .there; kept = r .kept }
 
-pub step-frame : (fs : List Frame) (xs : Program) (k : ℕ) (d : Frame) → Framed fs xs → 1 ≤ k → k ≤ length xs → FrameAt xs k (getD fs (k - 1) d)
+step-frame : (fs : List Frame) (xs : Program) (k : ℕ) (d : Frame) → Framed fs xs → 1 ≤ k → k ≤ length xs → FrameAt xs k (getD fs (k - 1) d)
 step-frame fs xs k d h p b =
     let at : suc (k - 1) ≡ k = omega arith in
     subst (λ (i : ℕ). FrameAt xs i (getD fs (k - 1) d)) at (frame-at fs xs (k - 1) d h (omega arith))
@@ -119,34 +117,36 @@ refused-answer {o} {r} a h = sym (a .outcome-is) ∙ refuse-none (r .refusal) (r
 
 -- the plan of a step: a refusal of the check, 17, or the frame's plan
 module _ (file t : List ℕ) (k : ℕ) where
-  refused-plan : {n l : ℕ} {r : StepPlan} → planOfStep file t k ≡ refused n l → (n ≡ 0 → ⊥) → RefusedPlan n l r → PlanAnswers (planOfStep file t k) r
-  unfolding planOutcome
-  refused-plan {n} {l} {r} e h p = record {
-    outcome-is = rw (p .refusal-is, p .line-is) (refuse-none n l _ h) ∙ sym e;
-    sound = λ z. absurd (h (sym (p .refusal-is) ∙ z));
-  }
+  abbrev Answer : StepPlan → Type 0
+  Answer r = PlanAnswers (planOfStep file t k) r × (r .refusal ≡ 0 → StepFound file t k r)
 
-  pub plan-refused : {n l : ℕ} {r : StepPlan} → check file t ≡ refused n l → (n ≡ 0 → ⊥) → RefusedPlan n l r → PlanAnswers (planOfStep file t k) r
+  refused-plan : {n l : ℕ} {r : StepPlan} → planOfStep file t k ≡ refused n l → (n ≡ 0 → ⊥) → RefusedPlan n l r → Answer r
+  unfolding planOutcome
+  refused-plan {n} {l} {r} e h p =
+      let none : r .refusal ≡ 0 → ⊥ = λ z. h (sym (p .refusal-is) ∙ z) in
+      (record { outcome-is = rw (p .refusal-is, p .line-is) (refuse-none n l _ h) ∙ sym e; sound = λ z. absurd (none z) }, λ z. absurd (none z))
+
+  pub plan-refused : {n l : ℕ} {r : StepPlan} → check file t ≡ refused n l → (n ≡ 0 → ⊥) → RefusedPlan n l r → Answer r
   unfolding planOfStep after
   plan-refused e h p = refused-plan (rw e) h p
 
   module _ {xs : Program} (e : check file t ≡ O.done xs) where
-    missing-step : {r : StepPlan} → rulesAt xs k ≡ refused 17 0 → RefusedPlan 17 0 r → PlanAnswers (planOfStep file t k) r
+    missing-step : {r : StepPlan} → rulesAt xs k ≡ refused 17 0 → RefusedPlan 17 0 r → Answer r
     unfolding planOfStep after
     missing-step h p = refused-plan (rw (e, h)) (λ z. omega arith) p
 
-    pub step-zero : {r : StepPlan} → k ≡ 0 → RefusedPlan 17 0 r → PlanAnswers (planOfStep file t k) r
+    pub step-zero : {r : StepPlan} → k ≡ 0 → RefusedPlan 17 0 r → Answer r
     step-zero h p = missing-step (ap (rulesAt xs) h ∙ no-step xs) p
 
-    pub step-past : {r : StepPlan} → length xs < k → RefusedPlan 17 0 r → PlanAnswers (planOfStep file t k) r
+    pub step-past : {r : StepPlan} → length xs < k → RefusedPlan 17 0 r → Answer r
     step-past h p = missing-step (past-step xs k h) p
 
-    pub step-there : (fs : List Frame) (d : Frame) → Framed fs xs → 1 ≤ k → k ≤ length xs
-        → PlanAnswers (planOfStep file t k) (record { refusal = 0; line = 0; plan = getD fs (k - 1) d .plan; remote = getD fs (k - 1) d .remote })
+    pub step-there : (fs : List Frame) (d : Frame) {most : ℕ} → Framed fs xs → 1 ≤ k → k ≤ length xs → most ≡ mostLines xs
+        → Answer (record { refusal = 0; line = 0; plan = getD fs (k - 1) d .plan; remote = getD fs (k - 1) d .remote; most = most })
     unfolding planOfStep after planned planOutcome unless result stepPlan
-    step-there fs d h p b =
+    step-there fs d h p b m =
         let f = step-frame fs xs k d h p b in
-        record {
-          outcome-is = rw (e, f .there, holds-lines (f .holds), f .remote-is);
-          sound = λ z. holds-facts (f .holds);
-        }
+        let l = f .kept .holds in (
+          record { outcome-is = rw (e, f .there, holds-lines l, f .kept .remote-is); sound = λ z. holds-facts l },
+          λ z. record { program = xs; checked = e; rules = f .rules; there = f .there; lines-are = l .facts-are; most-is = m },
+        )

@@ -6,7 +6,8 @@ use Rattle.register.specs.Outcome.{Outcome, done, unless}
 use Rattle.knowledge.specs.Plan.{Fact}
 use Rattle.plan.specs.Held.{facts, Holds}
 use Rattle.plan.specs.declared.Plan.{Plan}
-use Rattle.rules.specs.Text.{Planned}
+use Rattle.rules.specs.Program.{Rule, Program, mostLines, stepPlan}
+use Rattle.rules.specs.Text.{check, rulesAt, Planned}
 use Rattle.program.specs.declared.step.StepPlan.{StepPlan}
 
 -- two lists side by side, as far as the first goes
@@ -27,6 +28,15 @@ planOutcome r = unless (r .refusal) (r .line) (done (record { plan-lines = lines
 pub record PlanAnswers (o : Outcome Planned) (r : StepPlan) : Type 0 where
   pub outcome-is : planOutcome r ≡ o
   pub sound : r .refusal ≡ 0 → Holds (r .plan) (facts (r .plan))
+
+-- what the look needs beside it where nothing is refused: the text's program, the step's rules, whose lines the plan has, and the most lines of any step
+pub record StepFound (file text : List ℕ) (k : ℕ) (r : StepPlan) : Type 0 where
+  pub program : Program
+  pub checked : check file text ≡ done program
+  pub rules : List Rule
+  pub there : rulesAt program k ≡ done rules
+  pub lines-are : facts (r .plan) ≡ stepPlan rules
+  pub most-is : r .most ≡ mostLines program
 
 -- a refusal, whatever the plan
 pub record RefusedPlan (n line : ℕ) (r : StepPlan) : Type 0 where

@@ -1,15 +1,18 @@
 // Document 01's plan of a step.
+ghost use mathlib.Core.Path.{_≡_};
 ghost use Rattle.rules.specs.Text.{planOfStep};
-ghost use Rattle.program.specs.StepPlan.{PlanAnswers, RefusedPlan};
+ghost use Rattle.program.specs.StepPlan.{PlanAnswers, StepFound, RefusedPlan};
 use crate::check;
 use plan::Plan;
 
-// The plan of a step and whether a remote exchange follows, where the refusal is 0; otherwise the refusal's number and line.
+// Where the refusal is 0: the plan of a step, whether a remote exchange follows, and the most lines of any step of the text;
+// otherwise the refusal's number and line.
 pub struct StepPlan {
     pub refusal: u32,
     pub line: usize,
     pub plan: Plan,
     pub remote: bool,
+    pub most: usize,
 }
 
 fn refused(refusal: u32, line: usize) -> StepPlan
@@ -20,12 +23,13 @@ fn refused(refusal: u32, line: usize) -> StepPlan
         line,
         plan: Plan::empty(),
         remote: false,
+        most: 0,
     }
 }
 
 // The plan of a step, counted from 1; 17 for a step that is not there.
 pub fn plan_step(file: &[u8], text: &[u8], step: u64) -> StepPlan
-    ensures { λ r. ⌜ PlanAnswers (planOfStep (now (file .entry)) (now (text .entry)) step) r ⌝ }
+    ensures { λ r. ⌜ PlanAnswers (planOfStep (now (file .entry)) (now (text .entry)) step) r × (r .refusal ≡ 0 → StepFound (now (file .entry)) (now (text .entry)) step r) ⌝ }
 {
     let checked = check::check(file, text);
     if checked.refusal != 0 {
@@ -46,5 +50,6 @@ pub fn plan_step(file: &[u8], text: &[u8], step: u64) -> StepPlan
         line: 0,
         plan,
         remote: frame.remote,
+        most: program.lines,
     }
 }

@@ -16,17 +16,17 @@ plan-step-requires : tie.Need-plan-step-requires
 plan-step-requires c κs = search needs
 
 returns : tie.Need-returns
-returns c = rw (refused-answer (c .before .before .before .plan-step .ensures) (c .before .if1 .taken)) (record { result-is = refl; answer-is = refl; arrays-stay = refl })
+returns c = rw (refused-answer (c .before .before .before .plan-step .ensures .0) (c .before .if1 .taken)) (record { result-is = refl; answer-is = refl; arrays-stay = refl })
 
 fill-requires : tie.Need-fill-requires
-fill-requires c κs = c .before .before .before .before .before .before .plan-step .ensures .sound (c .before .before .before .before .if1 .left)
+fill-requires c κs = c .before .before .before .before .before .before .plan-step .ensures .0 .sound (c .before .before .before .before .if1 .left)
 
 flag-number-requires : tie.Need-flag-number-requires
 flag-number-requires c κs = search needs
 
 returns-2 : tie.Need-returns-2
 returns-2 c =
-    let a = c .before .before .before .before .before .before .before .before .before .plan-step .ensures in
+    let a = c .before .before .before .before .before .before .before .before .before .plan-step .ensures .0 in
     let h = a .sound (c .before .before .before .before .before .before .before .if1 .left) in
     let count = sym (holds-count h) ∙ sym (length-map {B = Fact × ℕ} (facts (c .before .before .before .before .before .before .before .before .before .plan-step .result .plan)) (λ (f : Fact). (f, round f))) in
     rw (planned-answer a (c .before .before .before .before .before .before .before .if1 .left), holds-lines h)

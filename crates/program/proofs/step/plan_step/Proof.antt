@@ -78,7 +78,7 @@ returns-4 c =
     let e = n .before .before .before in
     let a = entry e .args in
     step-there (now (a .file)) (now (a .text)) (a .step) (passed e) (e .before .before .check .result .program .frames) _ (complete e .framed)
-    (at-least (n .before)) (omega (arith, complete e .steps-are, n .if3 .left))
+    (at-least (n .before)) (omega (arith, complete e .steps-are, n .if3 .left)) (complete e .lines-are)
 
 pub plan-step-spec : {M : Type 1} → statement M
 plan-step-spec =
