@@ -11,6 +11,12 @@ pub struct Counts {
     pub messages: usize,
 }
 
+// No exchange and no message.
+pub const NONE: Counts = Counts {
+    exchanges: 0,
+    messages: 0,
+};
+
 // "1 more if it holds a remote rule".
 fn own_exchange(sends: bool) -> usize
     ensures { λ r. ⌜ (r ≡ cond sends 1 0) × (r ≤ 1) ⌝ }

@@ -37,10 +37,7 @@ pub fn gather<'a>(
     match machine {
         Machine::Direct => {
             fill::fill(cells, filled, values, marks, sizes, keys, count);
-            Counts {
-                exchanges: 0,
-                messages: 0,
-            }
+            counts::NONE
         }
         Machine::Messages => {
             let last = plan::last_round(rounds, count);

@@ -80,6 +80,7 @@ fieldOf (difference f x y) = f
 fieldOf (least f c x) = f
 fieldOf (total f c x) = f
 
+-- whether that is field f
 unfoldable pub writes : ℕ → Action → Bool
 writes f a = eqb f (fieldOf a)
 

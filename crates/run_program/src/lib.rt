@@ -82,10 +82,7 @@ fn run_steps(
     let mut step = 0;
     let mut first = steps;
     let mut finished = 0;
-    let mut counts = Counts {
-        exchanges: 0,
-        messages: 0,
-    };
+    let mut counts = counts::NONE;
     while step < steps {
         if finished == budget {
             return ended(20, finished, counts);

@@ -4,7 +4,7 @@ ghost use lib.ListN.{length};
 ghost use Rattle.message_machine.specs.declared.Machine.the-variants.{Direct, Messages};
 ghost use Rattle.runs.specs.Direct.{directRun};
 ghost use Rattle.runs.specs.Answer.{lengths, refusedWith, Answered};
-use gather::counts::Counts;
+use gather::counts;
 use message_machine::Machine;
 use program::check;
 use program::scratch;
@@ -19,10 +19,7 @@ fn refused(refusal: u32, line: usize) -> RunAnswer
         refusal,
         line,
         finished: 0,
-        counts: Counts {
-            exchanges: 0,
-            messages: 0,
-        },
+        counts: counts::NONE,
         row: 0,
         column: 0,
     }
