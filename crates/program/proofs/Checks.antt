@@ -1,6 +1,6 @@
 -- The ways out of a check and of the plan of a step.
 use Prim.Native.Nat.{ℕ, zero, suc, _-_, _≤_, _<_}
-use mathlib.Core.Path.{_≡_, refl, sym, ap, ap₂, subst, _∙_}
+use mathlib.Core.Path.{_≡_, refl, sym, ap, ap₂, _∙_}
 use mathlib.Core.List.{List, [], _∷_, map}
 use native.Mathlib.Omega.{arith}
 use borrow.Author.Tests.{lt-ltb, le-ltb}
@@ -16,13 +16,15 @@ use Rattle.plan.specs.Held.{Holds}
 use Rattle.plan.specs.declared.Plan.{Plan}
 use Rattle.plan.proofs.Adding.{holds-facts}
 use Rattle.plan.proofs.Appending.{holds-count}
-use Rattle.rules.specs.Program.{Rule, Program, mostLines, stepPlan}
+use Rattle.rules.specs.declared.around.Setting.the-variants.{Single}
+use Rattle.rules.specs.Program.{Step, Program, mostLines, stepPlan}
 use Rattle.rules.specs.Text.{lines, start, readFrom, textProgram, check, rulesAt, Planned, planned, planOfStep}
-use Rattle.reader.specs.Kept.{programOf, FrameOf, Framed, outcomeOf, Answers}
+use Rattle.reader.specs.Kept.{programOf, Framed, outcomeOf, Answers}
 use Rattle.program.specs.StepPlan.{zip, linesOf, planOutcome, PlanAnswers, StepFound, RefusedPlan}
 use Rattle.reader_state.specs.declared.state.Frame.{Frame}
 use Rattle.reader.specs.declared.Checked.{Checked}
 use Rattle.program.specs.declared.step.StepPlan.{StepPlan}
+use Rattle.reader.proofs.Keeping.{frame-at}
 use Rattle.reader.proofs.Reading.{refuse-none}
 
 -- 6, and any other text
@@ -76,24 +78,12 @@ past-step (x ∷ xs) zero h = absurd (omega arith)
 past-step (x ∷ xs) (suc zero) h = absurd (omega arith)
 past-step (x ∷ xs) (suc (suc k)) h = past-step xs (suc k) (omega arith)
 
--- the frame of step k
-record FrameAt (xs : Program) (k : ℕ) (f : Frame) : Type 0 where
-  rules : List Rule
-  there : rulesAt xs k ≡ O.done rules
-  kept : FrameOf f rules
-
-frame-at : (fs : List Frame) (xs : Program) (k : ℕ) (d : Frame) → Framed fs xs → k < length xs → FrameAt xs (suc k) (getD fs k d)
+-- a step that is there
+rules-there : (xs : Program) (k : ℕ) (d : Step) → k < length xs → rulesAt xs (suc k) ≡ O.done (getD xs k d .rules)
 unfolding rulesAt
-frame-at fs [] k d h b = absurd (omega arith)
-frame-at [] (x ∷ xs) k d h b = absurd h
-frame-at (f ∷ fs) (x ∷ xs) zero d h b = record { rules = x .rules; there = refl; kept = h .0 }
-frame-at (f ∷ fs) (x ∷ xs) (suc k) d h b =
-    let r = frame-at fs xs k d (h .1) (omega arith) in record { rules = r .rules; there = r .there; kept = r .kept }
-
-step-frame : (fs : List Frame) (xs : Program) (k : ℕ) (d : Frame) → Framed fs xs → 1 ≤ k → k ≤ length xs → FrameAt xs k (getD fs (k - 1) d)
-step-frame fs xs k d h p b =
-    let at : suc (k - 1) ≡ k = omega arith in
-    subst (λ (i : ℕ). FrameAt xs i (getD fs (k - 1) d)) at (frame-at fs xs (k - 1) d h (omega arith))
+rules-there [] k d h = absurd (omega arith)
+rules-there (x ∷ xs) zero d h = refl
+rules-there (x ∷ xs) (suc k) d h = rules-there xs k d (omega arith)
 
 -- the lines of a plan with their rounds
 zip-rounds : (l : List Fact) (ns : List ℕ) → length l ≤ length ns → ((i : ℕ) → i < length l → getD ns i 0 ≡ round (line l i)) → zip l ns ≡ map (λ f. (f, round f)) l
@@ -145,8 +135,10 @@ module _ (file t : List ℕ) (k : ℕ) where
         → Answer (record { refusal = 0; line = 0; plan = getD fs (k - 1) d .plan; remote = getD fs (k - 1) d .remote; most = most })
     unfolding planOfStep after planned planOutcome unless result stepPlan
     step-there fs d h p b m =
-        let f = step-frame fs xs k d h p b in
-        let l = f .kept .holds in (
-          record { outcome-is = rw (e, f .there, holds-lines l, f .kept .remote-is); sound = λ z. holds-facts l },
-          λ z. record { program = xs; checked = e; rules = f .rules; there = f .there; lines-are = l .facts-are; most-is = m },
+        let none : Step = record { rules = []; setting = Single } in
+        let at : suc (k - 1) ≡ k = omega arith in
+        let there = rw at at (rules-there xs (k - 1) none (omega arith)) in
+        let f = frame-at fs xs (k - 1) none d h (omega arith) in (
+          record { outcome-is = rw (e, there, holds-lines (f .holds), f .remote-is); sound = λ z. holds-facts (f .holds) },
+          λ z. record { program = xs; checked = e; rules = getD xs (k - 1) none .rules; there = there; lines-are = f .holds .facts-are; most-is = m },
         )

@@ -45,6 +45,13 @@ more-frames slots (g ∷ fs) f =
     more-frames (drop 32 slots) fs f
     ∙ ap (λ (l : List Slot). stepsIn (drop 32 slots) fs ++ (record { rules = rulesIn (f .rules) (take 32 l); setting = f .setting } ∷ [])) (drop-drop (32 * length fs) 32 slots ∙ ap (λ (n : ℕ). drop n slots) at))
 
+-- the frame of step i
+pub frame-at : (fs : List Frame) (xs : List Step) (i : ℕ) (d : Step) (e : Frame) → Framed fs xs → i < length xs → FrameOf (getD fs i e) (getD xs i d .rules)
+frame-at fs [] i d e h b = absurd (omega arith)
+frame-at [] (x ∷ xs) i d e h b = absurd h
+frame-at (f ∷ fs) (x ∷ xs) zero d e h b = h .0
+frame-at (f ∷ fs) (x ∷ xs) (suc i) d e h b = frame-at fs xs i d e (h .1) (omega arith)
+
 pub framed-more : (fs : List Frame) (xs : List Step) (f : Frame) (x : Step) → Framed fs xs → length xs < length fs → FrameOf f (x .rules)
     → Framed (set fs (length xs) f) (xs ++ (x ∷ []))
 framed-more [] xs f x h b k = absurd (omega arith)

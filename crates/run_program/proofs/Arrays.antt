@@ -11,8 +11,9 @@ use Rattle.rules.specs.declared.around.Setting.the-variants.{Single}
 use Rattle.rules.specs.Program.{Step, Program}
 use Rattle.step_plan.specs.Stored.{rulesIn}
 use Rattle.reader_state.specs.declared.state.Frame.{Frame}
-use Rattle.reader.specs.Kept.{stepsIn, programOf, FrameOf, Framed, Complete}
+use Rattle.reader.specs.Kept.{stepsIn, programOf, FrameOf, Complete}
 use Rattle.reader.specs.declared.Program as R
+use Rattle.reader.proofs.Keeping.{frame-at}
 
 -- what a place behind the last frame would hold
 abbrev pub noFrame : Frame
@@ -34,13 +35,6 @@ steps-length : (slots : List Slot) (fs : List Frame) → length (stepsIn slots f
 unfolding stepsIn
 steps-length slots [] = refl
 steps-length slots (f ∷ fs) = ap suc (steps-length (drop 32 slots) fs)
-
--- what its frame keeps of it
-frame-at : (fs : List Frame) (xs : Program) (i : ℕ) (d : Step) (e : Frame) → Framed fs xs → i < length xs → FrameOf (getD fs i e) (getD xs i d .rules)
-frame-at fs [] i d e h b = absurd (omega arith)
-frame-at [] (x ∷ xs) i d e h b = absurd h
-frame-at (f ∷ fs) (x ∷ xs) zero d e h b = h .0
-frame-at (f ∷ fs) (x ∷ xs) (suc i) d e h b = frame-at fs xs i d e (h .1) (omega arith)
 
 -- step i of a program that is kept in its arrays
 pub record StepAt (p : R.Program) (i : ℕ) (f : Frame) (x : Step) : Type 0 where
