@@ -39,6 +39,10 @@ total-told z = go (inRange z) refl
     go true h = (h, refl)
     go false h = h
 
+-- one of the first n, or the one behind them
+below-or-last : (i n : ℕ) → i < suc n → (i < n) ⊎ (i ≡ n)
+below-or-last i n h = ⊎-elim (λ (l : i < n). inl l) (λ (l : n ≤ i). inr (omega arith)) (lt-or-le i n)
+
 -- the records below n are in range in column c, and written
 pub record ColumnTo (s : Sizes) (base c : ℕ) (values : List ℤ) (marks : List ℕ) (file : List ℕ) (n : ℕ) (file′ : List ℕ) : Type 0 where
   pub in-range : (u : ℕ) → u < n → cellInRange (working base values marks (cellIndex s u c)) ≡ true
@@ -60,7 +64,10 @@ module _ {s : Sizes} {base c : ℕ} {values : List ℤ} {marks file : List ℕ} 
   }
 
   pub column-all : {n : ℕ} {file′ : List ℕ} → ColumnTo s base c values marks file n file′ → n ≡ s .records → OneColumn s base c values marks file file′
-  column-all p e = record { in-range = λ u l. p .in-range u (omega (arith, e)); file-is = p .file-is ∙ ap (λ (n : ℕ). putColumn s (working base values marks) c n file) e }
+  column-all p e = record {
+    in-range = λ u l. p .in-range u (omega (arith, e));
+    file-is = p .file-is ∙ ap (λ (n : ℕ). putColumn s (working base values marks) c n file) e;
+  }
 
 -- the columns below k whose fields are written are in range, and written
 pub record ColumnsTo (s : Sizes) (base : ℕ) (fields : List Bool) (values : List ℤ) (marks : List ℕ) (file : List ℕ) (k : ℕ) (file′ : List ℕ) : Type 0 where
@@ -73,27 +80,35 @@ module _ {s : Sizes} {base : ℕ} {fields : List Bool} {values : List ℤ} {mark
   unfolding putColumns
   columns-none = record { in-range = λ u c l b. absurd (omega (arith, b)); length-is = refl; file-is = refl }
 
-  -- one more, which is not written
   module _ {k : ℕ} {file′ : List ℕ} (p : ColumnsTo s base fields values marks file k file′) where
+    -- what is to be shown of column c, at record u
+    abbrev InRange-at : ℕ → ℕ → Type 0
+    InRange-at u c = isWritten s fields c ≡ true → cellInRange (working base values marks (cellIndex s u c)) ≡ true
+
+    -- one more column, whose field is not written
     pub columns-skip : isWritten s fields k ≡ false → ColumnsTo s base fields values marks file (k + 1) file′
     unfolding putColumns
     columns-skip e = record {
-      in-range = λ u c l b w. ⊎-elim (λ (h : c < k). p .in-range u c l h w) (λ (h : k ≤ c). let q : c ≡ k = omega (arith, b) in true-false w (ap (isWritten s fields) q ∙ e)) (lt-or-le c k);
+      in-range = λ u c l. below-more (InRange-at u) k (λ i b. p .in-range u i l b) (λ w. true-false w e) c;
       length-is = p .length-is;
       file-is = rw (add-one k, e) (p .file-is);
     }
 
-    -- or is
-    pub columns-next : {file″ : List ℕ} → isWritten s fields k ≡ true → length file″ ≡ length file′ → OneColumn s base k values marks file′ file″ → ColumnsTo s base fields values marks file (k + 1) file″
+    -- one more column, whose field is written
+    pub columns-next : {file″ : List ℕ} → isWritten s fields k ≡ true → length file″ ≡ length file′ → OneColumn s base k values marks file′ file″
+        → ColumnsTo s base fields values marks file (k + 1) file″
     unfolding putColumns
     columns-next e n h = record {
-      in-range = λ u c l b w. ⊎-elim (λ (i : c < k). p .in-range u c l i w) (λ (i : k ≤ c). let q : c ≡ k = omega (arith, b) in rw q (h .in-range u l)) (lt-or-le c k);
+      in-range = λ u c l. below-more (InRange-at u) k (λ i b. p .in-range u i l b) (λ w. h .in-range u l) c;
       length-is = n ∙ p .length-is;
       file-is = rw (add-one k, e, ← p .file-is) (h .file-is);
     }
 
     pub columns-all : k ≡ width s → AllCommitted s base fields values marks file file′
-    columns-all e = record { in-range = λ u c l b. p .in-range u c l (omega (arith, e)); file-is = p .file-is ∙ ap (λ (n : ℕ). putColumns s (working base values marks) fields n file) e }
+    columns-all e = record {
+      in-range = λ u c l b. p .in-range u c l (omega (arith, e));
+      file-is = p .file-is ∙ ap (λ (n : ℕ). putColumns s (working base values marks) fields n file) e;
+    }
 
 module _ (s : Sizes) (d : List Cell) where
   -- a file of cells that agree with d at the records and columns of which P holds
@@ -131,7 +146,7 @@ module _ (s : Sizes) (d : List Cell) where
     agrees-column {P} c b (suc n) l a =
         let below = cellIndex-below s n c (omega arith) b in
         agrees-as (λ u k r q. ⊎-elim (λ p. inl (inl p)) (λ (i : (k ≡ c) × (u < suc n)).
-        ⊎-elim (λ (h : u < n). inl (inr (i .0, h))) (λ (h : n ≤ u). let q : u ≡ n = omega (arith, i .1) in inr (rw (q, i .0) refl)) (lt-or-le u n)))
+        ⊎-elim (λ h. inl (inr (i .0, h))) (λ e. inr (rw (e, i .0) refl)) (below-or-last u n (i .1))))
         (agrees-cell (cellIndex s n c) below (are _ below) (agrees-column c b n (omega arith) a))
 
     -- the columns below k whose fields are written, where the others agree from the start
@@ -141,16 +156,13 @@ module _ (s : Sizes) (d : List Cell) where
     agrees-columns fields zero l a = agrees-as (λ u c r b. ⊎-elim (λ p. p) (λ (i : c < 0). absurd (omega (arith, i)))) a
     agrees-columns {file} fields (suc k) l a = go (agrees-columns fields k (omega arith) a) (isWritten s fields k) refl
       where
-        past : (c : ℕ) → c < suc k → (c < k) ⊎ (c ≡ k)
-        past c i = ⊎-elim (λ (h : c < k). inl h) (λ (h : k ≤ c). inr (omega arith)) (lt-or-le c k)
-
         go : Agrees (λ u c. (isWritten s fields c ≡ false) ⊎ (c < k)) (putColumns s w fields k file) → (t : Bool) → isWritten s fields k ≡ t
             → Agrees (λ u c. (isWritten s fields c ≡ false) ⊎ (c < suc k)) (cond t (putColumn s w k (s .records) (putColumns s w fields k file)) (putColumns s w fields k file))
         go before true e =
-            agrees-as (λ u c r b. ⊎-elim (λ p. inl (inl p)) (λ (i : c < suc k). ⊎-elim (λ h. inl (inr h)) (λ q. inr (q, r)) (past c i)))
+            agrees-as (λ u c r b. ⊎-elim (λ p. inl (inl p)) (λ (i : c < suc k). ⊎-elim (λ h. inl (inr h)) (λ q. inr (q, r)) (below-or-last c k i)))
             (agrees-column k (omega arith) (s .records) (omega arith) before)
         go before false e =
-            agrees-as (λ u c r b. ⊎-elim (λ p. inl p) (λ (i : c < suc k). ⊎-elim (λ h. inr h) (λ q. inl (ap (isWritten s fields) q ∙ e)) (past c i))) before
+            agrees-as (λ u c r b. ⊎-elim (λ p. inl p) (λ (i : c < suc k). ⊎-elim (λ h. inr h) (λ q. inl (ap (isWritten s fields) q ∙ e)) (below-or-last c k i))) before
 
   -- then the file is that of d
   agrees-all : {file : List ℕ} → length d ≡ cellCount s → Agrees (λ u c. c < width s) file → file ≡ fileOf s d
@@ -163,8 +175,8 @@ module _ (s : Sizes) (d : List Cell) where
       subst (λ (i : ℕ). getD (a .cells) i Missing ≡ getD d i Missing) (place-is s j h) (a .agree (j / width s) (j % width s) (place-row s j h) (place-column s j h) (place-column s j h))))
 
 -- the working cells d in the columns that are written, and in the others the cells that d has there too
-pub columns-file : (s : Sizes) (fields : List Bool) (base : ℕ) (values : List ℤ) (marks file : List ℕ) (cells d : List Cell) → length cells ≡ cellCount s → length d ≡ cellCount s
-    → file ≡ fileOf s cells → Holds base d values marks
+pub columns-file : (s : Sizes) (fields : List Bool) (base : ℕ) (values : List ℤ) (marks file : List ℕ) (cells d : List Cell)
+    → length cells ≡ cellCount s → length d ≡ cellCount s → file ≡ fileOf s cells → Holds base d values marks
     → ((u c : ℕ) → u < s .records → c < width s → isWritten s fields c ≡ false → getD cells (cellIndex s u c) Missing ≡ getD d (cellIndex s u c) Missing)
     → putColumns s (working base values marks) fields (width s) file ≡ fileOf s d
 columns-file s fields base values marks file cells d k l e h same =

@@ -14,14 +14,14 @@ use Rattle.places.specs.Places.{placeAt}
 use Rattle.commit.specs.declared.Stop.{Stop}
 use Rattle.commit.specs.declared.Stop.the-variants.{Nowhere, At}
 
--- cell j, or that it is out of range
-abbrev pub OneCommitted : Sizes → ℕ → ℕ → List ℤ → List ℕ → List ℕ → List ℕ → Bool → Type 0
-OneCommitted s base j values marks file file′ true = (cellInRange (placeAt values marks (base + j)) ≡ true) × (file′ ≡ putCell s j (placeAt values marks (base + j)) file)
-OneCommitted s base j values marks file file′ false = (cellInRange (placeAt values marks (base + j)) ≡ false) × (file′ ≡ file)
-
 -- the working cell of place j
 abbrev pub working : ℕ → List ℤ → List ℕ → ℕ → Cell
 working base values marks j = placeAt values marks (base + j)
+
+-- cell j, or that it is out of range
+abbrev pub OneCommitted : Sizes → ℕ → ℕ → List ℤ → List ℕ → List ℕ → List ℕ → Bool → Type 0
+OneCommitted s base j values marks file file′ true = let d = working base values marks j in (cellInRange d ≡ true) × (file′ ≡ putCell s j d file)
+OneCommitted s base j values marks file file′ false = (cellInRange (working base values marks j) ≡ false) × (file′ ≡ file)
 
 -- the file with the cells d in column c of the records below n
 unfoldable pub putColumn : Sizes → (ℕ → Cell) → ℕ → ℕ → List ℕ → List ℕ

@@ -1,4 +1,4 @@
-// The working cells become the register's, where all are in range.
+// The working cells in the columns that a step writes become the register's, where all are in range.
 ghost use Prim.Native.Nat.{_+_, _*_, _<_};
 ghost use lib.ListN.{length};
 ghost use mathlib.Core.Path.{_≡_};

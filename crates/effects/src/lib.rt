@@ -7,7 +7,7 @@ ghost use Rattle.rules.specs.Program.{isRemote};
 ghost use Rattle.step_plan.specs.Stored.{actionOf};
 use actions::rule::Rule;
 
-// Whether it is a remote write.
+// Whether a rule is a remote write.
 fn is_remote(rule: Rule) -> bool
     ensures { λ r. ⌜ r ≡ isRemote (actionOf rule) ⌝ }
 {

@@ -12,7 +12,6 @@ ghost use Rattle.effects.specs.Answers.{messagesIn};
 use actions::rule::Rule;
 use actions::rule::Slot;
 use evaluate::term;
-use integers::Sum;
 use machine::message::Message;
 use machine::message::Sort;
 use register::Sizes;

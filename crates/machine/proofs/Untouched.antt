@@ -31,9 +31,9 @@ use Rattle.machine.proofs.Folding.{cond-both}
 use Rattle.machine.proofs.Refers.{place-column}
 
 -- a field that stands in another column than c
-pub record Elsewhere (s : Sizes) (c f : ℕ) : Type 0 where
-  pub below : column s f < width s
-  pub other : column s f ≢ c
+record Elsewhere (s : Sizes) (c f : ℕ) : Type 0 where
+  below : column s f < width s
+  other : column s f ≢ c
 
 abbrev AllElsewhere : Sizes → ℕ → List Rule → Type 0
 AllElsewhere s c rs = Each (λ (r : Rule). Elsewhere s c (fieldOf (r .action))) rs
@@ -117,7 +117,7 @@ module _ (s : Sizes) (c : ℕ) (b : c < width s) (u : ℕ) where
       deliver-here (recordMessages read rs n) (localRecords s read rs n cells) (records-elsewhere s c read rs n e) ∙ records-here read rs n cells e
 
 -- a rule that passes writes a field of the register
-pub action-field : (s : Sizes) (a : Action) → ActionPasses s a → hasField s (fieldOf a) ≡ true
+action-field : (s : Sizes) (a : Action) → ActionPasses s a → hasField s (fieldOf a) ≡ true
 unfolding fieldOf
 action-field s (set f x) k = k .field
 action-field s (sum f x y) k = k .0 .field

@@ -29,7 +29,8 @@ pub record PlanAnswers (o : Outcome Planned) (r : StepPlan) : Type 0 where
   pub outcome-is : planOutcome r ≡ o
   pub sound : r .refusal ≡ 0 → Holds (r .plan) (facts (r .plan))
 
--- what the look needs beside it where nothing is refused: the text's program, the step's rules, whose lines the plan has, and the most lines of any step
+-- what the look needs beside it where nothing is refused: the text's program, the step's rules, whose lines the plan has, and
+-- the most lines of any step
 pub record StepFound (file text : List ℕ) (k : ℕ) (r : StepPlan) : Type 0 where
   pub program : Program
   pub checked : check file text ≡ done program
