@@ -4,10 +4,10 @@ use mathlib.Core.List.{List}
 use Prim.Native.Nat.{ℕ}
 use lib.IntN.{ℤ}
 use Rattle.register.specs.Outcome.{Outcome}
-use Rattle.knowledge.specs.Plan.{Fact}
-use Rattle.inspect.specs.Answer.{Answered}
-use Rattle.inspect.specs.declared.InspectAnswer.{InspectAnswer}
-use Rattle.answer_array.specs.Numbers.{lookNumbers}
+use Rattle.plan_theory.specs.Plan.{Fact}
+use Rattle.op_inspect.specs.Answer.{Answered}
+use Rattle.op_inspect.specs.declared.InspectAnswer.{InspectAnswer}
+use Rattle.api_answer.specs.Numbers.{lookNumbers}
 
 -- what `plot_inspect` answers: its result and its answer array are those of the answer of this outcome
 pub record InspectCalled (o : Outcome (List Fact)) (file : List ℕ) (t : ℕ) (values : List ℤ) (marks : List ℕ) (values′ : List ℤ) (marks′ : List ℕ) (result : ℕ) (answer : List ℕ) : Type 0 where

@@ -8,16 +8,16 @@ use Rattle.register.specs.Shape.{Valid}
 use Rattle.register.specs.declared.Sizes.{Sizes}
 use Rattle.register.specs.declared.cells.Cell.{Cell}
 use Rattle.chain.specs.Word.{valueAtRecord}
-use Rattle.knowledge.specs.Plan.{Fact, word, last-round}
-use Rattle.knowledge.specs.Kept.{plan-promise}
-use Rattle.rules.specs.Program.{Rule, readings, stepPlan}
-use Rattle.rules.specs.Passed.{RulesPass}
-use Rattle.message_machine.proofs.Telling.{lines-told}
-use Rattle.message_machine.specs.declared.Machine.the-variants.{Messages}
-use Rattle.fill.specs.Filled.{Filled}
-use Rattle.messages.specs.Exchanged.{ExchangedTo}
-use Rattle.messages.proofs.Counting.{plan-below}
-use Rattle.line_exchange.proofs.Places.{stored-place, stored-fits}
+use Rattle.plan_theory.specs.Plan.{Fact, word, last-round}
+use Rattle.plan_theory.specs.Kept.{plan-promise}
+use Rattle.text_rules.specs.Program.{Rule, readings, stepPlan}
+use Rattle.text_rules.specs.Passed.{RulesPass}
+use Rattle.machine_messages.proofs.Telling.{lines-told}
+use Rattle.machine_messages.specs.declared.Machine.the-variants.{Messages}
+use Rattle.gather_follow.specs.Filled.{Filled}
+use Rattle.gather_exchanges.specs.Exchanged.{ExchangedTo}
+use Rattle.gather_exchanges.proofs.Counting.{plan-below}
+use Rattle.gather_line.proofs.Places.{stored-place, stored-fits}
 use Rattle.gather.specs.Gathered.{GatheredBy}
 
 told-filled : {s : Sizes} {rs : List Rule} {cells : List Cell} {values values′ : List ℤ} {marks marks′ : List ℕ} {n : ℕ} → Valid s cells → RulesPass s rs

@@ -6,12 +6,12 @@ use lib.IntN.{ℤ}
 use lib.ListN.{length}
 use Rattle.register.specs.declared.Sizes.{Sizes}
 use Rattle.register.specs.declared.cells.Cell.{Cell}
-use Rattle.knowledge.specs.Plan.{Fact, last-round}
-use Rattle.message_machine.specs.Held.{heldAfter}
-use Rattle.message_machine.specs.Counts.{planMessages}
-use Rattle.message_machine.specs.declared.Machine.{Machine}
-use Rattle.message_machine.specs.declared.Machine.the-variants.{Direct, Messages}
-use Rattle.fill.specs.Filled.{Filled}
+use Rattle.plan_theory.specs.Plan.{Fact, last-round}
+use Rattle.machine_messages.specs.Held.{heldAfter}
+use Rattle.machine_messages.specs.Counts.{planMessages}
+use Rattle.machine_messages.specs.declared.Machine.{Machine}
+use Rattle.machine_messages.specs.declared.Machine.the-variants.{Direct, Messages}
+use Rattle.gather_follow.specs.Filled.{Filled}
 use Rattle.gather.specs.declared.counts.Counts.{Counts}
 
 -- the exchanges and messages that bring these lines about

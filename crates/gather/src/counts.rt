@@ -3,7 +3,7 @@ ghost use mathlib.Core.Path.{_≡_};
 ghost use mathlib.Core.Bool.{cond};
 ghost use Prim.Native.Nat.{_≤_};
 ghost use Rattle.gather.specs.Counted.{countsAfter};
-use message_machine::Machine;
+use machine_messages::Machine;
 
 // Exchanges, and the messages sent in them: none in a direct run.
 pub struct Counts {

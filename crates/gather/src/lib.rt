@@ -3,14 +3,14 @@ ghost use Prim.Native.Nat.{_*_, _≤_};
 ghost use lib.ListN.{length};
 ghost use Rattle.register.specs.File.{cellsOfFile};
 ghost use Rattle.register.specs.Shape.{Register};
-ghost use Rattle.plan.specs.Held.{facts-in, plan-of};
-ghost use Rattle.messages.specs.Lines.{Planned};
+ghost use Rattle.plan_lines.specs.Held.{facts-in, plan-of};
+ghost use Rattle.gather_exchanges.specs.Lines.{Planned};
 ghost use Rattle.gather.specs.Gathered.{GatheredBy};
 use crate::counts::Counts;
-use fill;
-use message_machine::Machine;
-use messages;
-use plan;
+use gather_exchanges;
+use gather_follow;
+use machine_messages::Machine;
+use plan_lines;
 use register::Sizes;
 use register::cells;
 
@@ -36,14 +36,14 @@ pub fn gather<'a>(
     let filled = cells::marks_part(file, sizes);
     match machine {
         Machine::Direct => {
-            fill::fill(cells, filled, values, marks, sizes, keys, count);
+            gather_follow::fill(cells, filled, values, marks, sizes, keys, count);
             counts::NONE
         }
         Machine::Messages => {
-            let last = plan::last_round(rounds, count);
+            let last = plan_lines::last_round(rounds, count);
             Counts {
                 exchanges: last as usize,
-                messages: messages::exchange_to(
+                messages: gather_exchanges::exchange_to(
                     cells,
                     filled,
                     values,

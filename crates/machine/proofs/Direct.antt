@@ -19,8 +19,8 @@ use Rattle.register.specs.declared.Sizes.{Sizes}
 use Rattle.register.specs.declared.cells.Cell.{Cell}
 use Rattle.register.specs.declared.cells.Cell.the-variants.{Missing, Value}
 use Rattle.chain.specs.Word.{isReference, hasField, readable, Passes, column, cell, hop, follow, valueAtRecord}
-use Rattle.rules.specs.Program.{Rule}
-use Rattle.rules.specs.Passed.{isReferenceWord}
+use Rattle.text_rules.specs.Program.{Rule}
+use Rattle.text_rules.specs.Passed.{isReferenceWord}
 use Rattle.machine.specs.Run.{direct}
 
 -- a reference field of the register

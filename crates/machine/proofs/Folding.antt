@@ -10,7 +10,7 @@ use Rattle.integers.proofs.Bools.{or-neither, true-false}
 use Rattle.register.specs.declared.Sizes.{Sizes}
 use Rattle.register.specs.declared.cells.Cell.{Cell}
 use Rattle.chain.specs.Word.{column}
-use Rattle.rules.specs.Program.{Action, set, sum, difference, least, total, Rule, isRemote, hasRemote, fieldOf}
+use Rattle.text_rules.specs.Program.{Action, set, sum, difference, least, total, Rule, isRemote, hasRemote, fieldOf}
 use Rattle.machine.specs.declared.message.Message.{Message}
 use Rattle.machine.specs.Value.{holds}
 use Rattle.machine.specs.Local.{stored, store, localRule, localRules, localRecords, offends, sumOffends}

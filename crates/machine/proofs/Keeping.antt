@@ -17,9 +17,9 @@ use Rattle.register.specs.declared.Sizes.{Sizes}
 use Rattle.register.specs.declared.cells.Cell.{Cell}
 use Rattle.register.specs.declared.cells.Cell.the-variants.{Missing, Value}
 use Rattle.chain.specs.Word.{isReference, Passes}
-use Rattle.rules.specs.Program.{Term, reading, constant, Action, set, sum, difference, least, total, Rule}
-use Rattle.rules.specs.Passed.{Each, isReferenceWord, isReferenceTerm, TermPasses, Alike, Measured, ActionPasses, RulePasses, RulesPass}
-use Rattle.rules.proofs.Checked.{each-append}
+use Rattle.text_rules.specs.Program.{Term, reading, constant, Action, set, sum, difference, least, total, Rule}
+use Rattle.text_rules.specs.Passed.{Each, isReferenceWord, isReferenceTerm, TermPasses, Alike, Measured, ActionPasses, RulePasses, RulesPass}
+use Rattle.text_rules.proofs.Checked.{each-append}
 use Rattle.machine.specs.declared.message.Sort.{Sort}
 use Rattle.machine.specs.declared.message.Sort.the-variants.{Least, Total}
 use Rattle.machine.specs.declared.message.Message.{Message}

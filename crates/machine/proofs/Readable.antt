@@ -10,9 +10,9 @@ use Rattle.integers.proofs.Bools.{and-both}
 use Rattle.register.specs.declared.Sizes.{Sizes}
 use Rattle.chain.specs.Word.{hasField, readable}
 use Rattle.chain_text.specs.Text.{every}
-use Rattle.knowledge.specs.Plan.{Fact, back, read, hops, half, front, rest, back-need, read-need}
-use Rattle.knowledge.specs.Half.{half-below}
-use Rattle.knowledge.specs.Promise.{Needed, itself, by-back, by-read, Wanted}
+use Rattle.plan_theory.specs.Plan.{Fact, back, read, hops, half, front, rest, back-need, read-need}
+use Rattle.plan_theory.specs.Half.{half-below}
+use Rattle.plan_theory.specs.Promise.{Needed, itself, by-back, by-read, Wanted}
 
 -- every hop is a reference of the register
 abbrev pub referring : Sizes → List ℕ → Bool

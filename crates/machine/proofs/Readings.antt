@@ -5,11 +5,11 @@ use mathlib.Core.List.{List, [], _∷_, _++_, List·Memᴰ, List·Memᴰ·head, 
 use lib.ListN.{length}
 use Rattle.register.specs.declared.Sizes.{Sizes}
 use Rattle.chain.specs.Word.{Passes}
-use Rattle.knowledge.specs.Plan.{line}
-use Rattle.knowledge.specs.Kept.{plan-promise}
-use Rattle.rules.specs.Program.{Term, reading, constant, Test, always, when, Action, set, sum, difference, least, total, Rule, termReadings, testReadings, actionReadings, ruleReadings, readings, stepPlan}
-use Rattle.rules.specs.Passed.{Each, TermPasses, TestPasses, ActionPasses, RulePasses, RulesPass}
-use Rattle.rules.proofs.Checked.{each-append}
+use Rattle.plan_theory.specs.Plan.{line}
+use Rattle.plan_theory.specs.Kept.{plan-promise}
+use Rattle.text_rules.specs.Program.{Term, reading, constant, Test, always, when, Action, set, sum, difference, least, total, Rule, termReadings, testReadings, actionReadings, ruleReadings, readings, stepPlan}
+use Rattle.text_rules.specs.Passed.{Each, TermPasses, TestPasses, ActionPasses, RulePasses, RulesPass}
+use Rattle.text_rules.proofs.Checked.{each-append}
 use Rattle.machine.proofs.Readable.{Follows, wanted-follows}
 
 -- one of a list

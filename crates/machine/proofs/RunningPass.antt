@@ -9,10 +9,10 @@ use lib.ListN.{drop}
 use Rattle.integers.proofs.Bools.{true-false}
 use Rattle.register.specs.declared.Sizes.{Sizes}
 use Rattle.register.specs.declared.cells.Cell.{Cell}
-use Rattle.rules.specs.declared.around.Setting.{Setting}
-use Rattle.rules.specs.declared.around.Setting.the-variants.{Single, Looped}
-use Rattle.rules.specs.Program.{Program}
-use Rattle.rules.specs.Passed.{settingFits, openBehind}
+use Rattle.text_rules.specs.declared.around.Setting.{Setting}
+use Rattle.text_rules.specs.declared.around.Setting.the-variants.{Single, Looped}
+use Rattle.text_rules.specs.Program.{Program}
+use Rattle.text_rules.specs.Passed.{settingFits, openBehind}
 use Rattle.machine.specs.Run.{Pass, begins, goesOn, entered, following}
 
 -- the loop that is open before a step

@@ -14,8 +14,8 @@ use Rattle.register.proofs.Bounds.{place-row, place-column, place-is}
 use Rattle.register.specs.declared.Sizes.{Sizes}
 use Rattle.register.specs.declared.cells.Cell.{Cell}
 use Rattle.register.specs.declared.cells.Cell.the-variants.{Missing}
-use Rattle.knowledge.specs.Cases.{true-or-false, lt-or-le}
-use Rattle.rules.specs.Program.{Rule}
+use Rattle.plan_theory.specs.Cases.{true-or-false, lt-or-le}
+use Rattle.text_rules.specs.Program.{Rule}
 use Rattle.machine.specs.Value.{cellInRange}
 use Rattle.machine.specs.Local.{sumOffends}
 use Rattle.machine.specs.Step.{stepCells, offendsAt, someBelow, stops}

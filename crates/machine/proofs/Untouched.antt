@@ -16,10 +16,10 @@ use Rattle.register.specs.declared.cells.Cell.{Cell}
 use Rattle.register.specs.declared.cells.Cell.the-variants.{Missing, Value}
 use Rattle.chain.specs.Word.{hasField, column, fieldAt}
 use Rattle.chain.proofs.Following.{column-below, field-column}
-use Rattle.rules.specs.Program.{Action, set, sum, difference, least, total, Rule, fieldOf, writes}
-use Rattle.rules.specs.Check.{someAction}
-use Rattle.rules.specs.Passed.{Each, ActionPasses, RulePasses}
-use Rattle.rules.proofs.Checked.{each-append}
+use Rattle.text_rules.specs.Program.{Action, set, sum, difference, least, total, Rule, fieldOf, writes}
+use Rattle.text_rules.specs.Check.{someAction}
+use Rattle.text_rules.specs.Passed.{Each, ActionPasses, RulePasses}
+use Rattle.text_rules.proofs.Checked.{each-append}
 use Rattle.machine.specs.declared.message.Sort.{Sort}
 use Rattle.machine.specs.declared.message.Sort.the-variants.{Least, Total}
 use Rattle.machine.specs.declared.message.Message.{Message}

@@ -7,8 +7,8 @@ use lib.Signed.{ltZ}
 use Rattle.integers.specs.Range.{inRange, eqZ}
 use Rattle.register.specs.declared.cells.Cell.{Cell}
 use Rattle.register.specs.declared.cells.Cell.the-variants.{Missing, Value}
-use Rattle.syntax.specs.Written.{Comparison, less, equal, unequal}
-use Rattle.rules.specs.Program.{Term, reading, constant, Test, always, when}
+use Rattle.text_forms.specs.Written.{Comparison, less, equal, unequal}
+use Rattle.text_rules.specs.Program.{Term, reading, constant, Test, always, when}
 
 -- f of two values, or `else` where a cell is missing
 unfoldable pub both : {A : Type 0} → A → (ℤ → ℤ → A) → Cell → Cell → A

@@ -13,16 +13,16 @@ use Rattle.register.specs.File.{width, cellCount, sizesOf}
 use Rattle.register.specs.declared.Sizes.{Sizes}
 use Rattle.register.proofs.Bounds.{limits}
 use Rattle.chain.specs.Word.{readable, Passes}
-use Rattle.knowledge.specs.Plan.{read, add-readings, plan}
-use Rattle.knowledge.specs.Lines.{add-none}
-use Rattle.rules.specs.Program.{Program, readings, stepPlan, mostLines}
-use Rattle.rules.specs.Passed.{Each, StepPasses}
-use Rattle.rules.specs.Text.{check}
+use Rattle.plan_theory.specs.Plan.{read, add-readings, plan}
+use Rattle.plan_theory.specs.Lines.{add-none}
+use Rattle.text_rules.specs.Program.{Program, readings, stepPlan, mostLines}
+use Rattle.text_rules.specs.Passed.{Each, StepPasses}
+use Rattle.text_rules.specs.Text.{check}
 use Rattle.machine.specs.Run.{scratch, isShort}
 use Rattle.machine.proofs.Readings.{readings-pass}
-use Rattle.program.proofs.Passed.{loaded, passed, few-lines}
-use Rattle.runs.specs.Direct.{Lengths, directRun}
-use Rattle.runs.proofs.Answering.{run-refused, run-done}
+use Rattle.op_check.proofs.Passed.{loaded, passed, few-lines}
+use Rattle.op_run.specs.Direct.{Lengths, directRun}
+use Rattle.op_run.proofs.Answering.{run-refused, run-done}
 use Rattle.print_run.specs.RanBy.{printedRun}
 
 -- a register without reference fields

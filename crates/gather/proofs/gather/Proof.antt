@@ -6,12 +6,12 @@ use borrow.Author.Needs.{needs}
 use denote.Ref.{now}
 use Rattle.register.specs.File.{cellsOfFile}
 use Rattle.register.proofs.Loading.{file-parts}
-use Rattle.knowledge.specs.Plan.{last-round}
-use Rattle.plan.specs.Held.{facts-in}
-use Rattle.rules.specs.Program.{stepPlan}
-use Rattle.fill.specs.Filled.{FollowLines}
-use Rattle.fill.proofs.Readings.{lines-follow}
-use Rattle.messages.proofs.Planned.{planned-lines, planned-followable, planned-count, planned-rounds}
+use Rattle.plan_theory.specs.Plan.{last-round}
+use Rattle.plan_lines.specs.Held.{facts-in}
+use Rattle.text_rules.specs.Program.{stepPlan}
+use Rattle.gather_follow.specs.Filled.{FollowLines}
+use Rattle.gather_follow.proofs.Readings.{lines-follow}
+use Rattle.gather_exchanges.proofs.Planned.{planned-lines, planned-followable, planned-count, planned-rounds}
 use Rattle.gather.proofs.Gathering.{told-gathered}
 use Rattle.gather.proofs.gather.Statement.{statement}
 use Rattle.gather.proofs.gather.Tie as tie

@@ -1,0 +1,82 @@
+-- (P) The texts of the printed run and of the "Edges", each with the program that it describes: A is field 0, M field 8.
+use Prim.Native.Nat.{ℕ}
+use Prim.Native.String.{String}
+use mathlib.Core.Path.{_≡_, refl}
+use mathlib.Core.List.{List, [], _∷_, map}
+use lib.IntN.{pos, negsuc}
+use Rattle.integers.specs.Range.{inRange}
+use Rattle.register.specs.Outcome.{Outcome, done, unless, after}
+use Rattle.chain_text.specs.Text as C
+use Rattle.chain_text.specs.Scan.{startsWith}
+use Rattle.plan_theory.specs.Plan.{plan, add-readings, add, lines as planLines, listed, place, same as sameFact, same-word, tree, tree-within, half, doubled, front, rest}
+use Rattle.text_forms.specs.Bytes.{bytes}
+use Rattle.text_forms.specs.Numeral.{isDigit, digits, decimal, isNumeral, signedForm, numberForm, numberValue, signedValue}
+use Rattle.text_forms.specs.Token.{capital, then, word, or, finished}
+use Rattle.text_forms.specs.Term.{ofNumber, ofChain, termForm}
+use Rattle.text_forms.specs.Line.{assigned, localForm, sent, remoteForm, actionForm, ruleOf, compared, testedForm, lineForm}
+use Rattle.text_forms.specs.Parts.{numbersInRange, termInRange, short, termShort, kinded, kindsAgree, actionKinds, areMeasures, conditionKinds, same, isReferenceTerm, termKinded, named, fieldNamed, termNamed, target, everyTerm, terms, actionTerms, conditionTerms}
+use Rattle.text_rules.specs.Check.{lineRefusal, planFits, sortsAgree, oneSort, someAction, isTotal, isLeast, hasRoom, inPlace, openRules, isOpen, isUsed, isOutside}
+use Rattle.text_rules.specs.Program.{reading, constant, always, Action, set, sum, total, Rule, Step, Program, stepPlan, readings, ruleReadings, actionReadings, testReadings, termReadings}
+use Rattle.text_rules.specs.Text.{textProgram, readFrom, start, closed, lineOutcome, advance, settingIn, withStep, actionOf, testOf, termOf, pieceForm, lines, onto}
+use Rattle.text_rules.specs.declared.around.Setting.the-variants.{Single}
+
+-- the program of a text over a register of n records with the fields A and M
+unfoldable pub programOf : ℕ → String → Outcome Program
+unfolding textProgram readFrom start closed lineOutcome advance settingIn withStep actionOf testOf termOf pieceForm lines onto after unless lineRefusal planFits sortsAgree oneSort someAction isTotal isLeast hasRoom inPlace openRules isOpen isUsed isOutside numbersInRange termInRange short termShort kinded kindsAgree actionKinds areMeasures conditionKinds same isReferenceTerm termKinded named fieldNamed termNamed target everyTerm terms actionTerms conditionTerms lineForm testedForm compared ruleOf actionForm remoteForm sent localForm assigned termForm ofChain ofNumber capital then word or finished isDigit digits decimal isNumeral signedForm numberForm numberValue signedValue inRange startsWith C.isCapital C.closed C.form C.fieldOf C.isReferenceLetter C.names C.every C.innerReferences C.wordOf stepPlan readings ruleReadings actionReadings testReadings termReadings plan add-readings add planLines listed place sameFact same-word tree tree-within half doubled front rest
+programOf n t = textProgram (record { records = n; references = 1; measures = 1 }) (bytes t)
+
+-- a rule without a test, and a step of such rules outside loops
+abbrev pub untested : Action → Rule
+untested a = record { test = always; action = a }
+
+abbrev pub stepOf : List Action → Step
+stepOf actions = record { rules = map untested actions; setting = Single }
+
+-- "Text: `step`, `M[u] := M[A[A[u]]]`, `end`."
+abbrev pub printedStep : Step
+printedStep = stepOf (set 8 (reading (0 ∷ 0 ∷ 8 ∷ [])) ∷ [])
+
+pub printed-text : (n : ℕ) → programOf n "step\nM[u] := M[A[A[u]]]\nend\n" ≡ done (printedStep ∷ [])
+unfolding programOf
+printed-text n = refl
+
+-- "`A[u] := u`"
+abbrev pub ownStep : Step
+ownStep = stepOf (set 0 (reading []) ∷ [])
+
+pub own-text : (n : ℕ) → programOf n "step\nA[u] := u\nend\n" ≡ done (ownStep ∷ [])
+unfolding programOf
+own-text n = refl
+
+-- "2147483647 + 1"
+abbrev pub aboveStep : Step
+aboveStep = stepOf (sum 8 (constant (pos 2147483647)) (constant (pos 1)) ∷ [])
+
+pub above-text : (n : ℕ) → programOf n "step\nM[u] := 2147483647 + 1\nend\n" ≡ done (aboveStep ∷ [])
+unfolding programOf
+above-text n = refl
+
+-- "2147483647 + 0"
+abbrev pub mostStep : Step
+mostStep = stepOf (sum 8 (constant (pos 2147483647)) (constant (pos 0)) ∷ [])
+
+pub most-text : (n : ℕ) → programOf n "step\nM[u] := 2147483647 + 0\nend\n" ≡ done (mostStep ∷ [])
+unfolding programOf
+most-text n = refl
+
+-- "two remote amounts 1 and −1", each record's to itself
+abbrev pub amountsStep : Step
+amountsStep = stepOf (total 8 [] (constant (pos 1)) ∷ total 8 [] (constant (negsuc 0)) ∷ [])
+
+pub amounts-text : (n : ℕ) → programOf n "step\nremote M[u] += 1\nremote M[u] += -1\nend\n" ≡ done (amountsStep ∷ [])
+unfolding programOf
+amounts-text n = refl
+
+-- "Empty text", and "one step"
+pub empty-text : (n : ℕ) → programOf n "" ≡ done []
+unfolding programOf
+empty-text n = refl
+
+pub one-step-text : (n : ℕ) → programOf n "step\nend\n" ≡ done (stepOf [] ∷ [])
+unfolding programOf
+one-step-text n = refl

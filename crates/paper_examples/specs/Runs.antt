@@ -1,0 +1,95 @@
+-- (P) The printed run's values, and the runs of the "Edges": each as the cells at the end, the finished steps with the cells before
+-- each, and the ending.
+use Prim.Native.Nat.{ℕ}
+use mathlib.Core.Path.{_≡_, refl}
+use mathlib.Core.List.{List, [], _∷_}
+use lib.IntN.{pos}
+use Rattle.integers.specs.Range.{inRange}
+use Rattle.register.specs.File.{width, cellIndex}
+use Rattle.register.specs.declared.Sizes.{Sizes}
+use Rattle.register.specs.declared.cells.Cell.{Cell}
+use Rattle.register.specs.declared.cells.Cell.the-variants.{Missing, Value}
+use Rattle.chain.specs.Word.{isReference, column, cell, hop, follow, valueAtRecord}
+use Rattle.text_rules.specs.Program.{Step, Program, fieldOf}
+use Rattle.machine.specs.Value.{both, termValue, holds, cellInRange}
+use Rattle.machine.specs.Local.{sumCell, formed, stored, store, localRule, localRules, localRecords, offends, sumOffends}
+use Rattle.machine.specs.Remote.{sentTo, actionMessages, ruleMessages, messages, recordMessages, increased, merged, deliver, deliverAll}
+use Rattle.machine.specs.Step.{stepCells, offendsAt, someBelow, stops}
+use Rattle.machine.specs.Run.{Run, complete, spent, offended, direct, entered, following, behind, stepFirst, runFrom, run}
+use Rattle.paper_examples.specs.Printed.{printedSizes, printedCells}
+use Rattle.paper_examples.specs.Programs.{printedStep, ownStep, aboveStep, mostStep, amountsStep}
+
+-- the run of the direct machine: a program with a budget over the cells of a register
+unfoldable pub directRun : Sizes → Program → ℕ → List Cell → Run
+unfolding inRange width cellIndex isReference column cell hop follow valueAtRecord both termValue holds cellInRange sumCell formed stored fieldOf store localRule localRules localRecords offends sumOffends sentTo actionMessages ruleMessages messages recordMessages increased merged deliver deliverAll stepCells offendsAt someBelow stops direct entered following behind stepFirst runFrom run
+directRun s program budget cells = run s (direct s) program budget cells
+
+-- over the printed register, "allowance 1,000"
+unfoldable pub printedRun : Program → Run
+unfolding directRun printedSizes printedCells
+printedRun program = directRun printedSizes program 1000 printedCells
+
+-- the most that a cell holds
+abbrev pub most : Cell
+most = Value (pos 2147483647)
+
+-- "1 steps"; "0 1 180", "1 2 -", "2 - -"
+abbrev pub printedResult : Run
+printedResult = record {
+  cells = Value (pos 1) ∷ Value (pos 180) ∷ Value (pos 2) ∷ Missing ∷ Missing ∷ Missing ∷ [];
+  trace = (printedStep, printedCells) ∷ [];
+  ending = complete;
+}
+
+pub printed-values : printedRun (printedStep ∷ []) ≡ printedResult
+unfolding printedRun
+printed-values = refl
+
+-- "`A[u] := u` gives filled A everywhere"
+pub own-filled : printedRun (ownStep ∷ [])
+    ≡ record {
+      cells = Value (pos 0) ∷ Missing ∷ Value (pos 1) ∷ Value (pos 0) ∷ Value (pos 2) ∷ Value (pos 180) ∷ [];
+      trace = (ownStep, printedCells) ∷ [];
+      ending = complete;
+    }
+unfolding printedRun
+own-filled = refl
+
+-- "2147483647 + 1 stops"
+pub above-stops : printedRun (aboveStep ∷ [])
+    ≡ record { cells = printedCells; trace = []; ending = offended (aboveStep .rules) printedCells }
+unfolding printedRun
+above-stops = refl
+
+-- "2147483647 + 0 does not"
+pub most-stands : printedRun (mostStep ∷ [])
+    ≡ record {
+      cells = Value (pos 1) ∷ most ∷ Value (pos 2) ∷ most ∷ Missing ∷ most ∷ [];
+      trace = (mostStep, printedCells) ∷ [];
+      ending = complete;
+    }
+unfolding printedRun
+most-stands = refl
+
+-- one record: A refers to itself, M is 2147483647
+abbrev pub singleSizes : Sizes
+singleSizes = record { records = 1; references = 1; measures = 1 }
+
+abbrev pub singleCells : List Cell
+singleCells = Value (pos 0) ∷ most ∷ []
+
+-- "M at 2147483647 with two remote amounts 1 and −1 stands"
+pub amounts-stand : directRun singleSizes (amountsStep ∷ []) 1000 singleCells
+    ≡ record { cells = singleCells; trace = (amountsStep, singleCells) ∷ []; ending = complete }
+unfolding directRun
+amounts-stand = refl
+
+-- "Empty text, allowance 0: finished 0; one step, allowance 0: refusal 20", over any register
+pub empty-complete : (s : Sizes) (cells : List Cell) → directRun s [] 0 cells ≡ record { cells = cells; trace = []; ending = complete }
+unfolding directRun
+empty-complete s cells = refl
+
+pub one-step-spent : (s : Sizes) (cells : List Cell) (x : Step)
+    → directRun s (x ∷ []) 0 cells ≡ record { cells = cells; trace = []; ending = spent }
+unfolding directRun
+one-step-spent s cells x = refl

@@ -1,0 +1,69 @@
+-- The program in its arrays: what a step's places and frame hold of it.
+use Prim.Native.Nat.{ℕ, zero, suc, _+_, _*_, _<_}
+use mathlib.Core.Path.{_≡_, refl, ap, _∙_}
+use mathlib.Core.Bool.{false}
+use mathlib.Core.List.{List, [], _∷_}
+use native.Mathlib.Omega.{arith}
+use lib.ListN.{length, getD, take, drop, length-drop}
+use lib.Seq.{drop-drop, getD-take, getD-drop, length-take-le}
+use Rattle.text_local.specs.declared.rule.Slot.{Slot}
+use Rattle.text_rules.specs.declared.around.Setting.the-variants.{Single}
+use Rattle.text_rules.specs.Program.{Step, Program}
+use Rattle.text_plan.specs.Stored.{rulesIn}
+use Rattle.text_state.specs.declared.state.Frame.{Frame}
+use Rattle.text_reader.specs.Kept.{stepsIn, programOf, FrameOf, Complete}
+use Rattle.text_reader.specs.declared.Program as R
+use Rattle.text_reader.proofs.Keeping.{frame-at}
+
+-- what a place behind the last frame would hold
+abbrev pub noFrame : Frame
+noFrame = record { rules = 0; remote = false; fields = []; setting = Single; plan = record { keys = []; rounds = []; backs = []; reads = []; count = 0 } }
+
+-- step i has the rules of its 32 places, and its frame's setting
+steps-at : (slots : List Slot) (fs : List Frame) (i : ℕ) (d : Step) (e : Frame) → i < length fs
+    → getD (stepsIn slots fs) i d ≡ record { rules = rulesIn (getD fs i e .rules) (take 32 (drop (32 * i) slots)); setting = getD fs i e .setting }
+unfolding stepsIn
+steps-at slots [] i d e h = absurd (omega arith)
+steps-at slots (f ∷ fs) zero d e h = refl
+steps-at slots (f ∷ fs) (suc i) d e h =
+    let next : 32 + 32 * i ≡ 32 * suc i = omega arith in
+    steps-at (drop 32 slots) fs i d e (omega arith)
+    ∙ ap (λ (l : List Slot). record { rules = rulesIn (getD fs i e .rules) (take 32 l); setting = getD fs i e .setting })
+    (drop-drop (32 * i) 32 slots ∙ ap (λ (k : ℕ). drop k slots) next)
+
+steps-length : (slots : List Slot) (fs : List Frame) → length (stepsIn slots fs) ≡ length fs
+unfolding stepsIn
+steps-length slots [] = refl
+steps-length slots (f ∷ fs) = ap suc (steps-length (drop 32 slots) fs)
+
+-- step i of a program that is kept in its arrays
+pub record StepAt (p : R.Program) (i : ℕ) (f : Frame) (x : Step) : Type 0 where
+  pub frame : FrameOf f (x .rules)
+  pub setting-is : x .setting ≡ f .setting
+  pub rules-are : x .rules ≡ rulesIn (f .rules) (take 32 (drop (32 * i) (p .slots)))
+
+pub step-at : (p : R.Program) (i : ℕ) (d : Step) (e : Frame) → Complete p → i < p .steps → StepAt p i (getD (p .frames) i e) (getD (programOf p) i d)
+unfolding programOf
+step-at p i d e k h =
+    let fs = take (p .steps) (p .frames) in
+    let inside : i < length (programOf p) = omega (arith, k .steps-are) in
+    let there : i < length fs = omega (arith, steps-length (p .slots) fs, inside) in
+    let at = steps-at (p .slots) fs i d e there in
+    let same : getD fs i e ≡ getD (p .frames) i e = getD-take (p .steps) (p .frames) i e h in
+    record {
+      frame = frame-at (p .frames) (programOf p) i d e (k .framed) inside;
+      setting-is = ap (λ (x : Step). x .setting) at ∙ ap (λ (f : Frame). f .setting) same;
+      rules-are = ap (λ (x : Step). x .rules) at ∙ ap (λ (f : Frame). rulesIn (f .rules) (take 32 (drop (32 * i) (p .slots)))) same;
+    }
+
+-- the 32 places of step i
+abbrev pub slotsAt : R.Program → ℕ → List Slot
+slotsAt p i = take 32 (drop (32 * i) (p .slots))
+
+module _ (p : R.Program) (i : ℕ) (k : Complete p) (h : i < 32) where
+  pub slots-length : length (slotsAt p i) ≡ 32
+  slots-length = length-take-le 32 (drop (32 * i) (p .slots)) (omega (arith, length-drop (32 * i) (p .slots), k .slots-length))
+
+  -- place j of them
+  pub slot-at : (j : ℕ) (d : Slot) → j < 32 → getD (slotsAt p i) j d ≡ getD (p .slots) (32 * i + j) d
+  slot-at j d b = getD-take 32 (drop (32 * i) (p .slots)) j d b ∙ getD-drop (32 * i) (p .slots) j d

@@ -1,0 +1,65 @@
+-- How large the counts of a run can grow: each record sends at most one message for each rule, and each step a bounded number.
+use Prim.Native.Nat.{ℕ, zero, suc, _*_, _≤_}
+use mathlib.Core.Path.{_≡_}
+use mathlib.Core.Bool.{Bool, true, false, cond}
+use mathlib.Core.List.{List, [], _∷_}
+use native.Mathlib.Omega.{arith}
+use lib.ListN.{length, length-append}
+use Rattle.register.specs.declared.cells.Cell.{Cell}
+use Rattle.register.specs.declared.cells.Cell.the-variants.{Missing, Value}
+use Rattle.text_rules.specs.Program.{Action, set, sum, difference, least, total, Rule}
+use Rattle.machine.specs.declared.message.Sort.{Sort}
+use Rattle.machine.specs.Value.{both, holds}
+use Rattle.machine.specs.Remote.{sentTo, actionMessages, ruleMessages, messages, recordMessages}
+use Rattle.machine_messages.specs.declared.Machine.{Machine}
+use Rattle.machine_messages.specs.declared.Machine.the-variants.{Direct, Messages}
+use Rattle.gather.specs.Counted.{countsAfter}
+use Rattle.gather.specs.declared.counts.Counts.{Counts}
+
+sent-few : (k : Sort) (f : ℕ) (c x : Cell) → length (sentTo k f c x) ≤ 1
+unfolding sentTo both
+sent-few k f Missing x = omega arith
+sent-few k f (Value v) Missing = omega arith
+sent-few k f (Value v) (Value a) = omega arith
+
+action-few : (read : List ℕ → Cell) (a : Action) → length (actionMessages read a) ≤ 1
+unfolding actionMessages
+action-few read (set f x) = omega arith
+action-few read (sum f x y) = omega arith
+action-few read (difference f x y) = omega arith
+action-few read (least f c x) = sent-few _ f _ _
+action-few read (total f c x) = sent-few _ f _ _
+
+rule-few : (read : List ℕ → Cell) (r : Rule) → length (ruleMessages read r) ≤ 1
+unfolding ruleMessages
+rule-few read r = go (holds read (r .test))
+  where
+    go : (b : Bool) → length (cond b (actionMessages read (r .action)) []) ≤ 1
+    go true = action-few read (r .action)
+    go false = omega arith
+
+messages-few : (read : List ℕ → Cell) (rs : List Rule) → length (messages read rs) ≤ length rs
+unfolding messages
+messages-few read [] = omega arith
+messages-few read (r ∷ rs) = rw (length-append (ruleMessages read r) (messages read rs)) (omega (arith, rule-few read r, messages-few read rs))
+
+records-few : (read : ℕ → List ℕ → Cell) (rs : List Rule) (n : ℕ) → length rs ≤ 32 → length (recordMessages read rs n) ≤ 32 * n
+unfolding recordMessages
+records-few read rs zero h = omega arith
+records-few read rs (suc n) h =
+    rw (length-append (recordMessages read rs n) (messages (read n) rs)) (omega (arith, records-few read rs n h, messages-few (read n) rs))
+
+-- the messages of at most 4,096 records
+pub writes-few : (read : ℕ → List ℕ → Cell) (rs : List Rule) (n m : ℕ) → length rs ≤ 32 → n ≤ 4096 → m ≡ length (recordMessages read rs n) → m ≤ 131072
+writes-few read rs n m h l e = omega (arith, records-few read rs n h)
+
+-- what so many steps can count
+pub record Few (finished : ℕ) (c : Counts) : Type 0 where
+  pub exchanges≤ : c .exchanges ≤ finished * 256
+  pub messages≤ : c .messages ≤ finished * 524288
+
+pub few-more : (m : Machine) {n : ℕ} {c : Counts} (g : Counts) (sends : Bool) {sent : ℕ} → Few n c → g .exchanges ≤ 255 → g .messages ≤ 262144 → sent ≤ 131072
+    → Few (suc n) (countsAfter m c g sends sent)
+few-more Direct g sends f a b s = record { exchanges≤ = omega (arith, f .exchanges≤); messages≤ = omega (arith, f .messages≤) }
+few-more Messages g true f a b s = record { exchanges≤ = omega (arith, f .exchanges≤); messages≤ = omega (arith, f .messages≤) }
+few-more Messages g false f a b s = record { exchanges≤ = omega (arith, f .exchanges≤); messages≤ = omega (arith, f .messages≤) }

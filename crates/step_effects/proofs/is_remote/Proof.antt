@@ -1,0 +1,59 @@
+-- `step_effects::is_remote` meets its contract.
+-- Assumes nothing.
+use mathlib.Core.Path.{sym, ap}
+use Rattle.text_rules.specs.Program.{isRemote}
+use Rattle.text_plan.specs.Stored.{actionOf}
+use Rattle.text_local.specs.declared.rule.Rule.{Rule}
+use borrow.Author.Needs.{needs}
+use Rattle.step_effects.proofs.is_remote.Statement.{statement}
+use Rattle.step_effects.proofs.is_remote.Tie as tie
+
+enum-told : tie.Need-enum-told
+enum-told c = search needs
+
+enum-told-2 : tie.Need-enum-told-2
+enum-told-2 c = search needs
+
+enum-told-3 : tie.Need-enum-told-3
+enum-told-3 c = search needs
+
+enum-told-4 : tie.Need-enum-told-4
+enum-told-4 c = search needs
+
+enum-told-5 : tie.Need-enum-told-5
+enum-told-5 c = search needs
+
+returns : tie.Need-returns
+unfolding isRemote actionOf
+returns c = sym (ap (λ (r : Rule). isRemote (actionOf r)) (c .enum-told .given .1))
+
+returns-2 : tie.Need-returns-2
+unfolding isRemote actionOf
+returns-2 c = sym (ap (λ (r : Rule). isRemote (actionOf r)) (c .enum-told2 .given .1))
+
+returns-3 : tie.Need-returns-3
+unfolding isRemote actionOf
+returns-3 c = sym (ap (λ (r : Rule). isRemote (actionOf r)) (c .enum-told3 .given .1))
+
+returns-4 : tie.Need-returns-4
+unfolding isRemote actionOf
+returns-4 c = sym (ap (λ (r : Rule). isRemote (actionOf r)) (c .enum-told4 .given .1))
+
+returns-5 : tie.Need-returns-5
+unfolding isRemote actionOf
+returns-5 c = sym (ap (λ (r : Rule). isRemote (actionOf r)) (c .enum-told5 .given .1))
+
+pub is-remote-spec : {M : Type 1} → statement M
+is-remote-spec =
+    tie.close
+    (tie.spec
+    enum-told
+    enum-told-2
+    enum-told-3
+    enum-told-4
+    enum-told-5
+    returns
+    returns-2
+    returns-3
+    returns-4
+    returns-5)

@@ -1,0 +1,21 @@
+// What one record makes of one rule: what it stores and what it sends.
+pub mod sent;
+pub mod stored;
+
+ghost use mathlib.Core.Path.{_≡_};
+ghost use Rattle.text_rules.specs.Program.{isRemote};
+ghost use Rattle.text_plan.specs.Stored.{actionOf};
+use text_local::rule::Rule;
+
+// Whether a rule is a remote write.
+fn is_remote(rule: Rule) -> bool
+    ensures { λ r. ⌜ r ≡ isRemote (actionOf rule) ⌝ }
+{
+    match rule {
+        Rule::Set(_, _) => false,
+        Rule::Sum(_, _, _) => false,
+        Rule::Difference(_, _, _) => false,
+        Rule::Least(_, _, _) => true,
+        Rule::Total(_, _, _) => true,
+    }
+}

@@ -1,0 +1,74 @@
+// The remote writes of a step, delivered to the working cells.
+ghost use mathlib.Core.Path.{_≡_};
+ghost use Prim.Native.Nat.{_+_, _*_, _≤_, _<_};
+ghost use lib.ListN.{length, take};
+ghost use Rattle.register.specs.Cells.{cellsOf};
+ghost use Rattle.register.specs.File.{cellCount, cellsOfFile};
+ghost use Rattle.register.specs.Shape.{Limits, Parts};
+ghost use Rattle.text_plan.specs.Stored.{ruleOf, rulesIn};
+ghost use Rattle.step_cells.specs.Work.{Room, Small};
+ghost use Rattle.step_rules.specs.Ready.{Ready, AllReady};
+ghost use Rattle.step_rules.specs.Delivered.{RuleDelivered, Delivered};
+use register::Sizes;
+use register::cells;
+use step_cells;
+use step_effects::sent;
+use step_effects::sent::Sent;
+use text_local::rule::Slot;
+
+// The message of one rule at record u, where it sends one. The number of messages.
+fn apply_rule(
+    cells: &[u8],
+    filled: &[u8],
+    values: &mut [i64],
+    marks: &mut [u8],
+    sizes: Sizes,
+    base: usize,
+    u: usize,
+    slot: Slot,
+) -> usize
+    requires { ⌜ Parts sizes (now cells) (now filled) × (u < sizes .records) × Room base (length (now filled)) (now values) (now marks) × Ready sizes (cellsOf (now cells) (now filled)) (take base (now values)) (take base (now marks)) slot × Small 4611686018427387904 base (length (now filled)) (now values) (now marks) ⌝ }
+    ensures { λ r. ⌜ RuleDelivered sizes (cellsOf (now (cells .entry)) (now (filled .entry))) base u (ruleOf slot) (now (values .entry)) (now (marks .entry)) (now (values .exit)) (now (marks .exit)) r ⌝ }
+{
+    match sent::message_of(
+        cells,
+        filled,
+        &values[..base],
+        &marks[..base],
+        sizes,
+        u,
+        slot,
+    ) {
+        Sent::Nothing => 0,
+        Sent::One(message) => {
+            let place = step_cells::place(sizes, base, message.target, message.field);
+            let sort = message.sort;
+            step_cells::deliver(values, marks, place, sort, message.amount);
+            1
+        }
+    }
+}
+
+// The messages of all rules at all records of the register in `out`. Their number.
+pub fn apply(
+    out: &[u8],
+    values: &mut [i64],
+    marks: &mut [u8],
+    sizes: Sizes,
+    base: usize,
+    slots: [Slot; 32],
+    rules: usize,
+) -> usize
+    requires { ⌜ Limits sizes × (length (now out) ≡ 12 + 5 * cellCount sizes) × Room base (cellCount sizes) (now values) (now marks) × (rules ≤ 32) × (length slots ≡ 32) × AllReady sizes (cellsOfFile sizes (now out)) (take base (now values)) (take base (now marks)) (take rules slots) × Small 2147483648 base (cellCount sizes) (now values) (now marks) ⌝ }
+    ensures { λ r. ⌜ Delivered sizes (cellsOfFile sizes (now (out .entry))) base (rulesIn rules slots) (now (values .entry)) (now (marks .entry)) (now (values .exit)) (now (marks .exit)) r ⌝ }
+{
+    let cells = cells::values_part(out, sizes);
+    let filled = cells::marks_part(out, sizes);
+    let mut sent = 0;
+    for u in 0..sizes.records {
+        for k in 0..rules {
+            sent += apply_rule(cells, filled, values, marks, sizes, base, u, slots[k]);
+        }
+    }
+    sent
+}

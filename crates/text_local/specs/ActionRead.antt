@@ -1,0 +1,130 @@
+-- What the readers of a rule and its parts answer, and a rule's test as a program holds it.
+use Prim.Native.Nat.{ℕ}
+use mathlib.Core.Path.{_≡_}
+use mathlib.Core.Bool.{Bool, true, false, not, _&&_}
+use mathlib.Core.List.{List}
+use mathlib.Core.Option.{Option, none, some}
+use lib.ListN.{take}
+use Rattle.register.specs.declared.Sizes.{Sizes}
+use Rattle.chain.specs.Word.{pack}
+use Rattle.chain_text.specs.Text.{names, fieldOf, wordOf, isReferenceLetter}
+use Rattle.text_forms.specs.Written as W
+use Rattle.text_forms.specs.Token.{Token, token, other, then, word, or, finished}
+use Rattle.text_forms.specs.Term.{termForm}
+use Rattle.text_forms.specs.Line.{made}
+use Rattle.text_forms.specs.Bytes.{bytes}
+use Rattle.text_forms.specs.Parts.{everyTerm, termNamed, termKinded, termShort, termInRange, actionTerms, target, actionKinds}
+use Rattle.text_terms.specs.Read.{termOf, partsOf}
+use Rattle.text_terms.specs.declared.term.Checks.{Checks}
+use Rattle.text_terms.specs.declared.term.TermParts.{TermParts}
+use Rattle.text_local.specs.declared.rule.Rule.{Rule}
+use Rattle.text_local.specs.declared.rule.Rule.the-variants.{Set, Sum, Difference, Least, Total}
+use Rattle.text_local.specs.declared.rule.Comparison.{Comparison}
+use Rattle.text_local.specs.declared.rule.Comparison.the-variants.{Less, Equal, Unequal}
+use Rattle.text_local.specs.declared.rule.Test.{Test}
+use Rattle.text_local.specs.declared.rule.Test.the-variants.{Always, When}
+use Rattle.text_local.specs.declared.action.Letter.{Letter}
+use Rattle.text_local.specs.declared.action.Letter.the-variants.{Capital, NoForm as NoLetter}
+use Rattle.text_local.specs.declared.action.LastRead.{LastRead}
+use Rattle.text_local.specs.declared.action.LastRead.the-variants.{Term, NoForm as NoTerm}
+use Rattle.text_local.specs.declared.action.ActionRead.{ActionRead}
+use Rattle.text_local.specs.declared.action.ActionRead.the-variants.{Action, NoForm}
+
+-- what 9 to 12 ask of two parts
+unfoldable pub bothChecks : Checks → Checks → Checks
+bothChecks a b = record {
+  named = a .named && b .named;
+  kinded = a .kinded && b .kinded;
+  short = a .short && b .short;
+  ranged = a .ranged && b .ranged;
+}
+
+-- what 9 to 12 ask of some terms
+unfoldable pub termsChecks : Sizes → List W.Term → Checks
+termsChecks s xs = record {
+  named = everyTerm (termNamed s) xs;
+  kinded = everyTerm termKinded xs;
+  short = everyTerm termShort xs;
+  ranged = everyTerm termInRange xs;
+}
+
+-- with a rule's own: that its field is named, and that its kinds agree
+unfoldable pub ruleChecks : Bool → Bool → Checks → Checks
+ruleChecks field kinds c = record { named = field && c .named; kinded = c .kinded && kinds; short = c .short; ranged = c .ranged }
+
+-- what 9 to 12 ask of a rule without its test
+unfoldable pub actionChecks : Sizes → W.Action → Checks
+actionChecks s a = ruleChecks (names s (target a)) (actionKinds a) (termsChecks s (actionTerms a))
+
+-- whether a field and a term, by its kind, are measures
+unfoldable pub measured : ℕ → Bool → Bool
+measured f reference = not (isReferenceLetter f) && not reference
+
+-- a chain of at most 16 hops as a program holds it; of a longer one the first 16
+abbrev pub packed : List ℕ → ℕ
+packed ls = pack (wordOf (take 16 ls))
+
+-- a rule as a program holds it
+unfoldable pub ruleOfAction : W.Action → Rule
+ruleOfAction (W.set f x) = Set (fieldOf f) (termOf x)
+ruleOfAction (W.sum f x y) = Sum (fieldOf f) (termOf x) (termOf y)
+ruleOfAction (W.difference f x y) = Difference (fieldOf f) (termOf x) (termOf y)
+ruleOfAction (W.least f c x) = Least (fieldOf f) (packed c) (termOf x)
+ruleOfAction (W.total f c x) = Total (fieldOf f) (packed c) (termOf x)
+
+-- the answer for a rule's form
+unfoldable pub actionRead : Sizes → Option W.Action → ActionRead
+actionRead s none = NoForm
+actionRead s (some a) = Action (ruleOfAction a) (actionChecks s a)
+
+-- the answer for a field letter
+unfoldable pub letterRead : Token ℕ → Letter
+letterRead other = NoLetter
+letterRead (token l r) = Capital l
+
+-- a word, and behind it the term that ends the line
+unfoldable pub lastTerm : List ℕ → List ℕ → Option W.Term
+lastTerm w t = word w t (λ r. then (termForm r) finished)
+
+-- the answer for a term that ends the line
+unfoldable pub lastRead : Sizes → Option W.Term → LastRead
+lastRead s none = NoTerm
+lastRead s (some x) = Term (partsOf s x)
+
+-- `F[u] := X + Y`, or with a minus `F[u] := X - Y`
+abbrev pub combined : Bool → ℕ → W.Term → W.Term → W.Action
+combined true f x y = W.difference f x y
+combined false f x y = W.sum f x y
+
+-- ` - Y` behind `F[u] := X`
+abbrev pub minusForm : ℕ → W.Term → List ℕ → Option W.Action
+minusForm f x t = made (combined true f x) (bytes " - ") t
+
+-- ` + Y` or ` - Y` behind `F[u] := X`
+abbrev pub sumForm : ℕ → W.Term → List ℕ → Option W.Action
+sumForm f x t = or (made (combined false f x) (bytes " + ") t) (minusForm f x t)
+
+-- an answer that is right for every term with these parts
+abbrev pub ForTerm : Sizes → TermParts → (W.Term → ActionRead) → ActionRead → Type 0
+ForTerm s p answer r = (w : W.Term) → p ≡ partsOf s w → r ≡ answer w
+
+-- an answer that is right for every two terms with these parts
+abbrev pub ForTerms : Sizes → TermParts → TermParts → (W.Term → W.Term → ActionRead) → ActionRead → Type 0
+ForTerms s p q answer r = (v w : W.Term) → p ≡ partsOf s v → q ≡ partsOf s w → r ≡ answer v w
+
+-- a comparison of the code as it is written
+unfoldable pub written : Comparison → W.Comparison
+written Less = W.less
+written Equal = W.equal
+written Unequal = W.unequal
+
+-- a written comparison as the code has it
+unfoldable pub comparisonOf : W.Comparison → Comparison
+comparisonOf W.less = Less
+comparisonOf W.equal = Equal
+comparisonOf W.unequal = Unequal
+
+-- a test as a program holds it
+unfoldable pub testOf : W.Condition → Test
+testOf W.always = Always
+testOf (W.when x c y) = When (termOf x) (comparisonOf c) (termOf y)

@@ -1,0 +1,183 @@
+// A rule without its test, read token after token.
+ghost use mathlib.Core.Path.{_≡_};
+ghost use mathlib.Core.Bool.{true};
+ghost use mathlib.Core.Option.{some};
+ghost use Prim.Native.Nat.{_≤_};
+ghost use lib.ListN.{length, drop};
+ghost use Rattle.register.specs.Shape.{Limits};
+ghost use Rattle.chain_text.specs.Text.{isCapital, names};
+ghost use Rattle.text_forms.specs.Token.{capital};
+ghost use Rattle.text_forms.specs.Parts.{same as sameKind};
+ghost use Rattle.text_forms.specs.Line.{assigned, localForm};
+ghost use Rattle.text_local.specs.declared.action.ActionRead.the-variants.{Action};
+ghost use Rattle.text_local.specs.ActionRead.{bothChecks, ruleChecks, lastTerm, lastRead, letterRead, measured, actionRead, combined as combinedAction, ForTerm, ForTerms, minusForm, sumForm};
+use crate::rule::Rule;
+use chain_text::letters;
+use register::Sizes;
+use text_terms::term;
+use text_terms::term::Checks;
+use text_terms::term::TermParts;
+use text_terms::term::TermRead;
+use text_tokens::token;
+use text_tokens::token::Place;
+
+// A rule and what 9 to 12 ask of it; or none stands there.
+pub enum ActionRead {
+    Action(Rule, Checks),
+    NoForm,
+}
+
+// A term that ends the line; or there is none.
+pub enum LastRead {
+    Term(TermParts),
+    NoForm,
+}
+
+// A field letter; or there is none.
+pub enum Letter {
+    Capital(u8),
+    NoForm,
+}
+
+pub fn same(a: bool, b: bool) -> bool
+    ensures { λ r. ⌜ r ≡ sameKind a b ⌝ }
+{
+    if a { b } else { !b }
+}
+
+pub fn both(a: Checks, b: Checks) -> Checks
+    ensures { λ r. ⌜ r ≡ bothChecks a b ⌝ }
+{
+    Checks {
+        named: a.named & b.named,
+        kinded: a.kinded & b.kinded,
+        short: a.short & b.short,
+        ranged: a.ranged & b.ranged,
+    }
+}
+
+// Whether a field and a term are measures.
+pub fn measures(letter: u8, reference: bool) -> bool
+    ensures { λ r. ⌜ r ≡ measured letter reference ⌝ }
+{
+    !(letter < 77) & !reference
+}
+
+// A rule that writes the letter's field, with what is asked of its terms and whether the kinds agree.
+pub fn action(rule: Rule, letter: u8, kinds: bool, checks: Checks, sizes: Sizes) -> ActionRead
+    requires { ⌜ Limits sizes ⌝ }
+    ensures { λ r. ⌜ r ≡ Action rule (ruleChecks (names sizes letter) kinds checks) ⌝ }
+{
+    let checks = Checks {
+        named: letters::names_field(sizes, letter) & checks.named,
+        kinded: checks.kinded & kinds,
+        short: checks.short,
+        ranged: checks.ranged,
+    };
+    ActionRead::Action(rule, checks)
+}
+
+// The field letter at `at`.
+pub fn letter_at(line: &[u8], at: usize) -> Letter
+    ensures { λ r. ⌜ r ≡ letterRead (capital (drop at (now (line .entry)))) ⌝ }
+{
+    if line.len() <= at {
+        return Letter::NoForm;
+    }
+    if !letters::is_capital(line[at]) {
+        return Letter::NoForm;
+    }
+    Letter::Capital(line[at])
+}
+
+// A word, and behind it the term that ends the line.
+pub fn read_last(line: &[u8], at: usize, word: &[u8], sizes: Sizes) -> LastRead
+    requires { ⌜ Limits sizes × (at ≤ length (now line)) ⌝ }
+    ensures { λ r. ⌜ r ≡ lastRead sizes (lastTerm (now (word .entry)) (drop at (now (line .entry)))) ⌝ }
+{
+    let Place::At(start) = token::literal(line, at, word) else {
+        return LastRead::NoForm;
+    };
+    let TermRead::Parts(x, end) = term::read_term(line, start, sizes) else {
+        return LastRead::NoForm;
+    };
+    if end < line.len() {
+        return LastRead::NoForm;
+    }
+    LastRead::Term(x)
+}
+
+// `F[u] := X + Y`, or with a minus `F[u] := X - Y`, by the parts of X and Y.
+fn combined(minus: bool, letter: u8, x: TermParts, y: TermParts, sizes: Sizes) -> ActionRead
+    requires { ⌜ Limits sizes × (isCapital letter ≡ true) ⌝ }
+    ensures { λ r. ⌜ ForTerms sizes x y (λ v w. actionRead sizes (some (combinedAction minus letter v w))) r ⌝ }
+{
+    let field = letters::field_of(letter);
+    let first = x.term;
+    let second = y.term;
+    let rule = if minus {
+        Rule::Difference(field, first, second)
+    } else {
+        Rule::Sum(field, first, second)
+    };
+    let kinds = measures(letter, x.reference) & measures(letter, y.reference);
+    action(rule, letter, kinds, both(x.checks, y.checks), sizes)
+}
+
+// ` - Y` behind `F[u] := X`.
+fn read_difference(line: &[u8], at: usize, letter: u8, x: TermParts, sizes: Sizes) -> ActionRead
+    requires { ⌜ Limits sizes × (at ≤ length (now line)) × (isCapital letter ≡ true) ⌝ }
+    ensures { λ r. ⌜ ForTerm sizes x (λ w. actionRead sizes (minusForm letter w (drop at (now (line .entry))))) r ⌝ }
+{
+    let LastRead::Term(y) = read_last(line, at, b" - ", sizes) else {
+        return ActionRead::NoForm;
+    };
+    combined(true, letter, x, y, sizes)
+}
+
+// ` + Y` or ` - Y` behind `F[u] := X`.
+fn read_sum(line: &[u8], at: usize, letter: u8, x: TermParts, sizes: Sizes) -> ActionRead
+    requires { ⌜ Limits sizes × (at ≤ length (now line)) × (isCapital letter ≡ true) ⌝ }
+    ensures { λ r. ⌜ ForTerm sizes x (λ w. actionRead sizes (sumForm letter w (drop at (now (line .entry))))) r ⌝ }
+{
+    let LastRead::Term(y) = read_last(line, at, b" + ", sizes) else {
+        return read_difference(line, at, letter, x, sizes);
+    };
+    combined(false, letter, x, y, sizes)
+}
+
+// What stands behind `F[u] := X`.
+fn read_assigned(line: &[u8], at: usize, letter: u8, x: TermParts, sizes: Sizes) -> ActionRead
+    requires { ⌜ Limits sizes × (at ≤ length (now line)) × (isCapital letter ≡ true) ⌝ }
+    ensures { λ r. ⌜ ForTerm sizes x (λ w. actionRead sizes (assigned letter w (drop at (now (line .entry))))) r ⌝ }
+{
+    if at < line.len() {
+        return read_sum(line, at, letter, x, sizes);
+    }
+    let kinds = same(letter < 77, x.reference);
+    let term = x.term;
+    action(
+        Rule::Set(letters::field_of(letter), term),
+        letter,
+        kinds,
+        x.checks,
+        sizes,
+    )
+}
+
+// `F[u] := X`, `F[u] := X + Y` or `F[u] := X - Y`.
+pub fn read_local(line: &[u8], at: usize, sizes: Sizes) -> ActionRead
+    requires { ⌜ Limits sizes × (at ≤ length (now line)) ⌝ }
+    ensures { λ r. ⌜ r ≡ actionRead sizes (localForm (drop at (now (line .entry)))) ⌝ }
+{
+    let Letter::Capital(letter) = letter_at(line, at) else {
+        return ActionRead::NoForm;
+    };
+    let Place::At(start) = token::literal(line, at + 1, b"[u] := ") else {
+        return ActionRead::NoForm;
+    };
+    let TermRead::Parts(x, end) = term::read_term(line, start, sizes) else {
+        return ActionRead::NoForm;
+    };
+    read_assigned(line, end, letter, x, sizes)
+}

@@ -1,0 +1,89 @@
+-- The reader's arrays, and what a store does to the steps that they hold.
+use Prim.Native.Nat.{ℕ, zero, suc, _+_, _-_, _*_, _≤_, _<_}
+use mathlib.Core.Path.{_≡_, refl, ap, ap₂, subst⁻¹, _∙_}
+use mathlib.Core.List.{List, [], _∷_, _++_, map-append}
+use native.Mathlib.Omega.{arith}
+use native.Mathlib.Numerals.{add-one}
+use lib.ListN.{length, getD, take, drop, set, length-take, length-drop}
+use lib.Seq.{take-set-le, drop-set-add, take-set-lt, take-suc-set, drop-drop}
+use Rattle.text_local.specs.declared.rule.Slot.{Slot}
+use Rattle.text_rules.specs.Program.{Step}
+use Rattle.text_rules.specs.Text.{closeLoop}
+use Rattle.text_plan.specs.Stored.{ruleOf, rulesIn}
+use Rattle.text_reader.specs.Kept.{stepsIn, FrameOf, Framed}
+use Rattle.text_state.specs.State.{lastFrame}
+use Rattle.text_state.specs.declared.state.Frame.{Frame}
+
+-- a rule stored behind the steps leaves them as they are
+pub store-steps : (slots : List Slot) (fs : List Frame) (k : ℕ) (x : Slot) → stepsIn (set slots (32 * length fs + k) x) fs ≡ stepsIn slots fs
+unfolding stepsIn
+store-steps slots [] k x = refl
+store-steps slots (f ∷ fs) k x =
+    let at : 32 * length (f ∷ fs) + k ≡ 32 + (32 * length fs + k) = omega arith in
+    ap₂ (λ (p : List Slot) (xs : List Step). record { rules = rulesIn (f .rules) p; setting = f .setting } ∷ xs)
+    (take-set-le 32 slots (32 * length (f ∷ fs) + k) x (omega arith))
+    (ap (λ (n : ℕ). stepsIn (drop 32 (set slots n x)) fs) at ∙ ap (λ (l : List Slot). stepsIn l fs) (drop-set-add 32 slots (32 * length fs + k) x) ∙ store-steps (drop 32 slots) fs k x)
+
+-- and stands behind the rules of the open step
+pub store-rule : (slots : List Slot) (s k : ℕ) (x : Slot) → k < 32 → 32 * s + 32 ≤ length slots
+    → rulesIn (k + 1) (take 32 (drop (32 * s) (set slots (32 * s + k) x))) ≡ rulesIn k (take 32 (drop (32 * s) slots)) ++ (ruleOf x ∷ [])
+unfolding rulesIn
+store-rule slots s k x h b =
+    let places = take 32 (drop (32 * s) slots) in
+    let stored : take 32 (drop (32 * s) (set slots (32 * s + k) x)) ≡ set places k x = ap (take 32) (drop-set-add (32 * s) slots k x) ∙ take-set-lt 32 (drop (32 * s) slots) k x h in
+    let room : k < length places = simp (length-take, length-drop) (omega arith) in
+    rw (stored, add-one k, take-suc-set places k x room, map-append)
+
+-- one more frame
+pub more-frames : (slots : List Slot) (fs : List Frame) (f : Frame)
+    → stepsIn slots (fs ++ (f ∷ [])) ≡ stepsIn slots fs ++ (record { rules = rulesIn (f .rules) (take 32 (drop (32 * length fs) slots)); setting = f .setting } ∷ [])
+unfolding stepsIn
+more-frames slots [] f = refl
+more-frames slots (g ∷ fs) f =
+    ap (λ (xs : List Step). record { rules = rulesIn (g .rules) (take 32 slots); setting = g .setting } ∷ xs)
+    (let at : 32 + 32 * length fs ≡ 32 * length (g ∷ fs) = omega arith in
+    more-frames (drop 32 slots) fs f
+    ∙ ap (λ (l : List Slot). stepsIn (drop 32 slots) fs ++ (record { rules = rulesIn (f .rules) (take 32 l); setting = f .setting } ∷ [])) (drop-drop (32 * length fs) 32 slots ∙ ap (λ (n : ℕ). drop n slots) at))
+
+-- the frame of step i
+pub frame-at : (fs : List Frame) (xs : List Step) (i : ℕ) (d : Step) (e : Frame) → Framed fs xs → i < length xs → FrameOf (getD fs i e) (getD xs i d .rules)
+frame-at fs [] i d e h b = absurd (omega arith)
+frame-at [] (x ∷ xs) i d e h b = absurd h
+frame-at (f ∷ fs) (x ∷ xs) zero d e h b = h .0
+frame-at (f ∷ fs) (x ∷ xs) (suc i) d e h b = frame-at fs xs i d e (h .1) (omega arith)
+
+pub framed-more : (fs : List Frame) (xs : List Step) (f : Frame) (x : Step) → Framed fs xs → length xs < length fs → FrameOf f (x .rules)
+    → Framed (set fs (length xs) f) (xs ++ (x ∷ []))
+framed-more [] xs f x h b k = absurd (omega arith)
+framed-more (g ∷ fs) [] f x h b k = (k, tt)
+framed-more (g ∷ fs) (y ∷ xs) f x h b k = (h .0, framed-more fs xs f x (h .1) (omega arith) k)
+
+-- the last frame is the last of its loop
+close-frame : (slots : List Slot) (fs : List Frame) (n : ℕ) (d : Frame) → n < length fs
+    → stepsIn slots (take (suc n) (set fs n (lastFrame (getD fs n d)))) ≡ closeLoop (stepsIn slots (take (suc n) fs))
+unfolding stepsIn closeLoop lastFrame
+close-frame slots [] n d h = absurd (omega arith)
+close-frame slots (f ∷ fs) zero d h = refl
+close-frame slots (f ∷ []) (suc n) d h = absurd (omega arith)
+close-frame slots (f ∷ g ∷ fs) (suc n) d h = ap (λ (xs : List Step). record { rules = rulesIn (f .rules) (take 32 slots); setting = f .setting } ∷ xs) (close-frame (drop 32 slots) (g ∷ fs) n d (omega arith))
+
+framed-last : (fs : List Frame) (xs : List Step) (n : ℕ) (d : Frame) → Framed fs xs → length xs ≡ suc n → Framed (set fs n (lastFrame (getD fs n d))) (closeLoop xs)
+unfolding closeLoop lastFrame
+framed-last fs [] n d h e = absurd (omega arith)
+framed-last [] (x ∷ xs) n d h e = absurd h
+framed-last (f ∷ fs) (x ∷ []) zero d h e =
+    let k = h .0 in
+    (record { few = k .few; remote-is = k .remote-is; fields-are = k .fields-are; holds = k .holds }, tt)
+framed-last (f ∷ fs) (x ∷ []) (suc n) d h e = absurd (omega arith)
+framed-last (f ∷ fs) (x ∷ y ∷ xs) zero d h e = absurd (omega arith)
+framed-last (f ∷ fs) (x ∷ y ∷ xs) (suc n) d h e = (h .0, framed-last fs (y ∷ xs) n d (h .1) (omega arith))
+
+-- the same, with the place counted back from the number of steps
+module _ (slots : List Slot) (fs : List Frame) (n : ℕ) (d : Frame) (p : 1 ≤ n) where
+  pub close-frames : n ≤ length fs → stepsIn slots (take n (set fs (n - 1) (lastFrame (getD fs (n - 1) d)))) ≡ closeLoop (stepsIn slots (take n fs))
+  close-frames h =
+      let at : n ≡ suc (n - 1) = omega arith in
+      subst⁻¹ (λ (m : ℕ). stepsIn slots (take m (set fs (n - 1) (lastFrame (getD fs (n - 1) d)))) ≡ closeLoop (stepsIn slots (take m fs))) at (close-frame slots fs (n - 1) d (omega arith))
+
+  pub framed-close : (xs : List Step) → Framed fs xs → n ≡ length xs → Framed (set fs (n - 1) (lastFrame (getD fs (n - 1) d))) (closeLoop xs)
+  framed-close xs h e = framed-last fs xs (n - 1) d h (omega arith)

@@ -1,0 +1,53 @@
+-- What the reader's arrays hold of a program, and its answer.
+use Prim.Native.Nat.{ℕ, _≤_}
+use mathlib.Core.Path.{_≡_}
+use mathlib.Core.Bool.{false}
+use mathlib.Core.List.{List, [], _∷_}
+use lib.ListN.{length, getD, take, drop}
+use Rattle.register.specs.Outcome.{Outcome, done, unless}
+use Rattle.plan_lines.specs.Held.{Holds}
+use Rattle.text_rules.specs.Program.{Rule, Step, Program, stepPlan, writes, hasRemote, mostLines}
+use Rattle.text_rules.specs.Check.{someAction}
+use Rattle.text_local.specs.declared.rule.Slot.{Slot}
+use Rattle.text_plan.specs.Stored.{rulesIn}
+use Rattle.text_state.specs.declared.state.Frame.{Frame}
+use Rattle.text_reader.specs.declared.Program as R
+use Rattle.text_reader.specs.declared.Checked.{Checked}
+
+-- the steps of these frames, each with 32 places: rule k of step s stands at 32 × s + k
+unfoldable pub stepsIn : List Slot → List Frame → Program
+stepsIn slots [] = []
+stepsIn slots (f ∷ fs) = record { rules = rulesIn (f .rules) (take 32 slots); setting = f .setting } ∷ stepsIn (drop 32 slots) fs
+
+-- the program that an array holds
+unfoldable pub programOf : R.Program → Program
+programOf p = stepsIn (p .slots) (take (p .steps) (p .frames))
+
+-- what the frame of a step keeps of its rules: at most 32, whether one is remote, which fields they write, and their plan
+pub record FrameOf (f : Frame) (rs : List Rule) : Type 0 where
+  pub few : f .rules ≤ 32
+  pub remote-is : f .remote ≡ hasRemote rs
+  pub fields-are : (i : ℕ) → getD (f .fields) i false ≡ someAction (writes i) rs
+  pub holds : Holds (f .plan) (stepPlan rs)
+
+-- each step has its frame
+abbrev pub Framed : List Frame → List Step → Type 0
+Framed fs [] = Unit {0}
+Framed [] (x ∷ xs) = ⊥
+Framed (f ∷ fs) (x ∷ xs) = FrameOf f (x .rules) × Framed fs xs
+
+-- 32 places for each of 32 steps; its frames, its number of steps and its most lines are those of the program that its array holds
+pub record Complete (p : R.Program) : Type 0 where
+  pub slots-length : length (p .slots) ≡ 1024
+  pub framed : Framed (p .frames) (programOf p)
+  pub steps-are : p .steps ≡ length (programOf p)
+  pub lines-are : p .lines ≡ mostLines (programOf p)
+
+-- the outcome of a check
+unfoldable pub outcomeOf : Checked → Outcome Program
+outcomeOf r = unless (r .refusal) (r .line) (done (programOf (r .program)))
+
+-- an answer of this outcome, with all that is kept beside a program that passed
+pub record Answers (o : Outcome Program) (r : Checked) : Type 0 where
+  pub outcome-is : outcomeOf r ≡ o
+  pub complete : r .refusal ≡ 0 → Complete (r .program)

@@ -1,0 +1,204 @@
+-- What the readers of remote rules answer.
+use Prim.Native.Nat.{ℕ, _+_, _*_, _≤_}
+use mathlib.Core.Path.{_≡_, refl, sym, ap, ap₂, _∙_}
+use mathlib.Core.Bool.{Bool, true, false}
+use mathlib.Core.List.{List, [], _∷_, _++_}
+use mathlib.Core.Option.{none, some}
+use native.Mathlib.Omega.{arith}
+use lib.ListN.{length, getD, drop, length-drop}
+use lib.Seq.{drop-drop}
+use Rattle.integers.proofs.Bools.{and-both}
+use Rattle.register.specs.declared.Sizes.{Sizes}
+use Rattle.chain_text.specs.Text.{isCapital, fieldOf, isReferenceLetter, Form, formed, unformed, form, closed, every}
+use Rattle.chain_text.specs.Scan.{startsWith, opens, summary, chainEnd, scanned}
+use Rattle.chain_text.specs.declared.letters.Letters.{Letters}
+use Rattle.chain_text.specs.declared.text.Scanned.the-variants.{Chain, NoForm as NoChain}
+use Rattle.chain_text.proofs.Forms.{spelled, form-u, form-opens, form-none, form-rest, form-length, closed-yes, closed-no}
+use Rattle.chain_text.proofs.Scanning.{first-at}
+use Rattle.text_forms.specs.Bytes.{bytes}
+use Rattle.text_forms.specs.Written as W
+use Rattle.text_forms.specs.Token.{capital, then, or, begins}
+use Rattle.text_forms.specs.Line.{sent, remoteForm, localForm, actionForm}
+use Rattle.text_forms.specs.Parts.{same, target, actionKinds, areMeasures, actionTerms}
+use Rattle.text_terms.specs.Read.{partsOf, chainParts}
+use Rattle.text_local.specs.ActionRead.{lastTerm, lastRead, actionChecks, measured, ruleOfAction, actionRead}
+use Rattle.text_remote.specs.RemoteRead.{totalForm, targetOf, targetFrom, targetRead, remoteChecks}
+use Rattle.text_local.specs.declared.action.LastRead.the-variants.{Term, NoForm as NoTerm}
+use Rattle.text_local.specs.declared.action.ActionRead.the-variants.{Action, NoForm}
+use Rattle.text_remote.specs.declared.remote.Target.{Target}
+use Rattle.text_remote.specs.declared.remote.TargetRead.the-variants.{At, NoForm as NoTarget}
+use Rattle.text_local.specs.declared.rule.Rule.the-variants.{Least, Total}
+use Rattle.text_terms.specs.declared.term.TermParts.{TermParts}
+use Rattle.text_tokens.proofs.Words.{Taken, begins-text}
+use Rattle.text_terms.proofs.Answers.{chain-parts, reference-first}
+use Rattle.text_local.proofs.Actions.{Last, made-none, made-some, checks-two, word-refused, or-word}
+
+-- the answers for remote rules, by the parts of their target and term
+module _ (s : Sizes) (g : Target) (f : ℕ) (c : List ℕ) (e : g ≡ targetOf s f c) (p : TermParts) (x : W.Term) (h : p ≡ partsOf s x) where
+  pub least-read : Action (Least (fieldOf (g .letter)) (g .chain) (p .term)) (remoteChecks s g p (same (isReferenceLetter (g .letter)) (p .reference)))
+      ≡ actionRead s (some (W.least f c x))
+  unfolding actionRead ruleOfAction actionChecks remoteChecks target actionKinds actionTerms partsOf targetOf
+  least-read = rw (e, h, checks-two s (W.chain c) x)
+
+  pub total-read : Action (Total (fieldOf (g .letter)) (g .chain) (p .term)) (remoteChecks s g p (measured (g .letter) (p .reference)))
+      ≡ actionRead s (some (W.total f c x))
+  unfolding actionRead ruleOfAction actionChecks remoteChecks target actionKinds areMeasures measured actionTerms partsOf targetOf
+  total-read = rw (e, h, checks-two s (W.chain c) x)
+
+-- the answers behind `remote F[C]`, by what the reader of the last term finds
+module _ (s : Sizes) (f : ℕ) (c t : List ℕ) where
+  pub total-none : lastRead s (lastTerm (bytes " += ") t) ≡ NoTerm → actionRead s (totalForm f c t) ≡ NoForm
+  unfolding actionRead
+  total-none e = ap (actionRead s) (made-none s (bytes " += ") t (W.total f c) e)
+
+  pub total-some : {p : TermParts} (l : Last s (bytes " += ") t p) → totalForm f c t ≡ some (W.total f c (l .written))
+  total-some l = made-some s (bytes " += ") t (W.total f c) l
+
+  pub sent-none : lastRead s (lastTerm (bytes " <?= ") t) ≡ NoTerm → sent f c t ≡ totalForm f c t
+  unfolding sent or
+  sent-none e = rw (made-none s (bytes " <?= ") t (W.least f c) e)
+
+  pub sent-some : {p : TermParts} (l : Last s (bytes " <?= ") t p) → sent f c t ≡ some (W.least f c (l .written))
+  unfolding sent or
+  sent-some l = rw (made-some s (bytes " <?= ") t (W.least f c) l)
+
+-- a chain's text goes up to the place behind it
+form-stands : (t : List ℕ) (at end : ℕ) (ls r : List ℕ) → form (drop at t) ≡ formed ls r → end ≡ at + (3 * length ls + 1) → form (drop at t) ≡ formed ls (drop end t)
+form-stands t at end ls r h k =
+    h ∙ ap (formed ls) (form-rest (drop at t) ls r h ∙ drop-drop (3 * length ls + 1) at t ∙ ap (λ (n : ℕ). drop n t) (sym k))
+
+-- a chain and its closing bracket
+no-chain : {A : Type 0} {x : Letters} {e : ℕ} → NoChain ≡ Chain x e → A
+no-chain q = absurd (let z : _≡_ {A = ℕ} 0 1 = cc in omega arith)
+
+same-letters : {x y : Letters} {e k : ℕ} → Chain x e ≡ Chain y k → x ≡ y
+same-letters q = cc
+
+same-end : {x y : Letters} {e k : ℕ} → Chain x e ≡ Chain y k → e ≡ k
+same-end q = cc
+
+target-from : (s : Sizes) (l : ℕ) (x : Letters) (t ls r : List ℕ) → form t ≡ formed ls r → x ≡ summary s ls → targetFrom l x (getD t 0 0) ≡ targetOf s l ls
+unfolding targetFrom targetOf summary partsOf
+target-from s l x t ls r h k =
+    let p : chainParts x (getD t 0 0) ≡ partsOf s (W.chain ls) = ap (λ (y : Letters). chainParts y (getD t 0 0)) k ∙ chain-parts s ls (getD t 0 0) (reference-first t ls r h) in
+    ap₂ (λ (q : TermParts) (n : ℕ). record { letter = l; chain = n; reference = q .reference; checks = q .checks }) p (ap (λ (y : Letters). y .packed) k)
+
+module _ (s : Sizes) (t : List ℕ) (at l : ℕ) where
+  pub closed-no-chain : scanned s at (form (drop at t)) ≡ NoChain → targetRead s at (closed l (form (drop at t))) ≡ NoTarget
+  unfolding scanned targetRead closed
+  closed-no-chain e = go (form (drop at t)) e
+    where
+      go : (f : Form) → scanned s at f ≡ NoChain → targetRead s at (closed l f) ≡ NoTarget
+      go unformed e = refl
+      go (formed ls r) e = no-chain (sym e)
+
+  module _ (x : Letters) (end : ℕ) (e : scanned s at (form (drop at t)) ≡ Chain x end) where
+    -- the chain's letters, and what stands behind it
+    record Chained : Type 0 where
+      pub ls : List ℕ
+      pub stands : form (drop at t) ≡ formed ls (drop end t)
+      pub letters-are : x ≡ summary s ls
+      pub end-is : end ≡ chainEnd at ls
+
+    chained : Chained
+    unfolding scanned chainEnd
+    chained = go (form (drop at t)) refl e
+      where
+        go : (f : Form) → form (drop at t) ≡ f → scanned s at f ≡ Chain x end → Chained
+        go unformed h e = no-chain e
+        go (formed ls r) h e =
+            let k : end ≡ at + (3 * length ls + 1) = sym (same-end e) in
+            record { ls = ls; stands = form-stands t at end ls r h k; letters-are = sym (same-letters e); end-is = k }
+
+    pub closed-open : startsWith 93 (drop end t) ≡ false → targetRead s at (closed l (form (drop at t))) ≡ NoTarget
+    unfolding targetRead
+    closed-open h = ap (λ (f : Form). targetRead s at (closed l f)) (chained .stands) ∙ ap (targetRead s at) (closed-no l (chained .ls) (drop end t) h)
+
+    pub closed-chain : startsWith 93 (drop end t) ≡ true → At (targetFrom l x (getD (drop at t) 0 0)) (end + 1) ≡ targetRead s at (closed l (form (drop at t)))
+    unfolding targetRead
+    closed-chain h =
+        ap₂ At (target-from s l x (drop at t) (chained .ls) (drop end t) (chained .stands) (chained .letters-are)) (ap (λ (n : ℕ). n + 1) (chained .end-is))
+        ∙ sym (ap (λ (f : Form). targetRead s at (closed l f)) (chained .stands) ∙ ap (targetRead s at) (closed-yes l (chained .ls) (drop end t) h))
+
+-- a target
+module _ (s : Sizes) (t : List ℕ) (at k : ℕ) where
+  pub target-none : opens (drop at t) ≡ false → targetRead s k (form (drop at t)) ≡ NoTarget
+  unfolding targetRead
+  target-none h = go (startsWith 117 (drop at t)) refl
+    where
+      go : (x : Bool) → startsWith 117 (drop at t) ≡ x → targetRead s k (form (drop at t)) ≡ NoTarget
+      go true e = ap (targetRead s k) (form-u (drop at t) e)
+      go false e = ap (targetRead s k) (form-none (drop at t) e h)
+
+  pub target-opens : opens (drop at t) ≡ true → targetRead s k (closed (getD t at 0) (form (drop (at + 2) t))) ≡ targetRead s k (form (drop at t))
+  target-opens h = sym (ap (targetRead s k) (form-opens (drop at t) h ∙ ap₂ (λ (l : ℕ) (r : List ℕ). closed l (form r)) (first-at t at) (drop-drop 2 at t)))
+
+-- what was read where the reader answered
+pub record Targeted (s : Sizes) (t : List ℕ) (at : ℕ) (g : Target) (end : ℕ) : Type 0 where
+  pub field : ℕ
+  pub hops : List ℕ
+  pub stands : form (drop at t) ≡ formed (field ∷ hops) (drop end t)
+  pub parts : g ≡ targetOf s field hops
+  pub is-capital : isCapital (g .letter) ≡ true
+  pub inside : end ≤ length t
+
+no-target : {A : Type 0} {g : Target} {e : ℕ} → NoTarget ≡ At g e → A
+no-target q = absurd (let z : _≡_ {A = ℕ} 0 1 = cc in omega arith)
+
+same-target : {g h : Target} {e k : ℕ} → At g e ≡ At h k → g ≡ h
+same-target q = cc
+
+same-place : {g h : Target} {e k : ℕ} → At g e ≡ At h k → e ≡ k
+same-place q = cc
+
+module _ (s : Sizes) (t : List ℕ) (at : ℕ) where
+  pub target-taken : {g : Target} {end : ℕ} → targetRead s (at + 2) (form (drop at t)) ≡ At g end → Targeted s t at g end
+  unfolding targetRead targetOf chainEnd every
+  target-taken {g} {end} e = go (form (drop at t)) refl e
+    where
+      go : (f : Form) → form (drop at t) ≡ f → targetRead s (at + 2) f ≡ At g end → Targeted s t at g end
+      go unformed h e = no-target e
+      go (formed [] r) h e = no-target e
+      go (formed (f ∷ c) r) h e =
+          let same : g ≡ targetOf s f c = sym (same-target e) in
+          let k : end ≡ at + (3 * length (f ∷ c) + 1) = omega (arith, same-place e) in
+          record {
+            field = f;
+            hops = c;
+            stands = form-stands t at end (f ∷ c) r h k;
+            parts = same;
+            is-capital = ap (λ (y : Target). isCapital (y .letter)) same ∙ and-both (isCapital f) (every isCapital c) (spelled (drop at t) (f ∷ c) r h .capitals) .0;
+            inside = omega (arith, k, form-length (drop at t) (f ∷ c) r h, length-drop at t);
+          }
+
+  pub target-refused : targetRead s (at + 2) (form (drop at t)) ≡ NoTarget → remoteForm (form (drop at t)) ≡ none
+  unfolding targetRead remoteForm
+  target-refused e = go (form (drop at t)) e
+    where
+      go : (f : Form) → targetRead s (at + 2) f ≡ NoTarget → remoteForm f ≡ none
+      go unformed e = refl
+      go (formed [] r) e = refl
+      go (formed (f ∷ c) r) e = no-target (sym e)
+
+-- a rule: a local one, or behind `remote ` a remote one, for no local rule begins with a small letter
+local-remote : (r : List ℕ) → localForm (bytes "remote " ++ r) ≡ none
+unfolding localForm capital then isCapital
+local-remote r = refl
+
+module _ (t : List ℕ) (at : ℕ) where
+  pub action-local : begins (bytes "remote ") (drop at t) ≡ false → actionForm (drop at t) ≡ localForm (drop at t)
+  unfolding actionForm or
+  action-local e = rw (word-refused (λ r. remoteForm (form r)) (bytes "remote ") (drop at t) e)
+
+  module _ (start : ℕ) (p : Taken t (bytes "remote ") at start) where
+    pub action-remote : actionForm (drop at t) ≡ remoteForm (form (drop start t))
+    unfolding actionForm
+    action-remote = or-word (λ r. remoteForm (form r)) p (ap localForm (begins-text (bytes "remote ") (drop at t) (p .stands)) ∙ local-remote _)
+
+    pub action-no-target : remoteForm (form (drop start t)) ≡ none → (s : Sizes) → actionRead s (actionForm (drop at t)) ≡ NoForm
+    unfolding actionRead
+    action-no-target e s = ap (actionRead s) (action-remote ∙ e)
+
+    pub action-sent : {s : Sizes} {g : Target} {end : ℕ} (q : Targeted s t start g end) → actionForm (drop at t) ≡ sent (q .field) (q .hops) (drop end t)
+    unfolding remoteForm
+    action-sent q = action-remote ∙ ap remoteForm (q .stands)
