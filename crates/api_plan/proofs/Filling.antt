@@ -11,7 +11,7 @@ use lib.Seq.{getD-take, getD-set-same, getD-set-other}
 use Rattle.chain.specs.Word.{isReference, unpack, unpackWithin}
 use Rattle.chain.proofs.Packing.{unpack-none, unpack-last, unpack-more}
 use Rattle.plan_theory.specs.Plan.{Fact, read, word, round, rounds, tree, tree-within}
-use Rattle.plan_theory.specs.Cases.{lt-or-le}
+use Rattle.laws.proofs.Cases.{lt-or-le}
 use Rattle.plan_keys.specs.Keys.{fact-of}
 use Rattle.plan_lines.specs.Held.{facts-in, facts, Holds}
 use Rattle.plan_lines.specs.declared.Plan.{Plan}

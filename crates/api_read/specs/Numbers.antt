@@ -1,6 +1,6 @@
 -- An outcome of a reading as numbers.
 use lib.IntN.{pos}
-use Rattle.register.specs.Outcome.{Outcome, done, refused}
+use Rattle.laws.specs.Outcome.{Outcome, done, refused}
 use Rattle.register.specs.declared.cells.Cell.{Cell}
 use Rattle.register.specs.declared.cells.Cell.the-variants.{Missing, Value}
 use Rattle.api_read.specs.declared.reading.ReadNumbers.{ReadNumbers}

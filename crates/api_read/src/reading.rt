@@ -1,7 +1,7 @@
 // A reading's answer as numbers.
 ghost use mathlib.Core.Path.{_≡_};
 ghost use Rattle.op_read.specs.Reading.{readingOutcome, refusalNumber as chainNumber};
-ghost use Rattle.register.specs.Outcome.{done, refused as refusedWith};
+ghost use Rattle.laws.specs.Outcome.{done, refused as refusedWith};
 ghost use Rattle.api_read.specs.Numbers.{readNumbers};
 use op_read::ReadingAnswer;
 use register::cells::Cell;

@@ -3,7 +3,7 @@ use mathlib.Core.Path.{_≡_}
 use mathlib.Core.List.{List}
 use Prim.Native.Nat.{ℕ}
 use lib.IntN.{ℤ}
-use Rattle.register.specs.Outcome.{Outcome}
+use Rattle.laws.specs.Outcome.{Outcome}
 use Rattle.plan_theory.specs.Plan.{Fact}
 use Rattle.op_inspect.specs.Answer.{Answered}
 use Rattle.op_inspect.specs.declared.InspectAnswer.{InspectAnswer}

@@ -3,10 +3,9 @@ use Prim.Native.Nat.{ℕ}
 use mathlib.Core.Path.{_≡_}
 use mathlib.Core.List.{List, [], _∷_}
 use lib.ListN.{length}
-use Rattle.register.specs.Outcome.{Outcome, done, refused}
+use Rattle.laws.specs.Outcome.{Outcome, done, refused}
 use Rattle.text_rules.specs.Text.{Planned}
-use Rattle.api_plan.specs.PlanArrays.{flagNumber}
-use Rattle.api_plan.specs.PlanArrays.{PlanArrays}
+use Rattle.api_plan.specs.PlanArrays.{flagNumber, PlanArrays}
 
 -- the caller's three arrays, document 01's lent arrays
 pub record Buffers : Type 0 where

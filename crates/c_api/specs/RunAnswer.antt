@@ -3,7 +3,7 @@ use mathlib.Core.Path.{_≡_}
 use mathlib.Core.List.{List}
 use Prim.Native.Nat.{ℕ}
 use lib.IntN.{ℤ}
-use Rattle.register.specs.Outcome.{Outcome}
+use Rattle.laws.specs.Outcome.{Outcome}
 use Rattle.machine.specs.Run.{Run}
 use Rattle.machine_messages.specs.declared.Machine.{Machine}
 use Rattle.op_run.specs.Answer.{Answered}

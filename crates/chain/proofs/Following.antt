@@ -10,7 +10,7 @@ use lib.Dec.{leb, ltb, T}
 use lib.IntN.{ℤ, pos, negsuc, natAbs}
 use lib.Signed.{nonNeg}
 use lib.ListN.{getD}
-use Rattle.integers.proofs.Bools.{and-both}
+use Rattle.laws.proofs.Bools.{and-both}
 use Rattle.integers.proofs.Complement.{index-is}
 use Rattle.register.specs.Cells.{cellAt, cellsOf}
 use Rattle.register.specs.File.{width, cellIndex}

@@ -10,11 +10,13 @@ use lib.ListN.{length, take, length-append}
 use lib.Seq.{take-all}
 use Rattle.register.specs.Shape.{Limits}
 use Rattle.register.specs.declared.Sizes.{Sizes}
-use Rattle.integers.proofs.Bools.{and-both, and-true, or-left, or-right}
+use Rattle.laws.proofs.Bools.{and-both, and-true, or-left, or-right}
 use Rattle.chain.specs.Word.{hasField, readable, Passes, pack, unpack}
-use Rattle.chain_text.specs.Text.{fieldOf, names, every, isReferenceLetter, innerReferences, lettersRefusal, wordOf}
+use Rattle.chain_text.specs.Text.{fieldOf, names, isReferenceLetter, innerReferences, lettersRefusal, wordOf}
+use Rattle.laws.specs.Lists.{every}
 use Rattle.chain.proofs.Packing.{unpack-pack}
 use Rattle.chain.proofs.Fields.{readable-kinded}
+use Rattle.laws.proofs.Lists.{every-append}
 
 -- the field of a letter that names one
 pub reference-field : (s : Sizes) (l : ℕ) → names s l ≡ true → isReferenceLetter l ≡ true → fieldOf l < s .references
@@ -43,11 +45,6 @@ named-field s l n = go (isReferenceLetter l) refl
 -- every letter's field is a reference
 below : (s : Sizes) → List ℕ → Bool
 below s w = every (λ f. ltb f (s .references)) w
-
-every-append : (p : ℕ → Bool) (v w : List ℕ) → every p v ≡ true → every p w ≡ true → every p (v ++ w) ≡ true
-unfolding every
-every-append p [] w hv hw = hw
-every-append p (a ∷ v) w hv hw = let both = and-both (p a) (every p v) hv in sym (and-true (every p (v ++ w)) (both .0)) ∙ every-append p v w (both .1) hw
 
 word-below : (s : Sizes) (ls : List ℕ) → every (names s) ls ≡ true → every isReferenceLetter ls ≡ true → below s (wordOf ls) ≡ true
 unfolding below every wordOf

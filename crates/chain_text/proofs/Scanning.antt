@@ -12,7 +12,7 @@ use borrow.Author.Tests.{eq-eqb, ne-eqb}
 use lib.ListN.{length, getD, drop}
 use lib.Seq.{drop-drop, getD-drop}
 use Rattle.register.specs.declared.Sizes.{Sizes}
-use Rattle.integers.proofs.Bools.{and-both, true-false}
+use Rattle.laws.proofs.Bools.{and-both, true-false}
 use Rattle.chain_text.specs.Text.{isCapital, fieldOf, Form, formed, unformed, closed, form}
 use Rattle.chain_text.specs.Scan.{startsWith, opens, step, steps, chainEnd, scannedFrom, scanned, openLetters, closes, firstOf, closedBy}
 use Rattle.chain_text.specs.declared.letters.Letters.{Letters}

@@ -10,9 +10,10 @@ use borrow.Author.Tests.{eq-eqb, ne-eqb, leb-true, ltb-true, le-ltb, lt-ltb}
 use lib.Dec.{leb, ltb, eqb, leb·suc-suc}
 use lib.ListN.{length, take}
 use Rattle.register.specs.declared.Sizes.{Sizes}
-use Rattle.integers.proofs.Bools.{and-both}
+use Rattle.laws.proofs.Bools.{and-both}
 use Rattle.chain.specs.Word.{push, pack}
-use Rattle.chain_text.specs.Text.{isCapital, fieldOf, names, every, isReferenceLetter, innerReferences, wordOf}
+use Rattle.chain_text.specs.Text.{isCapital, fieldOf, names, isReferenceLetter, innerReferences, wordOf}
+use Rattle.laws.specs.Lists.{every}
 use Rattle.chain_text.specs.Scan.{summary, step, steps}
 use Rattle.chain_text.specs.declared.letters.Letters.{Letters}
 use Rattle.chain.proofs.Packing.{push-positive}

@@ -7,7 +7,8 @@ use lib.Dec.{ltb, eqb}
 use lib.ListN.{length, take, drop, getD}
 use Rattle.register.specs.declared.Sizes.{Sizes}
 use Rattle.chain.specs.Word.{push, pack}
-use Rattle.chain_text.specs.Text.{Form, formed, unformed, form, isCapital, fieldOf, names, every, isReferenceLetter, innerReferences, wordOf}
+use Rattle.chain_text.specs.Text.{Form, formed, unformed, form, isCapital, fieldOf, names, isReferenceLetter, innerReferences, wordOf}
+use Rattle.laws.specs.Lists.{every}
 use Rattle.chain_text.specs.declared.letters.Letters.{Letters}
 use Rattle.chain_text.specs.declared.text.Opened.{Opened}
 use Rattle.chain_text.specs.declared.text.Head.{Head}

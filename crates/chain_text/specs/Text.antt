@@ -5,6 +5,7 @@ use mathlib.Core.List.{List, [], _∷_, _++_}
 use lib.Dec.{leb, ltb, eqb}
 use lib.ListN.{length}
 use Rattle.register.specs.declared.Sizes.{Sizes}
+use Rattle.laws.specs.Lists.{every}
 
 -- "any capital counts as a field letter"
 unfoldable pub isCapital : ℕ → Bool
@@ -45,11 +46,6 @@ isReferenceLetter l = ltb l 77
 -- whether a letter names a field of the register: A, B, .. the first r, M, N, .. the first m
 unfoldable pub names : Sizes → ℕ → Bool
 names s l = cond (isReferenceLetter l) (leb 65 l && ltb l (65 + s .references)) (ltb l (77 + s .measures))
-
--- whether every element of a list passes
-unfoldable pub every : (ℕ → Bool) → List ℕ → Bool
-every p [] = true
-every p (a ∷ l) = p a && every p l
 
 -- "Every field but the outermost is a reference field."
 unfoldable pub innerReferences : List ℕ → Bool

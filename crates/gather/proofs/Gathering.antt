@@ -9,9 +9,9 @@ use Rattle.register.specs.declared.Sizes.{Sizes}
 use Rattle.register.specs.declared.cells.Cell.{Cell}
 use Rattle.chain.specs.Word.{valueAtRecord}
 use Rattle.plan_theory.specs.Plan.{Fact, word, last-round}
-use Rattle.plan_theory.specs.Kept.{plan-promise}
-use Rattle.text_rules.specs.Program.{Rule, readings, stepPlan}
-use Rattle.text_rules.specs.Passed.{RulesPass}
+use Rattle.plan_theory.proofs.Kept.{plan-promise}
+use Rattle.program.specs.Program.{Rule, readings, stepPlan}
+use Rattle.program.specs.Passed.{RulesPass}
 use Rattle.machine_messages.proofs.Telling.{lines-told}
 use Rattle.machine_messages.specs.declared.Machine.the-variants.{Messages}
 use Rattle.gather_follow.specs.Filled.{Filled}

@@ -12,7 +12,7 @@ use lib.ListN.{length, take}
 use Rattle.register.specs.declared.Sizes.{Sizes}
 use Rattle.register.specs.declared.cells.Cell.{Cell}
 use Rattle.plan_theory.specs.Plan.{Fact, round, line}
-use Rattle.plan_theory.specs.Cases.{true-or-false}
+use Rattle.laws.proofs.Cases.{true-or-false}
 use Rattle.machine_messages.specs.Held.{Held, heldAfter}
 use Rattle.machine_messages.specs.Counts.{lineMessages, planMessages}
 use Rattle.gather_line.proofs.Sent.{line-le, line-alike, line-missing}

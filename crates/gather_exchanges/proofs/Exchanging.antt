@@ -14,7 +14,7 @@ use Rattle.register.specs.declared.Sizes.{Sizes}
 use Rattle.register.specs.declared.cells.Cell.{Cell}
 use Rattle.register.specs.declared.cells.Cell.the-variants.{Missing}
 use Rattle.plan_theory.specs.Plan.{Fact, round, line}
-use Rattle.plan_theory.specs.Cases.{lt-or-le}
+use Rattle.laws.proofs.Cases.{lt-or-le}
 use Rattle.machine_messages.specs.Held.{heldAfter}
 use Rattle.scratch.specs.Places.{Kept}
 use Rattle.scratch.proofs.Placed.{kept-same, kept-again, kept-other}

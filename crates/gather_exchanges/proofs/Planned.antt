@@ -7,16 +7,17 @@ use lib.ListN.{length}
 use Rattle.register.specs.declared.Sizes.{Sizes}
 use Rattle.chain.specs.Word.{Passes}
 use Rattle.plan_theory.specs.Plan.{hops, round, last-round, line}
-use Rattle.plan_theory.specs.Facts.{needed-hops}
-use Rattle.plan_theory.specs.Kept.{plan-promise}
+use Rattle.plan_theory.proofs.Facts.{needed-hops}
+use Rattle.plan_theory.proofs.Kept.{plan-promise}
 use Rattle.plan_lines.specs.Held.{facts, Column}
 use Rattle.plan_lines.specs.declared.Plan.{Plan}
 use Rattle.plan_lines.proofs.Appending.{holds-count}
 use Rattle.plan_lines.proofs.Promised.{promised}
-use Rattle.text_rules.specs.Program.{Rule, readings, stepPlan}
-use Rattle.text_rules.specs.Passed.{RulesPass}
+use Rattle.program.specs.Program.{Rule, readings, stepPlan}
+use Rattle.program.specs.Passed.{RulesPass}
 use Rattle.machine.proofs.Readable.{Follows}
-use Rattle.machine.proofs.Readings.{each-of, readings-pass, plan-follows}
+use Rattle.laws.proofs.Lists.{each-of}
+use Rattle.machine.proofs.Readings.{readings-pass, plan-follows}
 use Rattle.gather_exchanges.specs.Lines.{Lines, Followable, Planned}
 
 module _ {s : Sizes} {rs : List Rule} (k : RulesPass s rs) where

@@ -7,17 +7,17 @@ use mathlib.Core.Logic.{⊎-elim}
 use borrow.Author.Tests.{ltb-true}
 use lib.Dec.{eqb, ltb}
 use lib.IntN.{pos, natAbs}
-use Rattle.integers.proofs.Bools.{and-both}
+use Rattle.laws.proofs.Bools.{and-both}
 use Rattle.integers.proofs.Complement.{index-is}
 use Rattle.register.specs.Shape.{Valid, refersWithin}
 use Rattle.register.specs.declared.Sizes.{Sizes}
 use Rattle.register.specs.declared.cells.Cell.{Cell}
 use Rattle.register.specs.declared.cells.Cell.the-variants.{Missing, Value}
-use Rattle.chain_text.specs.Text.{every}
+use Rattle.laws.specs.Lists.{every}
 use Rattle.chain.specs.Word.{hop}
 use Rattle.plan_theory.specs.Plan.{Fact, read, word, hops, front, rest, back-need, round}
-use Rattle.plan_theory.specs.Cases.{lt-or-le}
-use Rattle.plan_theory.specs.Facts.{front-rest}
+use Rattle.laws.proofs.Cases.{lt-or-le}
+use Rattle.plan_theory.proofs.Facts.{front-rest}
 use Rattle.machine.proofs.Readable.{referring}
 use Rattle.machine.proofs.Direct.{own-refers, hop-refers}
 use Rattle.machine_messages.specs.Held.{Held, knows, writer, needed, written, sent, heldAfter}

@@ -16,9 +16,9 @@ use Rattle.register.specs.declared.cells.Cell.the-variants.{Missing, Value}
 use Rattle.chain.specs.Word.{hasField, readable, unpack}
 use Rattle.chain.proofs.Packing.{unpack-last}
 use Rattle.plan_theory.specs.Plan.{Fact, back, read, word, hops, rest, line-from, back-need, read-need, round, line}
-use Rattle.plan_theory.specs.Cases.{lt-or-le}
-use Rattle.plan_theory.specs.Half.{half-below}
-use Rattle.plan_theory.specs.Facts.{rest-length, line-from-pos, round-line}
+use Rattle.laws.proofs.Cases.{lt-or-le}
+use Rattle.plan_theory.proofs.Half.{half-below}
+use Rattle.plan_theory.proofs.Facts.{rest-length, line-from-pos, round-line}
 use Rattle.plan_lines.specs.Held.{facts, line-at}
 use Rattle.plan_lines.specs.Promised.{fact-at, Serves, LinePromise}
 use Rattle.plan_lines.specs.declared.Plan.{Plan}

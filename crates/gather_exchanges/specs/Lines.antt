@@ -7,14 +7,14 @@ use lib.Dec.{ltb}
 use lib.IntN.{ℤ}
 use lib.ListN.{length}
 use Rattle.register.specs.declared.Sizes.{Sizes}
-use Rattle.chain_text.specs.Text.{every}
+use Rattle.laws.specs.Lists.{every}
 use Rattle.chain.specs.Word.{readable}
 use Rattle.plan_theory.specs.Plan.{Fact, back, read, hops, line}
 use Rattle.plan_lines.specs.Held.{facts, Keyed, Holds}
 use Rattle.plan_lines.specs.Promised.{LinePromise}
 use Rattle.plan_lines.specs.declared.Plan.{Plan}
-use Rattle.text_rules.specs.Program.{Rule, stepPlan}
-use Rattle.text_rules.specs.Passed.{RulesPass}
+use Rattle.program.specs.Program.{Rule, stepPlan}
+use Rattle.program.specs.Passed.{RulesPass}
 use Rattle.machine_messages.specs.Held.{needed}
 
 -- the word that f's writer has to know is the field g, where it has one hop

@@ -16,7 +16,7 @@ use Rattle.plan_lines.specs.Held.{facts-in, Keyed}
 use Rattle.plan_keys.specs.declared.key.Kind.{Kind}
 use Rattle.plan_keys.specs.declared.key.Kind.the-variants.{Back, Read}
 use Rattle.plan_lines.proofs.Search.{facts-line}
-use Rattle.plan_theory.specs.Cases.{lt-or-le}
+use Rattle.laws.proofs.Cases.{lt-or-le}
 use Rattle.scratch.specs.Places.{Kept, StoredFrom}
 use Rattle.scratch.proofs.Placed.{kept-same, kept-again, placeAt-kept}
 use Rattle.gather_follow.specs.Filled.{ReadAt, Filled}

@@ -4,9 +4,9 @@ use mathlib.Core.Path.{subst}
 use mathlib.Core.List.{List}
 use Rattle.register.specs.declared.Sizes.{Sizes}
 use Rattle.plan_theory.specs.Plan.{Fact, hops, line-from}
-use Rattle.plan_theory.specs.Kept.{plan-promise}
-use Rattle.text_rules.specs.Program.{Rule, readings, stepPlan}
-use Rattle.text_rules.specs.Passed.{RulesPass}
+use Rattle.plan_theory.proofs.Kept.{plan-promise}
+use Rattle.program.specs.Program.{Rule, readings, stepPlan}
+use Rattle.program.specs.Passed.{RulesPass}
 use Rattle.machine.proofs.Readable.{Follows}
 use Rattle.machine.proofs.Readings.{plan-follows}
 use Rattle.gather_follow.specs.Filled.{FollowLines}

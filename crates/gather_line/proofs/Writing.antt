@@ -21,7 +21,7 @@ use Rattle.register.specs.declared.Sizes.{Sizes}
 use Rattle.register.specs.declared.cells.Cell.{Cell}
 use Rattle.register.specs.declared.cells.Cell.the-variants.{Missing, Value}
 use Rattle.chain.specs.Word.{cell}
-use Rattle.plan_theory.specs.Cases.{lt-or-le}
+use Rattle.laws.proofs.Cases.{lt-or-le}
 use Rattle.machine.proofs.Direct.{own-refers}
 use Rattle.machine_messages.specs.Counts.{isSent}
 use Rattle.scratch.specs.Places.{placeAt, Kept}

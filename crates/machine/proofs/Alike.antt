@@ -11,7 +11,7 @@ use Rattle.register.specs.File.{width, cellIndex}
 use Rattle.register.specs.declared.Sizes.{Sizes}
 use Rattle.register.specs.declared.cells.Cell.{Cell}
 use Rattle.register.specs.declared.cells.Cell.the-variants.{Missing}
-use Rattle.text_rules.specs.Program.{Test, Action, Rule, fieldOf}
+use Rattle.program.specs.Program.{Test, Action, Rule, fieldOf}
 use Rattle.machine.specs.declared.message.Sort.the-variants.{Least, Total}
 use Rattle.machine.specs.declared.message.Message.{Message}
 use Rattle.machine.specs.Value.{compareCells, holds, cellInRange}

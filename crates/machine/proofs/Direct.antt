@@ -10,7 +10,7 @@ use lib.IntN.{pos, natAbs}
 use mir.Syntax.{w32}
 use mir.Val.{SFits}
 use Rattle.integers.specs.Range.{isIndex}
-use Rattle.integers.proofs.Bools.{and-both}
+use Rattle.laws.proofs.Bools.{and-both}
 use Rattle.integers.proofs.Complement.{index-is}
 use Rattle.register.specs.Cells.{valueOf}
 use Rattle.register.specs.File.{cellIndex}
@@ -19,8 +19,8 @@ use Rattle.register.specs.declared.Sizes.{Sizes}
 use Rattle.register.specs.declared.cells.Cell.{Cell}
 use Rattle.register.specs.declared.cells.Cell.the-variants.{Missing, Value}
 use Rattle.chain.specs.Word.{isReference, hasField, readable, Passes, column, cell, hop, follow, valueAtRecord}
-use Rattle.text_rules.specs.Program.{Rule}
-use Rattle.text_rules.specs.Passed.{isReferenceWord}
+use Rattle.program.specs.Program.{Rule}
+use Rattle.program.specs.Passed.{isReferenceWord}
 use Rattle.machine.specs.Run.{direct}
 
 -- a reference field of the register

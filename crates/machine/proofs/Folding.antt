@@ -1,26 +1,22 @@
 -- Lists of rules and of messages: one more at the end, none for a step with no remote rule, and the number of cells kept.
 use Prim.Native.Nat.{ℕ, zero, suc}
 use mathlib.Core.Path.{_≡_, refl, ap₂, _∙_}
-use mathlib.Core.Bool.{Bool, true, false, cond, _&&_, _||_, or-false, or-assoc}
+use mathlib.Core.Bool.{false, _&&_, _||_, or-false, or-assoc}
 use mathlib.Core.List.{List, [], _∷_, _++_, append-nil, append-assoc}
 use mathlib.Core.Option.{Option, none, some}
 use lib.Dec.{eqb}
 use lib.ListN.{length, length-set}
-use Rattle.integers.proofs.Bools.{or-neither, true-false}
+use Rattle.laws.proofs.Bools.{or-neither, true-false}
 use Rattle.register.specs.declared.Sizes.{Sizes}
 use Rattle.register.specs.declared.cells.Cell.{Cell}
 use Rattle.chain.specs.Word.{column}
-use Rattle.text_rules.specs.Program.{Action, set, sum, difference, least, total, Rule, isRemote, hasRemote, fieldOf}
+use Rattle.program.specs.Program.{Action, set, sum, difference, least, total, Rule, isRemote, hasRemote, fieldOf}
 use Rattle.machine.specs.declared.message.Message.{Message}
 use Rattle.machine.specs.Value.{holds}
 use Rattle.machine.specs.Local.{stored, store, localRule, localRules, localRecords, offends, sumOffends}
 use Rattle.machine.specs.Remote.{actionMessages, ruleMessages, messages, recordMessages, deliver, deliverAll}
 use Rattle.machine.specs.Step.{stepCells}
-
--- what holds of both arms
-pub cond-both : {A : Type 0} (P : A → Type 0) (b : Bool) (x y : A) → P x → P y → P (cond b x y)
-cond-both P true x y h k = h
-cond-both P false x y h k = k
+use Rattle.laws.proofs.Bools.{cond-both}
 
 -- one rule more: what it stores, whether its sum offends, and what it sends
 pub localRules-more : (s : Sizes) (read : List ℕ → Cell) (u : ℕ) (rs : List Rule) (r : Rule) (cells : List Cell)

@@ -9,7 +9,7 @@ use lib.Signed.{ltZ}
 use mir.Syntax.{w32}
 use mir.Val.{SFits}
 use Rattle.integers.specs.Range.{inRange}
-use Rattle.integers.proofs.Bools.{and-both, true-false}
+use Rattle.laws.proofs.Bools.{and-both, true-false, cond-both}
 use Rattle.integers.proofs.Complement.{range-fits, fits-range}
 use Rattle.register.specs.Cells.{valueOf}
 use Rattle.register.specs.Shape.{Limits, Valid, refersWithin}
@@ -17,9 +17,10 @@ use Rattle.register.specs.declared.Sizes.{Sizes}
 use Rattle.register.specs.declared.cells.Cell.{Cell}
 use Rattle.register.specs.declared.cells.Cell.the-variants.{Missing, Value}
 use Rattle.chain.specs.Word.{isReference, Passes}
-use Rattle.text_rules.specs.Program.{Term, reading, constant, Action, set, sum, difference, least, total, Rule}
-use Rattle.text_rules.specs.Passed.{Each, isReferenceWord, isReferenceTerm, TermPasses, Alike, Measured, ActionPasses, RulePasses, RulesPass}
-use Rattle.text_rules.proofs.Checked.{each-append}
+use Rattle.program.specs.Program.{Term, reading, constant, Action, set, sum, difference, least, total, Rule}
+use Rattle.laws.specs.Lists.{Each}
+use Rattle.program.specs.Passed.{isReferenceWord, isReferenceTerm, TermPasses, Alike, Measured, ActionPasses, RulePasses, RulesPass}
+use Rattle.laws.proofs.Lists.{each-append}
 use Rattle.machine.specs.declared.message.Sort.{Sort}
 use Rattle.machine.specs.declared.message.Sort.the-variants.{Least, Total}
 use Rattle.machine.specs.declared.message.Message.{Message}
@@ -27,7 +28,7 @@ use Rattle.machine.specs.Value.{both, termValue, holds, cellInRange}
 use Rattle.machine.specs.Local.{formed, stored, store, localRule, localRules, localRecords}
 use Rattle.machine.specs.Remote.{sentTo, actionMessages, ruleMessages, messages, recordMessages, smaller, merged, deliver, deliverAll}
 use Rattle.machine.specs.Step.{stepCells, stops}
-use Rattle.machine.proofs.Folding.{cond-both, stepCells-length}
+use Rattle.machine.proofs.Folding.{stepCells-length}
 use Rattle.machine.proofs.Stops.{in-range-each}
 use Rattle.machine.proofs.Refers.{Refers, Change, change-refers}
 

@@ -6,12 +6,12 @@ use mathlib.Core.List.{List, [], _∷_, List·Memᴰ}
 use native.Mathlib.Omega.{arith}
 use lib.Dec.{ltb}
 use lib.ListN.{length, take, drop}
-use Rattle.integers.proofs.Bools.{and-both}
+use Rattle.laws.proofs.Bools.{and-both}
 use Rattle.register.specs.declared.Sizes.{Sizes}
 use Rattle.chain.specs.Word.{hasField, readable}
-use Rattle.chain_text.specs.Text.{every}
+use Rattle.laws.specs.Lists.{every}
 use Rattle.plan_theory.specs.Plan.{Fact, back, read, hops, half, front, rest, back-need, read-need}
-use Rattle.plan_theory.specs.Half.{half-below}
+use Rattle.plan_theory.proofs.Half.{half-below}
 use Rattle.plan_theory.specs.Promise.{Needed, itself, by-back, by-read, Wanted}
 
 -- every hop is a reference of the register

@@ -1,21 +1,17 @@
 -- Every reading of rules that pass can be followed, and so can every line of their plan.
 use Prim.Native.Nat.{ℕ, _<_}
-use mathlib.Core.Path.{sym, subst}
-use mathlib.Core.List.{List, [], _∷_, _++_, List·Memᴰ, List·Memᴰ·head, List·Memᴰ·tail}
+use mathlib.Core.List.{List, [], _∷_, _++_}
 use lib.ListN.{length}
 use Rattle.register.specs.declared.Sizes.{Sizes}
 use Rattle.chain.specs.Word.{Passes}
 use Rattle.plan_theory.specs.Plan.{line}
-use Rattle.plan_theory.specs.Kept.{plan-promise}
-use Rattle.text_rules.specs.Program.{Term, reading, constant, Test, always, when, Action, set, sum, difference, least, total, Rule, termReadings, testReadings, actionReadings, ruleReadings, readings, stepPlan}
-use Rattle.text_rules.specs.Passed.{Each, TermPasses, TestPasses, ActionPasses, RulePasses, RulesPass}
-use Rattle.text_rules.proofs.Checked.{each-append}
+use Rattle.plan_theory.proofs.Kept.{plan-promise}
+use Rattle.program.specs.Program.{Term, reading, constant, Test, always, when, Action, set, sum, difference, least, total, Rule, termReadings, testReadings, actionReadings, ruleReadings, readings, stepPlan}
+use Rattle.laws.specs.Lists.{Each}
+use Rattle.program.specs.Passed.{TermPasses, TestPasses, ActionPasses, RulePasses, RulesPass}
+use Rattle.laws.proofs.Lists.{each-append}
 use Rattle.machine.proofs.Readable.{Follows, wanted-follows}
-
--- one of a list
-pub each-of : {A : Type 0} (P : A → Type 0) {l : List A} {a : A} → Each P l → List·Memᴰ a l → P a
-each-of P h (List·Memᴰ·head e) = subst P (sym e) (h .0)
-each-of P h (List·Memᴰ·tail m) = each-of P (h .1) m
+use Rattle.laws.proofs.Lists.{each-of}
 
 module _ (s : Sizes) where
   term-pass : (x : Term) → TermPasses s x → Each (Passes s) (termReadings x)

@@ -11,9 +11,9 @@ use lib.Seq.{drop-length}
 use Rattle.register.specs.Shape.{Valid}
 use Rattle.register.specs.declared.Sizes.{Sizes}
 use Rattle.register.specs.declared.cells.Cell.{Cell}
-use Rattle.text_rules.specs.Program.{Step, Program}
-use Rattle.text_rules.specs.Passed.{openBehind, Loops, StepPasses, ProgramPasses}
-use Rattle.text_rules.proofs.Checked.{each-back}
+use Rattle.program.specs.Program.{Step, Program}
+use Rattle.program.specs.Passed.{openBehind, Loops, StepPasses, ProgramPasses}
+use Rattle.laws.proofs.Lists.{each-back}
 use Rattle.machine.specs.Step.{stepCells, stops}
 use Rattle.machine.specs.Run.{Reader, direct, Pass, begins, goesOn, entered, following, Ending, complete, spent, offended, Run, behind, stepFirst, runFrom, run}
 use Rattle.machine.proofs.Keeping.{stepCells-valid}

@@ -8,14 +8,14 @@ use native.Mathlib.Omega.{arith}
 use native.Mathlib.Decide.{decLt}
 use borrow.Author.Tests.{not-false}
 use lib.ListN.{length, getD, List·getD-eq-default}
-use Rattle.integers.proofs.Bools.{or-right, or-neither, true-false}
+use Rattle.laws.proofs.Bools.{or-right, or-neither, true-false}
 use Rattle.register.specs.File.{width, cellCount, cellIndex}
 use Rattle.register.proofs.Bounds.{place-row, place-column, place-is}
 use Rattle.register.specs.declared.Sizes.{Sizes}
 use Rattle.register.specs.declared.cells.Cell.{Cell}
 use Rattle.register.specs.declared.cells.Cell.the-variants.{Missing}
-use Rattle.plan_theory.specs.Cases.{true-or-false, lt-or-le}
-use Rattle.text_rules.specs.Program.{Rule}
+use Rattle.laws.proofs.Cases.{true-or-false, lt-or-le}
+use Rattle.program.specs.Program.{Rule}
 use Rattle.machine.specs.Value.{cellInRange}
 use Rattle.machine.specs.Local.{sumOffends}
 use Rattle.machine.specs.Step.{stepCells, offendsAt, someBelow, stops}

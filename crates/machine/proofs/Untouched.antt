@@ -8,7 +8,7 @@ use borrow.Author.Tests.{eq-eqb}
 use lib.Dec.{eqb}
 use lib.ListN.{getD, set as put}
 use lib.Seq.{getD-set-other}
-use Rattle.integers.proofs.Bools.{or-neither, true-false}
+use Rattle.laws.proofs.Bools.{or-neither, true-false, cond-both}
 use Rattle.register.specs.File.{width, cellIndex}
 use Rattle.register.specs.Shape.{Limits}
 use Rattle.register.specs.declared.Sizes.{Sizes}
@@ -16,10 +16,10 @@ use Rattle.register.specs.declared.cells.Cell.{Cell}
 use Rattle.register.specs.declared.cells.Cell.the-variants.{Missing, Value}
 use Rattle.chain.specs.Word.{hasField, column, fieldAt}
 use Rattle.chain.proofs.Following.{column-below, field-column}
-use Rattle.text_rules.specs.Program.{Action, set, sum, difference, least, total, Rule, fieldOf, writes}
-use Rattle.text_rules.specs.Check.{someAction}
-use Rattle.text_rules.specs.Passed.{Each, ActionPasses, RulePasses}
-use Rattle.text_rules.proofs.Checked.{each-append}
+use Rattle.program.specs.Program.{Action, set, sum, difference, least, total, Rule, fieldOf, writes, someAction}
+use Rattle.laws.specs.Lists.{Each}
+use Rattle.program.specs.Passed.{ActionPasses, RulePasses}
+use Rattle.laws.proofs.Lists.{each-append}
 use Rattle.machine.specs.declared.message.Sort.{Sort}
 use Rattle.machine.specs.declared.message.Sort.the-variants.{Least, Total}
 use Rattle.machine.specs.declared.message.Message.{Message}
@@ -27,7 +27,6 @@ use Rattle.machine.specs.Value.{both, termValue, holds}
 use Rattle.machine.specs.Local.{stored, store, localRule, localRules, localRecords}
 use Rattle.machine.specs.Remote.{sentTo, actionMessages, ruleMessages, messages, recordMessages, deliver, deliverAll}
 use Rattle.machine.specs.Step.{stepCells}
-use Rattle.machine.proofs.Folding.{cond-both}
 use Rattle.machine.proofs.Refers.{place-column}
 
 -- a field that stands in another column than c

@@ -3,8 +3,8 @@ use mathlib.Core.Path.{_≡_}
 use mathlib.Core.List.{List, [], _∷_}
 use Prim.Native.Nat.{ℕ}
 use Rattle.register.specs.declared.cells.Cell.{Cell}
-use Rattle.text_forms.specs.Written.{Comparison}
-use Rattle.text_rules.specs.Program.{Term, Test, always, when, Action, set, sum, difference, least, total, Rule}
+use Rattle.program.specs.declared.rule.Comparison.{Comparison}
+use Rattle.program.specs.Program.{Term, Test, always, when, Action, set, sum, difference, least, total, Rule}
 use Rattle.machine.specs.Value.{termValue}
 
 -- the same comparison, and sides of the same value

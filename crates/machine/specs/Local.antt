@@ -11,7 +11,7 @@ use Rattle.register.specs.declared.Sizes.{Sizes}
 use Rattle.register.specs.declared.cells.Cell.{Cell}
 use Rattle.register.specs.declared.cells.Cell.the-variants.{Missing, Value}
 use Rattle.chain.specs.Word.{column}
-use Rattle.text_rules.specs.Program.{Action, set, sum, difference, least, total, Rule, fieldOf}
+use Rattle.program.specs.Program.{Action, set, sum, difference, least, total, Rule, fieldOf}
 use Rattle.machine.specs.Value.{both, termValue, holds, cellInRange}
 
 -- "a sum with an unfilled side is unfilled"

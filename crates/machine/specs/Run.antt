@@ -9,9 +9,9 @@ use Rattle.register.specs.declared.Sizes.{Sizes}
 use Rattle.register.specs.declared.cells.Cell.{Cell}
 use Rattle.register.specs.declared.cells.Cell.the-variants.{Missing, Value}
 use Rattle.chain.specs.Word.{cell, valueAtRecord}
-use Rattle.text_rules.specs.declared.around.Setting.{Setting}
-use Rattle.text_rules.specs.declared.around.Setting.the-variants.{Single, Looped}
-use Rattle.text_rules.specs.Program.{Rule, Step, Program}
+use Rattle.program.specs.declared.setting.Setting.{Setting}
+use Rattle.program.specs.declared.setting.Setting.the-variants.{Single, Looped}
+use Rattle.program.specs.Program.{Rule, Step, Program}
 use Rattle.machine.specs.Step.{stepCells, stops}
 
 -- what each record reads in a step, over the cells before it

@@ -7,7 +7,7 @@ use Rattle.register.specs.File.{width, cellIndex}
 use Rattle.register.specs.declared.Sizes.{Sizes}
 use Rattle.register.specs.declared.cells.Cell.{Cell}
 use Rattle.register.specs.declared.cells.Cell.the-variants.{Missing}
-use Rattle.text_rules.specs.Program.{Rule}
+use Rattle.program.specs.Program.{Rule}
 use Rattle.machine.specs.Value.{cellInRange}
 use Rattle.machine.specs.Local.{localRecords, sumOffends}
 use Rattle.machine.specs.Remote.{recordMessages, deliverAll}

@@ -7,8 +7,9 @@ use lib.Signed.{ltZ}
 use Rattle.integers.specs.Range.{inRange, eqZ}
 use Rattle.register.specs.declared.cells.Cell.{Cell}
 use Rattle.register.specs.declared.cells.Cell.the-variants.{Missing, Value}
-use Rattle.text_forms.specs.Written.{Comparison, less, equal, unequal}
-use Rattle.text_rules.specs.Program.{Term, reading, constant, Test, always, when}
+use Rattle.program.specs.declared.rule.Comparison.{Comparison}
+use Rattle.program.specs.declared.rule.Comparison.the-variants.{Less, Equal, Unequal}
+use Rattle.program.specs.Program.{Term, reading, constant, Test, always, when}
 
 -- f of two values, or `else` where a cell is missing
 unfoldable pub both : {A : Type 0} → A → (ℤ → ℤ → A) → Cell → Cell → A
@@ -23,9 +24,9 @@ termValue read (constant z) = Value z
 
 -- `<`, `==`, `!=`, on references by record number
 unfoldable pub compare : Comparison → ℤ → ℤ → Bool
-compare less a b = ltZ a b
-compare equal a b = eqZ a b
-compare unequal a b = not (eqZ a b)
+compare Less a b = ltZ a b
+compare Equal a b = eqZ a b
+compare Unequal a b = not (eqZ a b)
 
 -- two sides of a test: a missing one never holds
 unfoldable pub compareCells : Comparison → Cell → Cell → Bool

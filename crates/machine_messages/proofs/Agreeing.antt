@@ -3,7 +3,7 @@ use Prim.Native.Nat.{ℕ}
 use mathlib.Core.Path.{_≡_, refl}
 use mathlib.Core.List.{List, [], _∷_, _++_, List·Memᴰ, List·Memᴰ·head, List·Memᴰ·tail, Memᴰ·append-left, Memᴰ·append-right}
 use Rattle.register.specs.declared.cells.Cell.{Cell}
-use Rattle.text_rules.specs.Program.{Term, reading, constant, Test, always, when, Action, set, sum, difference, least, total, Rule, termReadings, testReadings, actionReadings, ruleReadings, readings}
+use Rattle.program.specs.Program.{Term, reading, constant, Test, always, when, Action, set, sum, difference, least, total, Rule, termReadings, testReadings, actionReadings, ruleReadings, readings}
 use Rattle.machine.specs.Value.{termValue}
 use Rattle.machine.specs.Alike.{TestAlike, always-alike, when-alike, ActionAlike, set-alike, sum-alike, difference-alike, least-alike, total-alike, RulesAlike, none, more}
 

@@ -5,7 +5,7 @@ use mathlib.Core.List.{List, [], _∷_, _++_}
 use native.Mathlib.Omega.{arith}
 use Rattle.register.specs.declared.Sizes.{Sizes}
 use Rattle.register.specs.declared.cells.Cell.{Cell}
-use Rattle.text_rules.specs.Program.{Step}
+use Rattle.program.specs.Program.{Step}
 use Rattle.machine_messages.specs.Counts.{stepExchanges, stepMessages, exchanges, messages}
 
 pub exchanges-append : (t t′ : List (Step × List Cell)) → exchanges (t ++ t′) ≡ exchanges t + exchanges t′

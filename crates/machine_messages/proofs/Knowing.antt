@@ -7,10 +7,11 @@ use Rattle.register.specs.declared.Sizes.{Sizes}
 use Rattle.register.specs.declared.cells.Cell.{Cell}
 use Rattle.chain.specs.Word.{Passes}
 use Rattle.plan_theory.specs.Plan.{read}
-use Rattle.text_rules.specs.Program.{Rule, readings}
-use Rattle.text_rules.specs.Passed.{RulesPass}
+use Rattle.program.specs.Program.{Rule, readings}
+use Rattle.program.specs.Passed.{RulesPass}
 use Rattle.machine.specs.Run.{direct}
-use Rattle.machine.proofs.Readings.{each-of, readings-pass}
+use Rattle.laws.proofs.Lists.{each-of}
+use Rattle.machine.proofs.Readings.{readings-pass}
 use Rattle.machine_messages.specs.Counts.{mostRounds, heldIn, byMessages}
 use Rattle.machine_messages.proofs.Telling.{told, knows-value}
 use Rattle.machine_messages.proofs.Rounds.{rounds-most}

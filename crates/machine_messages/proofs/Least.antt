@@ -1,21 +1,19 @@
--- Every reading of a text that passes has, in the plan of its step, the least number of rounds of all its derivations.
+-- Every reading of a step has, in its plan, the least number of rounds of all its derivations.
 use Prim.Native.Nat.{ℕ, _≤_, _<_}
 use mathlib.Core.Path.{_≡_, sym, ap, subst}
 use mathlib.Core.Logic.{⊎-elim}
 use mathlib.Core.List.{List, List·Memᴰ}
 use native.Mathlib.Omega.{arith}
 use lib.ListN.{length}
-use Rattle.register.specs.Outcome.{done}
 use Rattle.plan_theory.specs.Knows.{LeastRounds}
 use Rattle.plan_theory.specs.Plan.{Fact, read, hops, line-from, round, place, line}
-use Rattle.plan_theory.specs.Cases.{lt-or-le}
-use Rattle.plan_theory.specs.Facts.{round-none}
-use Rattle.plan_theory.specs.Least.{round-least}
-use Rattle.plan_theory.specs.Places.{place-line}
+use Rattle.laws.proofs.Cases.{lt-or-le}
+use Rattle.plan_theory.proofs.Facts.{round-none}
+use Rattle.plan_theory.proofs.Least.{round-least}
+use Rattle.plan_theory.proofs.Places.{place-line}
 use Rattle.plan_theory.specs.Promise.{Promise}
-use Rattle.plan_theory.specs.Kept.{plan-promise}
-use Rattle.text_rules.specs.Program.{Step, Program, readings, stepPlan}
-use Rattle.text_rules.specs.Text.{check}
+use Rattle.plan_theory.proofs.Kept.{plan-promise}
+use Rattle.program.specs.Program.{Step, readings, stepPlan}
 
 -- "a reading's rounds in the plan are the round of its Read line, 0 where it has none"
 pub data RoundsInPlan (l : List Fact) (w : List ℕ) : ℕ → Type 0 where
@@ -46,9 +44,8 @@ module _ {ws : List (List ℕ)} {l : List Fact} (p : Promise ws l) {w : List ℕ
       (λ (h : 2 ≤ length w). let (b, e) = reading-line h in absurd (none (place l (read w)) b e))
       (lt-or-le (length w) 2)
 
--- each reading of each step of a text that passes the check for a register file: the plan derives it in that many rounds, and
--- "every other derivation .. has at least as many rounds as that reading has in the plan"
-pub text-least : (file text : List ℕ) {p : Program} → check file text ≡ done p → {x : Step} → List·Memᴰ x p
-    → {w : List ℕ} → List·Memᴰ w (readings (x .rules)) → {n : ℕ} → RoundsInPlan (stepPlan (x .rules)) w n → LeastRounds w n
+-- each reading of a step: the plan derives it in that many rounds, and "every other derivation .. has at least as many rounds
+-- as that reading has in the plan"
+pub step-least : (x : Step) {w : List ℕ} → List·Memᴰ w (readings (x .rules)) → {n : ℕ} → RoundsInPlan (stepPlan (x .rules)) w n → LeastRounds w n
 unfolding stepPlan
-text-least file text e {x} i {w} m r = subst (LeastRounds w) (sym (in-plan-round (plan-promise (readings (x .rules))) m r)) (round-least w)
+step-least x {w} m r = subst (LeastRounds w) (sym (in-plan-round (plan-promise (readings (x .rules))) m r)) (round-least w)

@@ -7,10 +7,10 @@ use native.Mathlib.Omega.{arith}
 use lib.ListN.{length}
 use Rattle.plan_theory.specs.Plan.{Fact, read, round, place, plan, last-round}
 use Rattle.plan_theory.specs.Promise.{Needed, Promise}
-use Rattle.plan_theory.specs.Cases.{lt-or-le}
-use Rattle.plan_theory.specs.Facts.{round-none, round-both, needed-ind}
-use Rattle.plan_theory.specs.Places.{place-line}
-use Rattle.plan_theory.specs.Kept.{plan-promise}
+use Rattle.laws.proofs.Cases.{lt-or-le}
+use Rattle.plan_theory.proofs.Facts.{round-none, round-both, needed-ind}
+use Rattle.plan_theory.proofs.Places.{place-line}
+use Rattle.plan_theory.proofs.Kept.{plan-promise}
 use Rattle.machine_messages.specs.Counts.{mostRounds}
 
 -- each reading has at most as many

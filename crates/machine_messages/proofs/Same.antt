@@ -6,13 +6,14 @@ use mathlib.Core.List.{List, [], _∷_}
 use Rattle.register.specs.Shape.{Valid}
 use Rattle.register.specs.declared.Sizes.{Sizes}
 use Rattle.register.specs.declared.cells.Cell.{Cell}
-use Rattle.text_rules.specs.Program.{Rule, Step, Program}
-use Rattle.text_rules.specs.Passed.{Each, RulesPass, StepPasses, ProgramPasses}
+use Rattle.program.specs.Program.{Rule, Step, Program}
+use Rattle.laws.specs.Lists.{Each}
+use Rattle.program.specs.Passed.{RulesPass, StepPasses, ProgramPasses}
 use Rattle.machine.specs.Alike.{RulesAlike}
 use Rattle.machine.specs.Remote.{recordMessages}
 use Rattle.machine.specs.Step.{stepCells, offendsAt, stops}
 use Rattle.machine.specs.Run.{direct, Pass, begins, goesOn, entered, following, Run, behind, stepFirst, runFrom, run}
-use Rattle.machine.proofs.Folding.{cond-both}
+use Rattle.laws.proofs.Bools.{cond-both}
 use Rattle.machine.proofs.Alike.{stepCells-alike, stops-alike, offendsAt-alike, recordMessages-alike}
 use Rattle.machine.proofs.Keeping.{stepCells-valid}
 use Rattle.machine.proofs.Direct.{direct-refers}

@@ -8,21 +8,21 @@ use borrow.Author.Tests.{ltb-true, le-ltb}
 use lib.Dec.{ltb}
 use lib.IntN.{pos, natAbs}
 use lib.ListN.{length}
-use Rattle.integers.proofs.Bools.{and-both}
+use Rattle.laws.proofs.Bools.{and-both}
 use Rattle.integers.proofs.Complement.{index-is}
 use Rattle.register.specs.Shape.{Valid, refersWithin}
 use Rattle.register.specs.declared.Sizes.{Sizes}
 use Rattle.register.specs.declared.cells.Cell.{Cell}
 use Rattle.register.specs.declared.cells.Cell.the-variants.{Missing, Value}
 use Rattle.chain.specs.Word.{hop, follow, valueAtRecord}
-use Rattle.chain_text.specs.Text.{every}
+use Rattle.laws.specs.Lists.{every}
 use Rattle.chain.proofs.Following.{follow-missing}
 use Rattle.plan_theory.specs.Plan.{Fact, back, read, word, hops, front, rest, line-from, back-need, read-need, round, line}
-use Rattle.plan_theory.specs.Half.{half-pos}
-use Rattle.plan_theory.specs.Facts.{front-rest, front-length, round-one, round-both, fact-ind}
-use Rattle.plan_theory.specs.Kept.{plan-promise}
-use Rattle.text_rules.specs.Program.{Rule, readings, stepPlan}
-use Rattle.text_rules.specs.Passed.{RulesPass}
+use Rattle.plan_theory.proofs.Half.{half-pos}
+use Rattle.plan_theory.proofs.Facts.{front-rest, front-length, round-one, round-both, fact-ind}
+use Rattle.plan_theory.proofs.Kept.{plan-promise}
+use Rattle.program.specs.Program.{Rule, readings, stepPlan}
+use Rattle.program.specs.Passed.{RulesPass}
 use Rattle.machine.proofs.Readable.{referring, Follows, back-follows, read-follows}
 use Rattle.machine.proofs.Readings.{plan-follows}
 use Rattle.machine.proofs.Direct.{own-refers, hop-refers}

@@ -3,7 +3,7 @@ use mathlib.Core.List.{List}
 use Prim.Native.Nat.{ℕ}
 use Rattle.register.specs.declared.Sizes.{Sizes}
 use Rattle.register.specs.declared.cells.Cell.{Cell}
-use Rattle.text_rules.specs.Program.{Step}
+use Rattle.program.specs.Program.{Step}
 use Rattle.machine_messages.specs.Counts.{exchanges, messages}
 use Rattle.machine_messages.specs.declared.Machine.{Machine}
 use Rattle.machine_messages.specs.declared.Machine.the-variants.{Direct, Messages}

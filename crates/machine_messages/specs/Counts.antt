@@ -8,7 +8,7 @@ use Rattle.register.specs.declared.Sizes.{Sizes}
 use Rattle.register.specs.declared.cells.Cell.{Cell}
 use Rattle.register.specs.declared.cells.Cell.the-variants.{Missing, Value}
 use Rattle.plan_theory.specs.Plan.{Fact, read, round}
-use Rattle.text_rules.specs.Program.{Rule, Step, readings, stepPlan, hasRemote}
+use Rattle.program.specs.Program.{Rule, Step, readings, stepPlan, hasRemote}
 use Rattle.machine.specs.Remote.{recordMessages}
 use Rattle.machine.specs.Run.{Reader}
 use Rattle.machine_messages.specs.Held.{Held, knows, heldAfter}

@@ -5,8 +5,8 @@ use mathlib.Core.List.{List, [], _∷_, map}
 use native.Mathlib.Omega.{arith}
 use borrow.Author.Tests.{lt-ltb, le-ltb}
 use lib.ListN.{length, getD}
-use Rattle.register.specs.Outcome.{Outcome, refused, unless, after}
-use Rattle.register.specs.Outcome as O
+use Rattle.laws.specs.Outcome.{Outcome, refused, unless, after}
+use Rattle.laws.specs.Outcome as O
 use Rattle.register.specs.Load.{load, refusalNumber}
 use Rattle.register.specs.declared.Sizes.{Sizes}
 use Rattle.register.specs.declared.Refusal.{Refusal}
@@ -16,15 +16,16 @@ use Rattle.plan_lines.specs.Held.{Holds}
 use Rattle.plan_lines.specs.declared.Plan.{Plan}
 use Rattle.plan_lines.proofs.Adding.{holds-facts}
 use Rattle.plan_lines.proofs.Appending.{holds-count}
-use Rattle.text_rules.specs.declared.around.Setting.the-variants.{Single}
-use Rattle.text_rules.specs.Program.{Step, Program, mostLines, stepPlan}
+use Rattle.program.specs.declared.setting.Setting.the-variants.{Single}
+use Rattle.program.specs.Program.{Step, Program, mostLines, stepPlan}
 use Rattle.text_rules.specs.Text.{lines, start, readFrom, textProgram, check, rulesAt, Planned, planned, planOfStep}
-use Rattle.text_reader.specs.Kept.{programOf, Framed, outcomeOf, Answers}
+use Rattle.program.specs.Kept.{programOf, Framed}
+use Rattle.text_reader.specs.Answers.{outcomeOf, Answers}
 use Rattle.op_check.specs.StepPlan.{zip, linesOf, planOutcome, PlanAnswers, StepFound, RefusedPlan}
-use Rattle.text_state.specs.declared.state.Frame.{Frame}
+use Rattle.program.specs.declared.frame.Frame.{Frame}
 use Rattle.text_reader.specs.declared.Checked.{Checked}
 use Rattle.op_check.specs.declared.step.StepPlan.{StepPlan}
-use Rattle.text_reader.proofs.Keeping.{frame-at}
+use Rattle.program.proofs.Frames.{frame-at}
 use Rattle.text_reader.proofs.Reading.{refuse-none}
 
 -- 6, and any other text

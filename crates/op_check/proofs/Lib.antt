@@ -2,3 +2,4 @@
 pub mod Checks
 pub mod Passed
 pub mod Room
+pub mod Least

@@ -4,12 +4,13 @@ use mathlib.Core.Path.{_≡_, subst}
 use mathlib.Core.List.{List, [], _∷_}
 use native.Mathlib.Omega.{arith}
 use lib.ListN.{length}
-use Rattle.register.specs.Outcome.{done}
+use Rattle.laws.specs.Outcome.{done}
 use Rattle.register.specs.File.{sizesOf}
 use Rattle.register.specs.declared.Sizes.{Sizes}
 use Rattle.register.proofs.Roundtrip.{Loads, loads}
-use Rattle.text_rules.specs.Program.{Rule, Program, mostLines, stepPlan}
-use Rattle.text_rules.specs.Passed.{Each, RulesPass, StepPasses, ProgramPasses}
+use Rattle.program.specs.Program.{Rule, Program, mostLines, stepPlan}
+use Rattle.laws.specs.Lists.{Each}
+use Rattle.program.specs.Passed.{RulesPass, StepPasses, ProgramPasses}
 use Rattle.text_rules.specs.Text.{check, rulesAt}
 use Rattle.text_rules.proofs.Passing.{check-passes}
 

@@ -4,7 +4,7 @@ use mathlib.Core.Path.{_≡_}
 use mathlib.Core.Bool.{false}
 use borrow.Author.Tests.{ltb-false}
 use lib.Dec.{ltb}
-use Rattle.integers.proofs.Bools.{or-neither}
+use Rattle.laws.proofs.Bools.{or-neither}
 use Rattle.machine.specs.Run.{isShort}
 
 pub room : (k values marks : ℕ) → isShort k values marks ≡ false → (k ≤ values) × (k ≤ marks)

@@ -2,11 +2,11 @@
 use Prim.Native.Nat.{ℕ}
 use mathlib.Core.Path.{_≡_}
 use mathlib.Core.List.{List, [], _∷_}
-use Rattle.register.specs.Outcome.{Outcome, done, unless}
+use Rattle.laws.specs.Outcome.{Outcome, done, unless}
 use Rattle.plan_theory.specs.Plan.{Fact}
 use Rattle.plan_lines.specs.Held.{facts, Holds}
 use Rattle.plan_lines.specs.declared.Plan.{Plan}
-use Rattle.text_rules.specs.Program.{Rule, Program, mostLines, stepPlan}
+use Rattle.program.specs.Program.{Rule, Program, mostLines, stepPlan}
 use Rattle.text_rules.specs.Text.{check, rulesAt, Planned}
 use Rattle.op_check.specs.declared.step.StepPlan.{StepPlan}
 

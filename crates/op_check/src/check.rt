@@ -1,9 +1,9 @@
 // Document 01's check of a rules text: the register first, then the text.
 ghost use Prim.Native.Nat.{_≤_};
 ghost use Rattle.register.specs.Shape.{Limits};
-ghost use Rattle.register.specs.Outcome.{refused as refusedWith};
+ghost use Rattle.laws.specs.Outcome.{refused as refusedWith};
 ghost use Rattle.text_rules.specs.Text.{textProgram, check as checkOf};
-ghost use Rattle.text_reader.specs.Kept.{Answers};
+ghost use Rattle.text_reader.specs.Answers.{Answers};
 use register::LoadAnswer;
 use register::Sizes;
 use text_reader::Checked;

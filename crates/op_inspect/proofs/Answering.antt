@@ -6,11 +6,11 @@ use mathlib.Core.List.{List}
 use native.Mathlib.Omega.{arith}
 use native.Mathlib.Nat.{mul-le-mul-right}
 use lib.IntN.{ℤ}
-use Rattle.register.specs.Outcome.{Outcome, done, refused, after}
+use Rattle.laws.specs.Outcome.{Outcome, done, refused, after}
 use Rattle.register.specs.File.{sizesOf}
 use Rattle.register.specs.declared.Sizes.{Sizes}
 use Rattle.plan_theory.specs.Plan.{Fact}
-use Rattle.text_rules.specs.Program.{Rule, Program, mostLines, stepPlan}
+use Rattle.program.specs.Program.{Rule, Program, mostLines, stepPlan}
 use Rattle.text_rules.specs.Text.{check, rulesAt, planOfStep}
 use Rattle.machine.specs.Run.{scratch, isShort}
 use Rattle.op_check.proofs.Room.{room}

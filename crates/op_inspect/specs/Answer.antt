@@ -4,7 +4,7 @@ use mathlib.Core.List.{List}
 use Prim.Native.Nat.{ℕ}
 use lib.IntN.{ℤ}
 use lib.ListN.{length}
-use Rattle.register.specs.Outcome.{Outcome, done, refused}
+use Rattle.laws.specs.Outcome.{Outcome, done, refused}
 use Rattle.register.specs.File.{sizesOf, cellsOfFile}
 use Rattle.plan_theory.specs.Plan.{Fact}
 use Rattle.op_show.specs.Shown.{Shown}

@@ -2,10 +2,10 @@
 use mathlib.Core.Bool.{cond}
 use mathlib.Core.List.{List}
 use Prim.Native.Nat.{ℕ}
-use Rattle.register.specs.Outcome.{Outcome, done, refused, after}
+use Rattle.laws.specs.Outcome.{Outcome, done, refused, after}
 use Rattle.register.specs.File.{sizesOf}
 use Rattle.plan_theory.specs.Plan.{Fact}
-use Rattle.text_rules.specs.Program.{Program, mostLines, stepPlan}
+use Rattle.program.specs.Program.{Program, mostLines, stepPlan}
 use Rattle.text_rules.specs.Text.{check, rulesAt}
 use Rattle.machine.specs.Run.{scratch, isShort}
 

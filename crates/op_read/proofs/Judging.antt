@@ -7,10 +7,11 @@ use mathlib.Core.List.{List, [], _∷_}
 use native.Mathlib.Omega.{arith}
 use lib.Dec.{ltb}
 use lib.ListN.{length}
-use Rattle.register.specs.Outcome.{Outcome, done, refused, unless}
+use Rattle.laws.specs.Outcome.{Outcome, done, refused, unless}
 use Rattle.register.specs.Shape.{Limits}
 use Rattle.register.specs.declared.Sizes.{Sizes}
-use Rattle.chain_text.specs.Text.{Form, formed, unformed, form, names, every, innerReferences, lettersRefusal, wordOf}
+use Rattle.chain_text.specs.Text.{Form, formed, unformed, form, names, innerReferences, lettersRefusal, wordOf}
+use Rattle.laws.specs.Lists.{every}
 use Rattle.chain_text.specs.Scan.{summary, scanned, chainEnd}
 use Rattle.op_read.specs.Reading.{judgedOf, chainOutcome, refusalNumber, wordOfForm}
 use Rattle.chain_text.specs.declared.letters.Letters.{Letters}

@@ -4,7 +4,7 @@ use mathlib.Core.Path.{_≡_, refl, ap, _∙_, subst}
 use mathlib.Core.List.{List, [], _∷_}
 use native.Mathlib.Omega.{arith}
 use borrow.Author.Tests.{lt-ltb, le-ltb}
-use Rattle.register.specs.Outcome.{Outcome, done, refused, unless, after}
+use Rattle.laws.specs.Outcome.{Outcome, done, refused, unless, after}
 use Rattle.register.specs.File.{cellsOfFile}
 use Rattle.register.specs.Load.{load}
 use Rattle.register.specs.declared.Sizes.{Sizes}

@@ -3,7 +3,7 @@ use Prim.Native.Nat.{ℕ}
 use mathlib.Core.Bool.{cond}
 use mathlib.Core.List.{List, [], _∷_}
 use lib.Dec.{ltb}
-use Rattle.register.specs.Outcome.{Outcome, done, refused, unless, after}
+use Rattle.laws.specs.Outcome.{Outcome, done, refused, unless, after}
 use Rattle.register.specs.File.{cellsOfFile}
 use Rattle.register.specs.Load.{load, refusalNumber as register-number}
 use Rattle.register.specs.declared.Sizes.{Sizes}

@@ -1,6 +1,6 @@
 // A single chain from its text, and its reading at a record.
 ghost use mathlib.Core.Path.{_≡_};
-ghost use Rattle.register.specs.Outcome.{done};
+ghost use Rattle.laws.specs.Outcome.{done};
 ghost use Rattle.register.specs.Load.{load};
 ghost use Rattle.register.specs.Shape.{Limits};
 ghost use Rattle.chain_text.specs.Text.{form};

@@ -8,13 +8,13 @@ use native.Mathlib.Omega.{arith}
 use borrow.Author.Tests.{eq-eqb, ne-eqb}
 use lib.IntN.{ℤ}
 use lib.ListN.{length}
-use Rattle.register.specs.Outcome.{Outcome, done, refused, after}
+use Rattle.laws.specs.Outcome.{Outcome, done, refused, after}
 use Rattle.register.specs.File.{sizesOf, cellsOfFile}
 use Rattle.register.specs.Shape.{Register}
 use Rattle.register.specs.declared.Sizes.{Sizes}
 use Rattle.register.specs.declared.cells.Cell.{Cell}
 use Rattle.register.proofs.Roundtrip.{Bytes, encode-decode, cells-valid}
-use Rattle.text_rules.specs.Program.{Program, mostLines}
+use Rattle.program.specs.Program.{Program, mostLines}
 use Rattle.text_rules.specs.Text.{check}
 use Rattle.machine.specs.Run.{Ending, complete, spent, offended, Run, direct, run, scratch, isShort}
 use Rattle.op_check.proofs.Passed.{loaded}

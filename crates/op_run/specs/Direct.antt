@@ -4,9 +4,9 @@ use mathlib.Core.List.{List}
 use Prim.Native.Nat.{ℕ}
 use lib.Dec.{eqb}
 use lib.ListN.{length}
-use Rattle.register.specs.Outcome.{Outcome, done, refused, after}
+use Rattle.laws.specs.Outcome.{Outcome, done, refused, after}
 use Rattle.register.specs.File.{sizesOf, cellsOfFile}
-use Rattle.text_rules.specs.Program.{Program, mostLines}
+use Rattle.program.specs.Program.{Program, mostLines}
 use Rattle.text_rules.specs.Text.{check}
 use Rattle.machine.specs.Run.{Run, direct, run, scratch, isShort}
 

@@ -13,7 +13,7 @@ use Rattle.register.specs.declared.Sizes.{Sizes}
 use Rattle.register.specs.declared.cells.Cell.{Cell}
 use Rattle.register.proofs.Loading.{file-parts}
 use Rattle.plan_theory.specs.Plan.{Fact, round, line}
-use Rattle.plan_theory.specs.Cases.{lt-or-le}
+use Rattle.laws.proofs.Cases.{lt-or-le}
 use Rattle.machine_messages.proofs.Settling.{held-settled, held-before}
 use Rattle.scratch.proofs.Placed.{kept-again}
 use Rattle.gather_exchanges.specs.Exchanged.{ExchangedTo, Cleared}

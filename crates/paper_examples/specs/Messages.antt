@@ -7,7 +7,7 @@ use Rattle.register.specs.declared.Sizes.{Sizes}
 use Rattle.register.specs.declared.cells.Cell.{Cell}
 use Rattle.chain.specs.Word.{isReference, column, cell}
 use Rattle.plan_theory.specs.Plan.{Fact, back, read, round, rounds, tree, tree-within, half, doubled, front, rest, plan, add, add-readings, lines, listed, place}
-use Rattle.text_rules.specs.Program.{Step, Program, stepPlan, readings, ruleReadings, actionReadings, testReadings, termReadings, isRemote, hasRemote}
+use Rattle.program.specs.Program.{Step, Program, stepPlan, readings, ruleReadings, actionReadings, testReadings, termReadings, isRemote, hasRemote}
 use Rattle.machine.specs.Run.{Run, run}
 use Rattle.machine_messages.specs.Held.{knows, writer, needed, written, sent, heldAfter}
 use Rattle.machine_messages.specs.Counts.{mostRounds, heldIn, byMessages, lineMessages, planMessages, stepExchanges, stepMessages, exchanges, messages}

@@ -4,8 +4,9 @@ use Prim.Native.String.{String}
 use mathlib.Core.Path.{_≡_, refl}
 use mathlib.Core.List.{List, [], _∷_, map}
 use lib.IntN.{pos, negsuc}
+use Rattle.laws.specs.Lists.{every}
 use Rattle.integers.specs.Range.{inRange}
-use Rattle.register.specs.Outcome.{Outcome, done, unless, after}
+use Rattle.laws.specs.Outcome.{Outcome, done, unless, after}
 use Rattle.chain_text.specs.Text as C
 use Rattle.chain_text.specs.Scan.{startsWith}
 use Rattle.plan_theory.specs.Plan.{plan, add-readings, add, lines as planLines, listed, place, same as sameFact, same-word, tree, tree-within, half, doubled, front, rest}
@@ -15,14 +16,14 @@ use Rattle.text_forms.specs.Token.{capital, then, word, or, finished}
 use Rattle.text_forms.specs.Term.{ofNumber, ofChain, termForm}
 use Rattle.text_forms.specs.Line.{assigned, localForm, sent, remoteForm, actionForm, ruleOf, compared, testedForm, lineForm}
 use Rattle.text_forms.specs.Parts.{numbersInRange, termInRange, short, termShort, kinded, kindsAgree, actionKinds, areMeasures, conditionKinds, same, isReferenceTerm, termKinded, named, fieldNamed, termNamed, target, everyTerm, terms, actionTerms, conditionTerms}
-use Rattle.text_rules.specs.Check.{lineRefusal, planFits, sortsAgree, oneSort, someAction, isTotal, isLeast, hasRoom, inPlace, openRules, isOpen, isUsed, isOutside}
-use Rattle.text_rules.specs.Program.{reading, constant, always, Action, set, sum, total, Rule, Step, Program, stepPlan, readings, ruleReadings, actionReadings, testReadings, termReadings}
+use Rattle.text_rules.specs.Check.{lineRefusal, planFits, sortsAgree, oneSort, hasRoom, inPlace, openRules, isOpen, isUsed, isOutside}
+use Rattle.program.specs.Program.{someAction, isTotal, isLeast, reading, constant, always, Action, set, sum, total, Rule, Step, Program, stepPlan, readings, ruleReadings, actionReadings, testReadings, termReadings}
 use Rattle.text_rules.specs.Text.{textProgram, readFrom, start, closed, lineOutcome, advance, settingIn, withStep, actionOf, testOf, termOf, pieceForm, lines, onto}
-use Rattle.text_rules.specs.declared.around.Setting.the-variants.{Single}
+use Rattle.program.specs.declared.setting.Setting.the-variants.{Single}
 
 -- the program of a text over a register of n records with the fields A and M
 unfoldable pub programOf : ℕ → String → Outcome Program
-unfolding textProgram readFrom start closed lineOutcome advance settingIn withStep actionOf testOf termOf pieceForm lines onto after unless lineRefusal planFits sortsAgree oneSort someAction isTotal isLeast hasRoom inPlace openRules isOpen isUsed isOutside numbersInRange termInRange short termShort kinded kindsAgree actionKinds areMeasures conditionKinds same isReferenceTerm termKinded named fieldNamed termNamed target everyTerm terms actionTerms conditionTerms lineForm testedForm compared ruleOf actionForm remoteForm sent localForm assigned termForm ofChain ofNumber capital then word or finished isDigit digits decimal isNumeral signedForm numberForm numberValue signedValue inRange startsWith C.isCapital C.closed C.form C.fieldOf C.isReferenceLetter C.names C.every C.innerReferences C.wordOf stepPlan readings ruleReadings actionReadings testReadings termReadings plan add-readings add planLines listed place sameFact same-word tree tree-within half doubled front rest
+unfolding textProgram readFrom start closed lineOutcome advance settingIn withStep actionOf testOf termOf pieceForm lines onto after unless lineRefusal planFits sortsAgree oneSort someAction isTotal isLeast hasRoom inPlace openRules isOpen isUsed isOutside numbersInRange termInRange short termShort kinded kindsAgree actionKinds areMeasures conditionKinds same isReferenceTerm termKinded named fieldNamed termNamed target everyTerm terms actionTerms conditionTerms lineForm testedForm compared ruleOf actionForm remoteForm sent localForm assigned termForm ofChain ofNumber capital then word or finished isDigit digits decimal isNumeral signedForm numberForm numberValue signedValue inRange startsWith C.isCapital C.closed C.form C.fieldOf C.isReferenceLetter C.names every C.innerReferences C.wordOf stepPlan readings ruleReadings actionReadings testReadings termReadings plan add-readings add planLines listed place sameFact same-word tree tree-within half doubled front rest
 programOf n t = textProgram (record { records = n; references = 1; measures = 1 }) (bytes t)
 
 -- a rule without a test, and a step of such rules outside loops

@@ -5,13 +5,14 @@ use mathlib.Core.List.{List, [], _∷_, map}
 use lib.IntN.{pos}
 use Rattle.integers.specs.Bytes.{word, wordAt, wordBytes, valueAt, valueBytes}
 use Rattle.integers.specs.Range.{eqZ, isIndex}
-use Rattle.register.specs.Outcome.{done, unless, after, orElse, first}
+use Rattle.laws.specs.Outcome.{done, unless, after, orElse, first}
 use Rattle.register.specs.Cells.{valueOf, markOf, cellOf, cellsOf, valuesOf, marksOf}
 use Rattle.register.specs.File.{width, cellCount, cellIndex, sizesOf, valuesPart, marksPart, cellsOfFile, fileOf}
 use Rattle.register.specs.Load.{withinLimits, cellRefusal, refusalAt, recordRefusal, cellsRefusal, loadSized, load}
 use Rattle.register.specs.declared.cells.Cell.the-variants.{Missing, Value}
 use Rattle.chain.specs.Word.{isReference, column, cell, hop, follow, valueAtRecord}
-use Rattle.chain_text.specs.Text.{isCapital, closed, form, fieldOf, isReferenceLetter, names, every, innerReferences, lettersRefusal, wordOf}
+use Rattle.chain_text.specs.Text.{isCapital, closed, form, fieldOf, isReferenceLetter, names, innerReferences, lettersRefusal, wordOf}
+use Rattle.laws.specs.Lists.{every}
 use Rattle.op_read.specs.Reading.{wordOfForm, atRecord, readingLoaded, reading}
 use Rattle.paper_examples.specs.Printed.{printedSizes, printedCells, printedFile}
 

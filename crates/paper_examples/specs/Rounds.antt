@@ -5,7 +5,7 @@ use mathlib.Core.List.{List, [], _∷_}
 use native.Mathlib.Omega.{arith}
 use lib.ListN.{length, getD, replicate, length-replicate}
 use Rattle.plan_theory.specs.Plan.{back, read, round, rounds, tree, tree-within, half, doubled, front, rest, plan, result, add, add-readings, lines, listed, place, same, same-word}
-use Rattle.plan_theory.specs.Least.{round-length}
+use Rattle.plan_theory.proofs.Least.{round-length}
 
 -- g 0, g 1, up to g (n - 1)
 unfoldable pub tabulate : (ℕ → ℕ) → ℕ → List ℕ

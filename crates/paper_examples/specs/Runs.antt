@@ -10,7 +10,7 @@ use Rattle.register.specs.declared.Sizes.{Sizes}
 use Rattle.register.specs.declared.cells.Cell.{Cell}
 use Rattle.register.specs.declared.cells.Cell.the-variants.{Missing, Value}
 use Rattle.chain.specs.Word.{isReference, column, cell, hop, follow, valueAtRecord}
-use Rattle.text_rules.specs.Program.{Step, Program, fieldOf}
+use Rattle.program.specs.Program.{Step, Program, fieldOf}
 use Rattle.machine.specs.Value.{both, termValue, holds, cellInRange}
 use Rattle.machine.specs.Local.{sumCell, formed, stored, store, localRule, localRules, localRecords, offends, sumOffends}
 use Rattle.machine.specs.Remote.{sentTo, actionMessages, ruleMessages, messages, recordMessages, increased, merged, deliver, deliverAll}

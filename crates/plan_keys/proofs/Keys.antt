@@ -9,8 +9,8 @@ use lib.ListN.{length}
 use Rattle.chain.specs.Word.{pack, unpack}
 use Rattle.chain.proofs.Packing.{pack-unpack}
 use Rattle.plan_theory.specs.Plan.{half, front as frontOf, rest as restOf, back, read, word, hops, line-from}
-use Rattle.plan_theory.specs.Half.{half-pos, half-below}
-use Rattle.plan_theory.specs.Cases.{lt-or-le}
+use Rattle.plan_theory.proofs.Half.{half-pos, half-below}
+use Rattle.laws.proofs.Cases.{lt-or-le}
 use Rattle.plan_keys.specs.Keys.{fact-of}
 use Rattle.plan_keys.proofs.Words.{hops-none, hops-one, hops-pos, hops-two, split-small}
 

@@ -8,8 +8,8 @@ use lib.Dec.{ltb}
 use lib.ListN.{length, length-append}
 use borrow.Author.Tests.{lt-ltb, le-ltb, ltb-true, ltb-false}
 use Rattle.plan_theory.specs.Plan.{Fact, read, hops, line-from, back-need, read-need, place, add, plan}
-use Rattle.plan_theory.specs.Facts.{back-need-shorter, read-need-shorter}
-use Rattle.plan_theory.specs.Lines.{add-one, add-both, Next, grows-length, add-grows, add-next, plan-more}
+use Rattle.plan_theory.proofs.Facts.{back-need-shorter, read-need-shorter}
+use Rattle.plan_theory.proofs.Lines.{add-one, add-both, Next, grows-length, add-grows, add-next, plan-more}
 use Rattle.plan_keys.specs.Keys.{fact-of, NeedsOf}
 use Rattle.plan_lines.specs.Held.{facts, settled, Holds, Extended, ExtendedTo, AddedTo}
 use Rattle.plan_lines.specs.declared.Plan.{Plan}

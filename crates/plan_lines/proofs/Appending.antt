@@ -11,11 +11,11 @@ use lib.Seq.{take-suc-set, getD-set-same, getD-set-other}
 use borrow.Author.Tests.{lt-ltb}
 use Rattle.plan_theory.specs.Plan.{Fact, hops, line-from, back-need, read-need, round, place, line}
 use Rattle.plan_theory.specs.Promise.{Stands}
-use Rattle.plan_theory.specs.Cases.{lt-or-le}
-use Rattle.plan_theory.specs.Facts.{round-none, round-one, round-both, round-hops, back-need-shorter, read-need-shorter}
-use Rattle.plan_theory.specs.Places.{place-line, place-append-listed}
-use Rattle.plan_theory.specs.Lines.{Had, Next}
-use Rattle.plan_theory.specs.Kept.{Ordered, ordered-append, lines-append}
+use Rattle.laws.proofs.Cases.{lt-or-le}
+use Rattle.plan_theory.proofs.Facts.{round-none, round-one, round-both, round-hops, back-need-shorter, read-need-shorter}
+use Rattle.plan_theory.proofs.Places.{place-line, place-append-listed}
+use Rattle.plan_theory.proofs.Lines.{Had, Next}
+use Rattle.plan_theory.proofs.Kept.{Ordered, ordered-append, lines-append}
 use Rattle.plan_keys.specs.Keys.{fact-of}
 use Rattle.plan_lines.specs.Held.{facts-in, index, need-index, Column, Holds, LineOf, Ready, ExtendedTo}
 use Rattle.plan_lines.specs.declared.Plan.{Plan}

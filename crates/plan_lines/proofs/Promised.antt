@@ -7,10 +7,10 @@ use native.Mathlib.Omega.{arith}
 use lib.ListN.{length}
 use Rattle.plan_theory.specs.Plan.{Fact, read, word, hops, back-need, read-need, round, place, plan, last-round, line}
 use Rattle.plan_theory.specs.Promise.{Stands, Promise}
-use Rattle.plan_theory.specs.Cases.{lt-or-le}
-use Rattle.plan_theory.specs.Facts.{rest-length}
-use Rattle.plan_theory.specs.Places.{place-line}
-use Rattle.plan_theory.specs.Kept.{plan-promise}
+use Rattle.laws.proofs.Cases.{lt-or-le}
+use Rattle.plan_theory.proofs.Facts.{rest-length}
+use Rattle.plan_theory.proofs.Places.{place-line}
+use Rattle.plan_theory.proofs.Kept.{plan-promise}
 use Rattle.plan_lines.specs.Held.{index, need-index, line-at, Holds}
 use Rattle.plan_lines.specs.Promised.{fact-at, Serves, LinePromise, HasLine, Promised}
 use Rattle.plan_lines.specs.declared.Plan.{Plan}

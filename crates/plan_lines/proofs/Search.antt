@@ -7,7 +7,7 @@ use native.Mathlib.Omega.{arith}
 use lib.ListN.{length, getD, take, length-map}
 use lib.Seq.{length-take-le, getD-take}
 use Rattle.plan_theory.specs.Plan.{read, place, line}
-use Rattle.plan_theory.specs.Places.{place-le, place-at, place-past}
+use Rattle.plan_theory.proofs.Places.{place-le, place-at, place-past}
 use Rattle.plan_keys.specs.Keys.{fact-of}
 use Rattle.plan_lines.specs.Held.{facts-in}
 use Rattle.plan_keys.proofs.Keys.{fact-injective}

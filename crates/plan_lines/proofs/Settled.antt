@@ -9,10 +9,10 @@ use lib.Dec.{ltb}
 use lib.ListN.{length}
 use borrow.Author.Tests.{lt-ltb, le-ltb, ltb-true, ltb-false}
 use Rattle.plan_theory.specs.Plan.{Fact, hops, line-from, place, listed, add}
-use Rattle.plan_theory.specs.Cases.{lt-or-le}
-use Rattle.plan_theory.specs.Places.{place-line}
-use Rattle.plan_theory.specs.Lines.{listed-old, listed-new, add-none, add-listed}
-use Rattle.plan_theory.specs.Kept.{Ordered}
+use Rattle.laws.proofs.Cases.{lt-or-le}
+use Rattle.plan_theory.proofs.Places.{place-line}
+use Rattle.plan_theory.proofs.Lines.{listed-old, listed-new, add-none, add-listed}
+use Rattle.plan_theory.proofs.Kept.{Ordered}
 use Rattle.plan_lines.specs.Held.{settled, index, found, need-index}
 use Rattle.plan_lines.specs.declared.Found.the-variants.{At, Nothing}
 

@@ -6,8 +6,8 @@ use Prim.Native.Nat.{ℕ, _≤_, _<_}
 use lib.Dec.{ltb}
 use lib.ListN.{length, getD, take}
 use Rattle.plan_theory.specs.Plan.{Fact, hops, line-from, back-need, read-need, round, place, listed, last-round, line}
-use Rattle.plan_theory.specs.Lines.{Next}
-use Rattle.plan_theory.specs.Kept.{Ordered}
+use Rattle.plan_theory.proofs.Lines.{Next}
+use Rattle.plan_theory.proofs.Kept.{Ordered}
 use Rattle.plan_keys.specs.Keys.{fact-of, NeedsOf}
 use Rattle.plan_lines.specs.declared.Plan.{Plan}
 use Rattle.plan_lines.specs.declared.Added.{Added}

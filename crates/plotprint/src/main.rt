@@ -4,7 +4,7 @@ ghost use Prim.Native.Nat.{_≤_};
 ghost use lib.ListN.{length};
 ghost use Rattle.io.specs.Counts.{Counts};
 ghost use Rattle.register.specs.Load.{load as loadOf};
-ghost use Rattle.register.specs.Outcome.{done};
+ghost use Rattle.laws.specs.Outcome.{done};
 ghost use Rattle.print_listing.specs.Room.{pageRoom};
 use libc::STDOUT_FILENO;
 use print_listing;

@@ -7,16 +7,17 @@ use native.Mathlib.Omega.{arith}
 use native.Mathlib.Nat.{mul-le-mul-left}
 use borrow.Author.Tests.{ltb-true, le-ltb}
 use lib.ListN.{length}
-use Rattle.integers.proofs.Bools.{and-both}
-use Rattle.register.specs.Outcome.{Outcome, done, refused, after}
+use Rattle.laws.proofs.Bools.{and-both}
+use Rattle.laws.specs.Outcome.{Outcome, done, refused, after}
 use Rattle.register.specs.File.{width, cellCount, sizesOf}
 use Rattle.register.specs.declared.Sizes.{Sizes}
 use Rattle.register.proofs.Bounds.{limits}
 use Rattle.chain.specs.Word.{readable, Passes}
 use Rattle.plan_theory.specs.Plan.{read, add-readings, plan}
-use Rattle.plan_theory.specs.Lines.{add-none}
-use Rattle.text_rules.specs.Program.{Program, readings, stepPlan, mostLines}
-use Rattle.text_rules.specs.Passed.{Each, StepPasses}
+use Rattle.plan_theory.proofs.Lines.{add-none}
+use Rattle.program.specs.Program.{Program, readings, stepPlan, mostLines}
+use Rattle.laws.specs.Lists.{Each}
+use Rattle.program.specs.Passed.{StepPasses}
 use Rattle.text_rules.specs.Text.{check}
 use Rattle.machine.specs.Run.{scratch, isShort}
 use Rattle.machine.proofs.Readings.{readings-pass}

@@ -3,7 +3,7 @@ use mathlib.Core.Path.{_≡_}
 use mathlib.Core.List.{List}
 use Prim.Native.Nat.{ℕ}
 use lib.IntN.{ℤ}
-use Rattle.register.specs.Outcome.{Outcome, done, after}
+use Rattle.laws.specs.Outcome.{Outcome, done, after}
 use Rattle.register.specs.File.{sizesOf, cellsOfFile}
 use Rattle.text_rules.specs.Text.{check}
 use Rattle.machine.specs.Run.{Run, direct, run}

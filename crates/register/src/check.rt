@@ -2,7 +2,7 @@
 ghost use mathlib.Core.Path.{_≡_};
 ghost use Prim.Native.Nat.{_+_, _*_, _≤_, _<_};
 ghost use lib.Dec.{ltb};
-ghost use Rattle.register.specs.Outcome.{first};
+ghost use Rattle.laws.specs.Outcome.{first};
 ghost use Rattle.register.specs.File.{width};
 ghost use Rattle.register.specs.Load.{cellRefusal, refusalAt, recordRefusal, cellsRefusal, checkNumber};
 ghost use Rattle.register.specs.Shape.{Parts, Fields};

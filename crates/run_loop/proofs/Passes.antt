@@ -8,8 +8,8 @@ use lib.IntN.{ℤ}
 use Rattle.register.specs.declared.Sizes.{Sizes}
 use Rattle.register.specs.declared.cells.Cell.{Cell}
 use Rattle.chain.specs.Word.{cell}
-use Rattle.text_rules.specs.declared.around.Setting.{Setting}
-use Rattle.text_rules.specs.declared.around.Setting.the-variants.{Single, Looped}
+use Rattle.program.specs.declared.setting.Setting.{Setting}
+use Rattle.program.specs.declared.setting.Setting.the-variants.{Single, Looped}
 use Rattle.machine.specs.Run.{begins}
 use Rattle.scratch.specs.Places.{StoredFrom}
 use Rattle.run_loop.specs.Column.{SameAs, Entered, NextIs}

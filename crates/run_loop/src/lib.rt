@@ -8,16 +8,16 @@ ghost use Rattle.register.specs.Cells.{cellsOf};
 ghost use Rattle.register.specs.File.{cellCount, cellsOfFile};
 ghost use Rattle.register.specs.Shape.{Limits, Parts};
 ghost use Rattle.chain.specs.Word.{hasField};
-ghost use Rattle.text_rules.specs.Passed.{SettingPasses};
+ghost use Rattle.program.specs.Passed.{SettingPasses};
 ghost use Rattle.machine.specs.Run.{sameCell as sameCellOf, begins};
 ghost use Rattle.run_loop.specs.Column.{Space, HasColumn, SameAs, HasPass, Entered, NextIs};
 use chain::follow;
+use program::setting::Setting;
 use register::Sizes;
 use register::cells;
 use register::cells::Cell;
 use scratch;
 use scratch::column;
-use text_rules::around::Setting;
 
 // "The same, values and marks".
 fn same_cell(x: Cell, y: Cell) -> bool

@@ -6,14 +6,14 @@ use mathlib.Core.List.{List, [], _∷_}
 use native.Mathlib.Omega.{arith}
 use lib.ListN.{length, getD, take, drop, length-drop}
 use lib.Seq.{drop-drop, getD-take, getD-drop, length-take-le}
-use Rattle.text_local.specs.declared.rule.Slot.{Slot}
-use Rattle.text_rules.specs.declared.around.Setting.the-variants.{Single}
-use Rattle.text_rules.specs.Program.{Step, Program}
-use Rattle.text_plan.specs.Stored.{rulesIn}
-use Rattle.text_state.specs.declared.state.Frame.{Frame}
-use Rattle.text_reader.specs.Kept.{stepsIn, programOf, FrameOf, Complete}
-use Rattle.text_reader.specs.declared.Program as R
-use Rattle.text_reader.proofs.Keeping.{frame-at}
+use Rattle.program.specs.declared.rule.Slot.{Slot}
+use Rattle.program.specs.declared.setting.Setting.the-variants.{Single}
+use Rattle.program.specs.Program.{Step, Program}
+use Rattle.program.specs.Stored.{rulesIn}
+use Rattle.program.specs.declared.frame.Frame.{Frame}
+use Rattle.program.specs.Kept.{stepsIn, programOf, FrameOf, Complete}
+use Rattle.program.specs.declared.Program as R
+use Rattle.program.proofs.Frames.{frame-at}
 
 -- what a place behind the last frame would hold
 abbrev pub noFrame : Frame

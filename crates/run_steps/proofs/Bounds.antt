@@ -7,7 +7,7 @@ use native.Mathlib.Omega.{arith}
 use lib.ListN.{length, length-append}
 use Rattle.register.specs.declared.cells.Cell.{Cell}
 use Rattle.register.specs.declared.cells.Cell.the-variants.{Missing, Value}
-use Rattle.text_rules.specs.Program.{Action, set, sum, difference, least, total, Rule}
+use Rattle.program.specs.Program.{Action, set, sum, difference, least, total, Rule}
 use Rattle.machine.specs.declared.message.Sort.{Sort}
 use Rattle.machine.specs.Value.{both, holds}
 use Rattle.machine.specs.Remote.{sentTo, actionMessages, ruleMessages, messages, recordMessages}

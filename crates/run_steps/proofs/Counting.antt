@@ -9,8 +9,8 @@ use Rattle.register.specs.Shape.{Valid}
 use Rattle.register.specs.declared.Sizes.{Sizes}
 use Rattle.register.specs.declared.cells.Cell.{Cell}
 use Rattle.plan_theory.specs.Plan.{Fact, last-round}
-use Rattle.text_rules.specs.Program.{Step, readings, stepPlan, hasRemote}
-use Rattle.text_rules.specs.Passed.{RulesPass}
+use Rattle.program.specs.Program.{Step, readings, stepPlan, hasRemote}
+use Rattle.program.specs.Passed.{RulesPass}
 use Rattle.machine.specs.Remote.{recordMessages}
 use Rattle.machine.specs.Run.{direct}
 use Rattle.machine.proofs.Running.{Trace}

@@ -8,13 +8,14 @@ use lib.ListN.{length, getD, take, drop, set, length-take}
 use lib.Seq.{getD-take, split-at}
 use Rattle.register.specs.declared.Sizes.{Sizes}
 use Rattle.plan_theory.specs.Plan.{Fact}
-use Rattle.text_local.specs.declared.rule.Rule.{Rule}
-use Rattle.text_local.specs.declared.rule.Rule.the-variants.{Set, Sum, Difference, Least, Total}
-use Rattle.text_local.specs.declared.rule.Slot.{Slot}
-use Rattle.text_rules.specs.Program.{isRemote, hasRemote}
-use Rattle.text_rules.specs.Passed.{Each, RulePasses, RulesPass}
-use Rattle.text_rules.proofs.Checked.{each-back}
-use Rattle.text_plan.specs.Stored.{actionOf, ruleOf, rulesIn}
+use Rattle.program.specs.declared.rule.Rule.{Rule}
+use Rattle.program.specs.declared.rule.Rule.the-variants.{Set, Sum, Difference, Least, Total}
+use Rattle.program.specs.declared.rule.Slot.{Slot}
+use Rattle.program.specs.Program.{isRemote, hasRemote}
+use Rattle.laws.specs.Lists.{Each}
+use Rattle.program.specs.Passed.{RulePasses, RulesPass}
+use Rattle.laws.proofs.Lists.{each-back}
+use Rattle.program.specs.Stored.{actionOf, ruleOf, rulesIn}
 use Rattle.step_locate.specs.Locate.{locatedRule, locatedSlot, LocatedTo, SlotShort}
 use Rattle.step_locate.proofs.Planned.{slot-short}
 use Rattle.step_locate.proofs.Slots.{located-more}

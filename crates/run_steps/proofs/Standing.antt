@@ -9,16 +9,16 @@ use native.Mathlib.Nat.{mul-comm, mul-add, mul-le-mul-right}
 use lib.IntN.{ℤ}
 use lib.ListN.{length, getD, drop}
 use lib.Seq.{drop-cons}
-use Rattle.integers.proofs.Bools.{true-false}
+use Rattle.laws.proofs.Bools.{true-false}
 use Rattle.register.specs.File.{width, cellCount, fileOf, cellsOfFile}
 use Rattle.register.specs.Shape.{Register}
 use Rattle.register.specs.declared.Sizes.{Sizes}
 use Rattle.register.specs.declared.cells.Cell.{Cell}
 use Rattle.register.proofs.Roundtrip.{decode-encode}
-use Rattle.text_rules.specs.declared.around.Setting.{Setting}
-use Rattle.text_rules.specs.declared.around.Setting.the-variants.{Single, Looped}
-use Rattle.text_rules.specs.Program.{Step, Program}
-use Rattle.text_rules.specs.Passed.{openBehind, ProgramPasses}
+use Rattle.program.specs.declared.setting.Setting.{Setting}
+use Rattle.program.specs.declared.setting.Setting.the-variants.{Single, Looped}
+use Rattle.program.specs.Program.{Step, Program}
+use Rattle.program.specs.Passed.{openBehind, ProgramPasses}
 use Rattle.machine.specs.Step.{stepCells}
 use Rattle.machine.specs.Run.{begins, goesOn, direct, scratch}
 use Rattle.machine.proofs.RunningPass.{openBefore}

@@ -14,13 +14,13 @@ use Rattle.register.specs.declared.cells.Cell.{Cell}
 use Rattle.register.specs.declared.cells.Cell.the-variants.{Missing}
 use Rattle.plan_lines.specs.Held.{facts}
 use Rattle.plan_lines.proofs.Appending.{holds-count}
-use Rattle.text_local.specs.declared.rule.Slot.{Slot}
-use Rattle.text_rules.specs.Program.{Rule, Step, Program, stepPlan, hasRemote, mostLines}
-use Rattle.text_rules.specs.Passed.{SettingPasses, StepPasses, ProgramPasses}
-use Rattle.text_plan.specs.Stored.{rulesIn}
-use Rattle.text_state.specs.declared.state.Frame.{Frame}
-use Rattle.text_reader.specs.Kept.{programOf, Complete}
-use Rattle.text_reader.specs.declared.Program as R
+use Rattle.program.specs.declared.rule.Slot.{Slot}
+use Rattle.program.specs.Program.{Rule, Step, Program, stepPlan, hasRemote, mostLines}
+use Rattle.program.specs.Passed.{SettingPasses, StepPasses, ProgramPasses}
+use Rattle.program.specs.Stored.{rulesIn}
+use Rattle.program.specs.declared.frame.Frame.{Frame}
+use Rattle.program.specs.Kept.{programOf, Complete}
+use Rattle.program.specs.declared.Program as R
 use Rattle.machine.specs.Remote.{recordMessages}
 use Rattle.machine.specs.Alike.{RulesAlike}
 use Rattle.machine.specs.Run.{direct}

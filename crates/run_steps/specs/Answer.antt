@@ -8,7 +8,7 @@ use lib.ListN.{length}
 use Rattle.register.specs.File.{width, fileOf, cellsOfFile}
 use Rattle.register.specs.declared.Sizes.{Sizes}
 use Rattle.register.specs.declared.cells.Cell.{Cell}
-use Rattle.text_rules.specs.Program.{Rule, Step, Program}
+use Rattle.program.specs.Program.{Rule, Step, Program}
 use Rattle.machine.specs.Step.{offendsAt}
 use Rattle.machine.specs.Run.{Ending, complete, spent, offended, Run, direct, run, scratch}
 use Rattle.machine_messages.specs.By.{exchangesBy, messagesBy}

@@ -4,13 +4,14 @@ ghost use mathlib.Core.Path.{_≡_};
 ghost use Rattle.register.specs.File.{cellsOfFile};
 ghost use Rattle.register.specs.Shape.{Register};
 ghost use Rattle.step_cells.specs.Work.{Holds};
-ghost use Rattle.text_rules.specs.Passed.{ProgramPasses};
-ghost use Rattle.text_reader.specs.Kept.{programOf, Complete};
+ghost use Rattle.program.specs.Passed.{ProgramPasses};
+ghost use Rattle.program.specs.Kept.{programOf, Complete};
 ghost use Rattle.run_steps.specs.Answer.{endedWith, stoppedAt, Scratch, Ends};
 use gather;
 use gather::counts;
 use gather::counts::Counts;
 use machine_messages::Machine;
+use program::Program;
 use register::Sizes;
 use run_loop;
 use step_cells;
@@ -19,7 +20,6 @@ use step_commit::Stop;
 use step_locate;
 use step_rules::local;
 use step_rules::remote;
-use text_reader::Program;
 
 // The refusal's number, 0 for none, with its line where it has one; the finished steps and what they count; for 21 the record and
 // the column where it happened.

@@ -19,7 +19,7 @@ use Rattle.register.specs.declared.cells.Cell.the-variants.{Missing, Value}
 use Rattle.machine.specs.Remote.{smaller, increased, merged}
 use Rattle.machine.specs.declared.message.Sort.{Sort}
 use Rattle.machine.specs.declared.message.Sort.the-variants.{Least, Total}
-use Rattle.machine.proofs.Folding.{cond-both}
+use Rattle.laws.proofs.Bools.{cond-both}
 use Rattle.scratch.specs.Places.{placeAt}
 use Rattle.scratch.proofs.Placed.{placeAt-missing, placeAt-value}
 use Rattle.step_cells.specs.Work.{Put}

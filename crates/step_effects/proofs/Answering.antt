@@ -11,18 +11,18 @@ use mir.Val.{toZ, ofZ}
 use Rattle.integers.specs.Range.{inRange, sumOf}
 use Rattle.integers.specs.declared.Sum.{Sum}
 use Rattle.integers.specs.declared.Sum.the-variants.{InRange, OutOfRange}
-use Rattle.integers.proofs.Bools.{true-false}
+use Rattle.laws.proofs.Bools.{true-false, cond-both}
 use Rattle.register.specs.declared.cells.Cell.{Cell}
 use Rattle.register.specs.declared.cells.Cell.the-variants.{Missing, Value}
-use Rattle.text_local.specs.declared.rule.Rule.{Rule}
-use Rattle.text_local.specs.declared.rule.Slot.{Slot}
-use Rattle.text_rules.specs.Program as P
-use Rattle.text_rules.specs.Program.{Action, isRemote, fieldOf}
-use Rattle.text_plan.specs.Stored.{testOf, actionOf, ruleOf}
+use Rattle.program.specs.declared.rule.Rule.{Rule}
+use Rattle.program.specs.declared.rule.Slot.{Slot}
+use Rattle.program.specs.Program as P
+use Rattle.program.specs.Program.{Action, isRemote, fieldOf}
+use Rattle.program.specs.Stored.{testOf, actionOf, ruleOf}
 use Rattle.machine.specs.Value.{holds, cellInRange}
 use Rattle.machine.specs.Local.{sumCell, formed, stored, offends}
 use Rattle.machine.specs.Remote.{actionMessages, ruleMessages}
-use Rattle.machine.proofs.Folding.{cond-both, ruleMessages-local}
+use Rattle.machine.proofs.Folding.{ruleMessages-local}
 use Rattle.step_effects.specs.Answers.{cellWrite, sumAnswer, sumWrite, writeStored, writeOf}
 use Rattle.step_effects.specs.declared.stored.Write.{Write}
 use Rattle.step_effects.specs.declared.stored.Write.the-variants as W

@@ -7,7 +7,7 @@ use Rattle.integers.specs.declared.Sum.{Sum}
 use Rattle.integers.specs.declared.Sum.the-variants.{InRange, OutOfRange}
 use Rattle.register.specs.declared.cells.Cell.{Cell}
 use Rattle.register.specs.declared.cells.Cell.the-variants.{Missing, Value}
-use Rattle.text_rules.specs.Program.{Rule, fieldOf}
+use Rattle.program.specs.Program.{Rule, fieldOf}
 use Rattle.machine.specs.declared.message.Message.{Message}
 use Rattle.machine.specs.Value.{holds, cellInRange}
 use Rattle.machine.specs.Local.{stored, offends}

@@ -3,9 +3,9 @@ pub mod sent;
 pub mod stored;
 
 ghost use mathlib.Core.Path.{_≡_};
-ghost use Rattle.text_rules.specs.Program.{isRemote};
-ghost use Rattle.text_plan.specs.Stored.{actionOf};
-use text_local::rule::Rule;
+ghost use Rattle.program.specs.Program.{isRemote};
+ghost use Rattle.program.specs.Stored.{actionOf};
+use program::rule::Rule;
 
 // Whether a rule is a remote write.
 fn is_remote(rule: Rule) -> bool

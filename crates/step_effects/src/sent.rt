@@ -4,19 +4,19 @@ ghost use Prim.Native.Nat.{_<_};
 ghost use Rattle.register.specs.Cells.{cellsOf};
 ghost use Rattle.register.specs.Shape.{Parts};
 ghost use Rattle.chain.specs.Word.{unpack};
-ghost use Rattle.text_plan.specs.Stored.{ruleOf, actionOf, termOf};
+ghost use Rattle.program.specs.Stored.{ruleOf, actionOf, termOf};
 ghost use Rattle.machine.specs.Value.{termValue};
 ghost use Rattle.machine.specs.Remote.{sentTo, ruleMessages};
 ghost use Rattle.step_terms.specs.Located.{located, ChainReaches, TermReaches, SlotReaches, Names, Points};
 ghost use Rattle.step_effects.specs.Answers.{messagesIn};
 use machine::message::Message;
 use machine::message::Sort;
+use program::rule::Rule;
+use program::rule::Slot;
+use program::term::Term;
 use register::Sizes;
 use register::cells::Cell;
 use step_terms::term;
-use text_local::rule::Rule;
-use text_local::rule::Slot;
-use text_terms::term::Term;
 
 // A rule sends nothing, or one message.
 pub enum Sent {

@@ -4,18 +4,18 @@ ghost use Prim.Native.Nat.{_<_};
 ghost use lib.IntN.{_+ℤ_, _-ℤ_};
 ghost use Rattle.register.specs.Cells.{cellsOf};
 ghost use Rattle.register.specs.Shape.{Parts};
-ghost use Rattle.text_plan.specs.Stored.{ruleOf, termOf};
+ghost use Rattle.program.specs.Stored.{ruleOf, termOf};
 ghost use Rattle.machine.specs.Value.{termValue};
 ghost use Rattle.machine.specs.Local.{sumCell};
 ghost use Rattle.step_terms.specs.Located.{located, TermReaches, SlotReaches};
 ghost use Rattle.step_effects.specs.Answers.{cellWrite, sumAnswer, sumWrite, writeOf};
 use integers::Sum;
+use program::rule::Rule;
+use program::rule::Slot;
+use program::term::Term;
 use register::Sizes;
 use register::cells::Cell;
 use step_terms::term;
-use text_local::rule::Rule;
-use text_local::rule::Slot;
-use text_terms::term::Term;
 
 // A rule stores nothing in its own record, makes a field missing or stores a value in it; or its sum for the field leaves the
 // range.

@@ -10,16 +10,16 @@ use Rattle.register.specs.declared.cells.Cell.{Cell}
 use Rattle.chain.specs.Word.{unpack, hop, follow, valueAtRecord}
 use Rattle.chain.proofs.Packing.{unpack-none, unpack-last}
 use Rattle.plan_theory.specs.Plan.{Fact, read, place}
-use Rattle.plan_theory.specs.Places.{place-line}
-use Rattle.text_terms.specs.declared.term.Term.{Term}
-use Rattle.text_terms.specs.declared.term.Term.the-variants.{Chain, Number}
-use Rattle.text_local.specs.declared.rule.Test.{Test}
-use Rattle.text_local.specs.declared.rule.Test.the-variants.{Always, When}
-use Rattle.text_local.specs.declared.rule.Rule.{Rule}
-use Rattle.text_local.specs.declared.rule.Rule.the-variants.{Set, Sum, Difference, Least, Total}
-use Rattle.text_local.specs.declared.rule.Slot.{Slot}
-use Rattle.text_rules.specs.Program as P
-use Rattle.text_plan.specs.Stored.{termOf, testOf, actionOf, ruleOf}
+use Rattle.plan_theory.proofs.Places.{place-line}
+use Rattle.program.specs.declared.term.Term.{Term}
+use Rattle.program.specs.declared.term.Term.the-variants.{Chain, Number}
+use Rattle.program.specs.declared.rule.Test.{Test}
+use Rattle.program.specs.declared.rule.Test.the-variants.{Always, When}
+use Rattle.program.specs.declared.rule.Rule.{Rule}
+use Rattle.program.specs.declared.rule.Rule.the-variants.{Set, Sum, Difference, Least, Total}
+use Rattle.program.specs.declared.rule.Slot.{Slot}
+use Rattle.program.specs.Program as P
+use Rattle.program.specs.Stored.{termOf, testOf, actionOf, ruleOf}
 use Rattle.machine.specs.Value.{termValue}
 use Rattle.machine.specs.Run.{direct}
 use Rattle.machine.specs.Alike.{TestAlike, always-alike, when-alike, ActionAlike, set-alike, sum-alike, difference-alike, least-alike, total-alike, RuleAlike}

@@ -9,7 +9,7 @@ use lib.Seq.{getD-take, length-take-le}
 use Rattle.register.specs.declared.Sizes.{Sizes}
 use Rattle.register.specs.declared.cells.Cell.{Cell}
 use Rattle.plan_theory.specs.Plan.{Fact}
-use Rattle.text_rules.specs.Program.{Rule}
+use Rattle.program.specs.Program.{Rule}
 use Rattle.machine.specs.Run.{direct}
 use Rattle.scratch.specs.Places.{placeAt}
 use Rattle.gather_follow.specs.Filled.{Filled}

@@ -8,7 +8,7 @@ use borrow.Author.Tests.{le-leb, lt-leb}
 use lib.ListN.{length}
 use Rattle.chain.specs.Word.{unpack}
 use Rattle.plan_theory.specs.Plan.{Fact, read, place}
-use Rattle.plan_theory.specs.Cases.{lt-or-le}
+use Rattle.laws.proofs.Cases.{lt-or-le}
 use Rattle.plan_lines.specs.Held.{found}
 use Rattle.plan_lines.specs.declared.Found.the-variants.{At}
 use Rattle.plan_lines.proofs.Settled.{found-old, found-new}

@@ -7,22 +7,23 @@ use lib.ListN.{length, take}
 use Rattle.register.specs.declared.Sizes.{Sizes}
 use Rattle.chain.specs.Word.{Passes, unpack}
 use Rattle.plan_theory.specs.Plan.{Fact, read, place}
-use Rattle.plan_theory.specs.Cases.{lt-or-le}
-use Rattle.plan_theory.specs.Kept.{plan-promise}
+use Rattle.laws.proofs.Cases.{lt-or-le}
+use Rattle.plan_theory.proofs.Kept.{plan-promise}
 use Rattle.plan_keys.proofs.Words.{hops-two}
-use Rattle.text_terms.specs.declared.term.Term.{Term}
-use Rattle.text_terms.specs.declared.term.Term.the-variants.{Chain, Number}
-use Rattle.text_local.specs.declared.rule.Test.{Test}
-use Rattle.text_local.specs.declared.rule.Test.the-variants.{Always, When}
-use Rattle.text_local.specs.declared.rule.Rule.{Rule}
-use Rattle.text_local.specs.declared.rule.Rule.the-variants.{Set, Sum, Difference, Least, Total}
-use Rattle.text_local.specs.declared.rule.Slot.{Slot}
-use Rattle.text_rules.specs.Program as P
-use Rattle.text_rules.specs.Program.{termReadings, testReadings, actionReadings, ruleReadings, readings, stepPlan}
-use Rattle.text_rules.specs.Passed.{Each, RulePasses, RulesPass}
-use Rattle.text_rules.proofs.Checked.{each-front, each-back}
-use Rattle.machine.proofs.Readings.{each-of, rule-pass}
-use Rattle.text_plan.specs.Stored.{termOf, testOf, actionOf, ruleOf, rulesIn}
+use Rattle.program.specs.declared.term.Term.{Term}
+use Rattle.program.specs.declared.term.Term.the-variants.{Chain, Number}
+use Rattle.program.specs.declared.rule.Test.{Test}
+use Rattle.program.specs.declared.rule.Test.the-variants.{Always, When}
+use Rattle.program.specs.declared.rule.Rule.{Rule}
+use Rattle.program.specs.declared.rule.Rule.the-variants.{Set, Sum, Difference, Least, Total}
+use Rattle.program.specs.declared.rule.Slot.{Slot}
+use Rattle.program.specs.Program as P
+use Rattle.program.specs.Program.{termReadings, testReadings, actionReadings, ruleReadings, readings, stepPlan}
+use Rattle.laws.specs.Lists.{Each}
+use Rattle.program.specs.Passed.{RulePasses, RulesPass}
+use Rattle.laws.proofs.Lists.{each-front, each-back, each-of}
+use Rattle.machine.proofs.Readings.{rule-pass}
+use Rattle.program.specs.Stored.{termOf, testOf, actionOf, ruleOf, rulesIn}
 use Rattle.step_locate.specs.Locate.{locatedChain, TermEach, TestEach, RuleEach, SlotEach, Short, SlotShort}
 use Rattle.step_locate.proofs.Numbers.{chain-stays, chain-line}
 

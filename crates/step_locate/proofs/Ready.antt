@@ -12,18 +12,18 @@ use Rattle.register.specs.declared.cells.Cell.{Cell}
 use Rattle.chain.specs.Word.{hasField, readable, unpack}
 use Rattle.chain.proofs.Packing.{unpack-last}
 use Rattle.plan_theory.specs.Plan.{Fact, read, place}
-use Rattle.plan_theory.specs.Places.{place-line}
-use Rattle.text_terms.specs.declared.term.Term.{Term}
-use Rattle.text_terms.specs.declared.term.Term.the-variants.{Chain, Number}
-use Rattle.text_local.specs.declared.rule.Test.{Test}
-use Rattle.text_local.specs.declared.rule.Test.the-variants.{Always, When}
-use Rattle.text_local.specs.declared.rule.Rule.{Rule}
-use Rattle.text_local.specs.declared.rule.Rule.the-variants.{Set, Sum, Difference, Least, Total}
-use Rattle.text_local.specs.declared.rule.Slot.{Slot}
-use Rattle.text_rules.specs.Program as P
-use Rattle.text_rules.specs.Passed.{Target, ActionPasses}
-use Rattle.text_plan.specs.Stored.{actionOf, ruleOf}
-use Rattle.text_rules.specs.Program.{fieldOf}
+use Rattle.plan_theory.proofs.Places.{place-line}
+use Rattle.program.specs.declared.term.Term.{Term}
+use Rattle.program.specs.declared.term.Term.the-variants.{Chain, Number}
+use Rattle.program.specs.declared.rule.Test.{Test}
+use Rattle.program.specs.declared.rule.Test.the-variants.{Always, When}
+use Rattle.program.specs.declared.rule.Rule.{Rule}
+use Rattle.program.specs.declared.rule.Rule.the-variants.{Set, Sum, Difference, Least, Total}
+use Rattle.program.specs.declared.rule.Slot.{Slot}
+use Rattle.program.specs.Program as P
+use Rattle.program.specs.Passed.{Target, ActionPasses}
+use Rattle.program.specs.Stored.{actionOf, ruleOf}
+use Rattle.program.specs.Program.{fieldOf}
 use Rattle.machine.specs.Run.{direct}
 use Rattle.machine.proofs.Direct.{direct-refers}
 use Rattle.step_terms.specs.Located.{located, ChainReaches, TermReaches, TestReaches, RuleReaches, SlotReaches}

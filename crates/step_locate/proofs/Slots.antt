@@ -9,10 +9,11 @@ use Rattle.register.specs.Shape.{Valid}
 use Rattle.register.specs.declared.Sizes.{Sizes}
 use Rattle.register.specs.declared.cells.Cell.{Cell}
 use Rattle.plan_theory.specs.Plan.{Fact}
-use Rattle.text_local.specs.declared.rule.Slot.{Slot}
-use Rattle.text_rules.specs.Program.{Rule, stepPlan}
-use Rattle.text_rules.specs.Passed.{Each, RulesPass}
-use Rattle.text_plan.specs.Stored.{ruleOf, rulesIn}
+use Rattle.program.specs.declared.rule.Slot.{Slot}
+use Rattle.program.specs.Program.{Rule, stepPlan}
+use Rattle.laws.specs.Lists.{Each}
+use Rattle.program.specs.Passed.{RulesPass}
+use Rattle.program.specs.Stored.{ruleOf, rulesIn}
 use Rattle.machine.specs.Run.{direct}
 use Rattle.machine.specs.Alike.{RulesAlike, none, more}
 use Rattle.step_terms.specs.Located.{located}

@@ -5,10 +5,10 @@ ghost use Rattle.chain.specs.Word.{unpack};
 ghost use Rattle.plan_lines.specs.Held.{facts-in, Keyed};
 ghost use Rattle.step_locate.specs.Locate.{locatedChain, locatedTerm, locatedTest, locatedRule, locatedSlot, TermEach, TestEach, RuleEach, Short, SlotShort};
 use plan_lines::Found;
-use text_local::rule::Rule;
-use text_local::rule::Slot;
-use text_local::rule::Test;
-use text_terms::term::Term;
+use program::rule::Rule;
+use program::rule::Slot;
+use program::rule::Test;
+use program::term::Term;
 
 fn locate_chain(keys: &[u64; 64], count: usize, chain: u64) -> u64
     requires { ⌜ Keyed (now keys) count × Short (unpack chain) ⌝ }

@@ -20,10 +20,10 @@ use Rattle.register.specs.declared.cells.Cell.{Cell}
 use Rattle.register.proofs.Bounds.{cellIndex-below}
 use Rattle.chain.specs.Word.{hasField, column}
 use Rattle.chain.proofs.Following.{column-below}
-use Rattle.text_local.specs.declared.rule.Slot.{Slot}
-use Rattle.text_rules.specs.Program.{Rule, fieldOf}
-use Rattle.text_rules.specs.Passed.{Each}
-use Rattle.text_plan.specs.Stored.{ruleOf, rulesIn}
+use Rattle.program.specs.declared.rule.Slot.{Slot}
+use Rattle.program.specs.Program.{Rule, fieldOf}
+use Rattle.laws.specs.Lists.{Each}
+use Rattle.program.specs.Stored.{ruleOf, rulesIn}
 use Rattle.machine.specs.Local.{offends, localRule, localRules, localRecords, sumOffends}
 use Rattle.machine.proofs.Folding.{localRules-more, localRules-length, localRecords-length, sumOffends-more}
 use Rattle.step_terms.specs.Located.{located}

@@ -19,10 +19,10 @@ use Rattle.register.specs.declared.cells.Cell.the-variants.{Missing, Value}
 use Rattle.register.proofs.Bounds.{cellIndex-below}
 use Rattle.chain.specs.Word.{hasField, column}
 use Rattle.chain.proofs.Following.{column-below}
-use Rattle.text_local.specs.declared.rule.Slot.{Slot}
-use Rattle.text_rules.specs.Program as P
-use Rattle.text_rules.specs.Program.{Rule, Action, hasRemote, fieldOf}
-use Rattle.text_plan.specs.Stored.{ruleOf, rulesIn}
+use Rattle.program.specs.declared.rule.Slot.{Slot}
+use Rattle.program.specs.Program as P
+use Rattle.program.specs.Program.{Rule, Action, hasRemote, fieldOf}
+use Rattle.program.specs.Stored.{ruleOf, rulesIn}
 use Rattle.machine.specs.declared.message.Sort.{Sort}
 use Rattle.machine.specs.declared.message.Sort.the-variants.{Least, Total}
 use Rattle.machine.specs.declared.message.Message.{Message}

@@ -7,15 +7,15 @@ use mathlib.Core.List.{List}
 use native.Mathlib.Omega.{arith}
 use lib.IntN.{ℤ}
 use lib.ListN.{length, getD}
-use Rattle.integers.proofs.Bools.{or-left, or-right}
+use Rattle.laws.proofs.Bools.{or-left, or-right}
 use Rattle.register.specs.File.{width, cellCount, cellIndex, cellsOfFile}
 use Rattle.register.specs.Shape.{Register}
 use Rattle.register.specs.declared.Sizes.{Sizes}
 use Rattle.register.specs.declared.cells.Cell.{Cell}
 use Rattle.register.specs.declared.cells.Cell.the-variants.{Missing}
 use Rattle.register.proofs.Bounds.{cellIndex-below}
-use Rattle.plan_theory.specs.Cases.{true-or-false}
-use Rattle.text_rules.specs.Program.{Rule}
+use Rattle.laws.proofs.Cases.{true-or-false}
+use Rattle.program.specs.Program.{Rule}
 use Rattle.machine.specs.Value.{cellInRange}
 use Rattle.machine.specs.Local.{localRecords, sumOffends}
 use Rattle.machine.specs.Remote.{recordMessages, deliverAll}

@@ -11,8 +11,8 @@ use Rattle.register.specs.declared.Sizes.{Sizes}
 use Rattle.register.specs.declared.cells.Cell.{Cell}
 use Rattle.register.specs.declared.cells.Cell.the-variants.{Missing, Value}
 use Rattle.chain.specs.Word.{column}
-use Rattle.text_rules.specs.Program as P
-use Rattle.text_rules.specs.Program.{Rule, Action, fieldOf}
+use Rattle.program.specs.Program as P
+use Rattle.program.specs.Program.{Rule, Action, fieldOf}
 use Rattle.machine.specs.Value.{holds}
 use Rattle.machine.specs.Local.{stored, store, offends, localRule}
 use Rattle.step_effects.specs.Answers.{cellWrite, writeStored, writeOf}

@@ -7,7 +7,7 @@ use lib.ListN.{length}
 use Rattle.register.specs.File.{cellCount}
 use Rattle.register.specs.declared.Sizes.{Sizes}
 use Rattle.register.specs.declared.cells.Cell.{Cell}
-use Rattle.text_rules.specs.Program.{Rule}
+use Rattle.program.specs.Program.{Rule}
 use Rattle.machine.specs.Remote.{ruleMessages, recordMessages, deliverAll}
 use Rattle.step_cells.specs.Work.{Holds, Same, Small}
 use Rattle.step_rules.specs.Ready.{reads}

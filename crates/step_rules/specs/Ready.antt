@@ -10,10 +10,10 @@ use Rattle.register.specs.Shape.{refersWithin}
 use Rattle.register.specs.declared.Sizes.{Sizes}
 use Rattle.register.specs.declared.cells.Cell.{Cell}
 use Rattle.chain.specs.Word.{hasField, column}
-use Rattle.text_local.specs.declared.rule.Slot.{Slot}
-use Rattle.text_rules.specs.Program.{Action, set, sum, difference, least, total, Rule, fieldOf}
-use Rattle.text_rules.specs.Passed.{Each}
-use Rattle.text_plan.specs.Stored.{actionOf}
+use Rattle.program.specs.declared.rule.Slot.{Slot}
+use Rattle.program.specs.Program.{Action, set, sum, difference, least, total, Rule, fieldOf}
+use Rattle.laws.specs.Lists.{Each}
+use Rattle.program.specs.Stored.{actionOf}
 use Rattle.machine.specs.Local.{offends, localRule, localRecords, sumOffends}
 use Rattle.step_terms.specs.Located.{located, SlotReaches}
 use Rattle.step_cells.specs.Work.{Holds, Same, Small}

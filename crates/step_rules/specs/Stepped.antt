@@ -8,7 +8,7 @@ use lib.ListN.{length}
 use Rattle.register.specs.File.{width, fileOf, cellsOfFile}
 use Rattle.register.specs.declared.Sizes.{Sizes}
 use Rattle.register.specs.declared.cells.Cell.{Cell}
-use Rattle.text_rules.specs.Program.{Rule}
+use Rattle.program.specs.Program.{Rule}
 use Rattle.machine.specs.Remote.{recordMessages}
 use Rattle.machine.specs.Step.{stepCells, offendsAt, stops}
 use Rattle.step_cells.specs.Work.{Holds}

@@ -7,10 +7,11 @@ ghost use Rattle.register.specs.Cells.{cellOf};
 ghost use Rattle.register.specs.File.{cellCount, cellIndex, cellsOfFile};
 ghost use Rattle.register.specs.Shape.{Limits};
 ghost use Rattle.chain.specs.Word.{hasField, column as columnOf};
-ghost use Rattle.text_plan.specs.Stored.{ruleOf};
+ghost use Rattle.program.specs.Stored.{ruleOf};
 ghost use Rattle.step_cells.specs.Work.{Room, Put};
 ghost use Rattle.step_rules.specs.Ready.{Ready, LocalRule};
 use chain::follow;
+use program::rule::Slot;
 use register::Sizes;
 use register::cells;
 use scratch;
@@ -18,7 +19,6 @@ use step_cells;
 use step_commit::Stop;
 use step_effects::stored;
 use step_effects::stored::Write;
-use text_local::rule::Slot;
 
 // Stores a value and a mark in the working cell of record u and a field.
 fn store(

@@ -5,16 +5,16 @@ ghost use lib.ListN.{length, take};
 ghost use Rattle.register.specs.Cells.{cellsOf};
 ghost use Rattle.register.specs.File.{cellCount, cellsOfFile};
 ghost use Rattle.register.specs.Shape.{Limits, Parts};
-ghost use Rattle.text_plan.specs.Stored.{ruleOf, rulesIn};
+ghost use Rattle.program.specs.Stored.{ruleOf, rulesIn};
 ghost use Rattle.step_cells.specs.Work.{Room, Small};
 ghost use Rattle.step_rules.specs.Ready.{Ready, AllReady};
 ghost use Rattle.step_rules.specs.Delivered.{RuleDelivered, Delivered};
+use program::rule::Slot;
 use register::Sizes;
 use register::cells;
 use step_cells;
 use step_effects::sent;
 use step_effects::sent::Sent;
-use text_local::rule::Slot;
 
 // The message of one rule at record u, where it sends one. The number of messages.
 fn apply_rule(

@@ -11,8 +11,7 @@ use mir.Facts.{toZ-ofZ}
 use Rattle.integers.proofs.Complement.{kept}
 use Rattle.register.specs.declared.cells.Cell.{Cell}
 use Rattle.register.specs.declared.cells.Cell.the-variants.{Missing, Value}
-use Rattle.text_local.specs.ActionRead.{written}
-use Rattle.text_local.specs.declared.rule.Comparison.{Comparison}
+use Rattle.program.specs.declared.rule.Comparison.{Comparison}
 use Rattle.machine.specs.Value.{both, compare}
 use Rattle.step_terms.specs.Located.{Names}
 
@@ -37,6 +36,6 @@ pub named : {x : Cell} {a : ℤ} → x ≡ Value a → mag a < 2147483648 → Na
 named {a} e h n = rw (kept a h) (subst Names e n)
 
 -- two values compared as the code holds them, for the comparison that it matched
-pub compare-kept : {k l : Comparison} {a b : ℤ} {t : Bool} → SFits w32 a → SFits w32 b → k ≡ l → t ≡ compare (written l) (toZ w32 (ofZ w32 a)) (toZ w32 (ofZ w32 b))
-    → t ≡ compare (written k) a b
-compare-kept {l} ha hb e q = q ∙ ap₂ (compare (written l)) (toZ-ofZ ha) (toZ-ofZ hb) ∙ rw e
+pub compare-kept : {k l : Comparison} {a b : ℤ} {t : Bool} → SFits w32 a → SFits w32 b → k ≡ l → t ≡ compare l (toZ w32 (ofZ w32 a)) (toZ w32 (ofZ w32 b))
+    → t ≡ compare k a b
+compare-kept {l} ha hb e q = q ∙ ap₂ (compare l) (toZ-ofZ ha) (toZ-ofZ hb) ∙ rw e

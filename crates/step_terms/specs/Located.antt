@@ -14,14 +14,14 @@ use Rattle.register.specs.declared.Sizes.{Sizes}
 use Rattle.register.specs.declared.cells.Cell.{Cell}
 use Rattle.register.specs.declared.cells.Cell.the-variants.{Missing, Value}
 use Rattle.chain.specs.Word.{hasField, cell, pack}
-use Rattle.text_terms.specs.declared.term.Term.{Term}
-use Rattle.text_terms.specs.declared.term.Term.the-variants.{Chain, Number}
-use Rattle.text_local.specs.declared.rule.Test.{Test}
-use Rattle.text_local.specs.declared.rule.Test.the-variants.{Always, When}
-use Rattle.text_local.specs.declared.rule.Rule.{Rule}
-use Rattle.text_local.specs.declared.rule.Rule.the-variants.{Set, Sum, Difference, Least, Total}
-use Rattle.text_local.specs.declared.rule.Slot.{Slot}
-use Rattle.text_rules.specs.Program as P
+use Rattle.program.specs.declared.term.Term.{Term}
+use Rattle.program.specs.declared.term.Term.the-variants.{Chain, Number}
+use Rattle.program.specs.declared.rule.Test.{Test}
+use Rattle.program.specs.declared.rule.Test.the-variants.{Always, When}
+use Rattle.program.specs.declared.rule.Rule.{Rule}
+use Rattle.program.specs.declared.rule.Rule.the-variants.{Set, Sum, Difference, Least, Total}
+use Rattle.program.specs.declared.rule.Slot.{Slot}
+use Rattle.program.specs.Program as P
 use Rattle.scratch.specs.Places.{placeAt}
 
 -- "Line i, from 0, and origin u have place i × n + u", the line by its number 17 + i

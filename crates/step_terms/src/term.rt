@@ -4,17 +4,16 @@ ghost use Prim.Native.Nat.{_<_};
 ghost use Rattle.register.specs.Cells.{cellsOf};
 ghost use Rattle.register.specs.Shape.{Parts};
 ghost use Rattle.chain.specs.Word.{unpack};
-ghost use Rattle.text_local.specs.ActionRead.{written};
-ghost use Rattle.text_plan.specs.Stored.{termOf, testOf};
+ghost use Rattle.program.specs.Stored.{termOf, testOf};
 ghost use Rattle.machine.specs.Value.{termValue, compare as compareOf, holds as holdsIn, compareCells};
 ghost use Rattle.step_terms.specs.Located.{located, ChainReaches, TermReaches, TestReaches};
 use chain::follow;
+use program::rule::Comparison;
+use program::rule::Test;
+use program::term::Term;
 use register::Sizes;
 use register::cells::Cell;
 use scratch;
-use text_local::rule::Comparison;
-use text_local::rule::Test;
-use text_terms::term::Term;
 
 // What record u reads for a chain: its own number, its own cell, or the place of a plan line.
 pub fn chain_value(
@@ -58,7 +57,7 @@ pub fn term_value(
 }
 
 fn compare(comparison: Comparison, a: i32, b: i32) -> bool
-    ensures { λ r. ⌜ r ≡ compareOf (written comparison) a b ⌝ }
+    ensures { λ r. ⌜ r ≡ compareOf comparison a b ⌝ }
 {
     match comparison {
         Comparison::Less => integers::less(a, b),
@@ -69,7 +68,7 @@ fn compare(comparison: Comparison, a: i32, b: i32) -> bool
 
 // Two sides: an unfilled one never holds.
 fn compare_cells(x: Cell, comparison: Comparison, y: Cell) -> bool
-    ensures { λ r. ⌜ r ≡ compareCells (written comparison) x y ⌝ }
+    ensures { λ r. ⌜ r ≡ compareCells comparison x y ⌝ }
 {
     let Cell::Value(a) = x else {
         return false;

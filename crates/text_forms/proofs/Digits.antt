@@ -9,7 +9,7 @@ use native.Mathlib.Decide.{decLe, decLt}
 use borrow.Author.Tests.{leb-true}
 use lib.Dec.{leb}
 use lib.ListN.{length, getD, drop, length-drop}
-use Rattle.integers.proofs.Bools.{and-both}
+use Rattle.laws.proofs.Bools.{and-both}
 use Rattle.text_forms.specs.Numeral.{isDigit, startsDigit, digits, decimal, capped}
 use Rattle.text_forms.proofs.Spans.{span-bound, span-none, span-more-at, Onward, onward-more, onward-end}
 

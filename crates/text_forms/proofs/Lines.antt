@@ -7,11 +7,14 @@ use mathlib.Core.List.{List, [], _∷_, _++_, append-nil}
 use mathlib.Core.Option.{Option, none, some}
 use native.Mathlib.Omega.{arith}
 use Rattle.chain_text.specs.Text as C
-use Rattle.chain_text.specs.Text.{isCapital, every, printed}
+use Rattle.chain_text.specs.Text.{isCapital, printed}
+use Rattle.laws.specs.Lists.{every}
 use Rattle.chain_text.proofs.Forms.{spelled, printed-form}
 use Rattle.text_forms.specs.Numeral.{digits, isDigit}
 use Rattle.text_forms.specs.Bytes.{bytes}
-use Rattle.text_forms.specs.Written.{Term, Comparison, less, equal, unequal, Condition, always, when, Action, set, sum, difference, least, total, Line, step, end, done, loop, rule}
+use Rattle.text_forms.specs.Written.{Term, Condition, always, when, Action, set, sum, difference, least, total, Line, step, end, done, loop, rule}
+use Rattle.program.specs.declared.rule.Comparison.{Comparison}
+use Rattle.program.specs.declared.rule.Comparison.the-variants.{Less, Equal, Unequal}
 use Rattle.text_forms.specs.Token.{Token, capital, then, word, or, finished}
 use Rattle.text_forms.specs.Term.{printedTerm, ProperTerm, termForm}
 use Rattle.text_forms.specs.Line.{made, comparisonText, printedAction, printedLine, ProperAction, Proper, assigned, localForm, sent, remoteForm, actionForm, ruleOf, compared, testedForm, lineForm}
@@ -92,8 +95,8 @@ tested-spelled r =
     then-all P (termForm r) _ (λ x s e.
     let w = term-spelled r x s e in
     rw (w .text) (
-    or-all _ _ _ (compared-spelled x less s (w .proper))
-    (or-all _ _ _ (compared-spelled x equal s (w .proper)) (compared-spelled x unequal s (w .proper)))))
+    or-all _ _ _ (compared-spelled x Less s (w .proper))
+    (or-all _ _ _ (compared-spelled x Equal s (w .proper)) (compared-spelled x Unequal s (w .proper)))))
 
 line-all : (t : List ℕ) → All (Spelled t) (lineForm t)
 unfolding lineForm printedLine
@@ -154,15 +157,15 @@ action-read (total f c x) p = target-read f c (bytes " += " ++ printedTerm x) (p
 module _ (x y : Term) (a : Action) (px : ProperTerm x) (py : ProperTerm y) (pa : ProperAction a) where
   compared-read : (c : Comparison) → compared x c (comparisonText c ++ (printedTerm y ++ (bytes ": " ++ printedAction a))) ≡ some (rule (when x c y) a)
   unfolding compared word then digits isDigit ruleOf
-  compared-read less = rw (printed-term y (bytes ": " ++ printedAction a) py refl, action-read a pa)
-  compared-read equal = rw (printed-term y (bytes ": " ++ printedAction a) py refl, action-read a pa)
-  compared-read unequal = rw (printed-term y (bytes ": " ++ printedAction a) py refl, action-read a pa)
+  compared-read Less = rw (printed-term y (bytes ": " ++ printedAction a) py refl, action-read a pa)
+  compared-read Equal = rw (printed-term y (bytes ": " ++ printedAction a) py refl, action-read a pa)
+  compared-read Unequal = rw (printed-term y (bytes ": " ++ printedAction a) py refl, action-read a pa)
 
   tested-read : (c : Comparison) → testedForm (printedTerm x ++ (comparisonText c ++ (printedTerm y ++ (bytes ": " ++ printedAction a)))) ≡ some (rule (when x c y) a)
   unfolding testedForm then or word digits isDigit compared
-  tested-read less = rw (printed-term x (comparisonText less ++ (printedTerm y ++ (bytes ": " ++ printedAction a))) px refl) (rw (compared-read less))
-  tested-read equal = rw (printed-term x (comparisonText equal ++ (printedTerm y ++ (bytes ": " ++ printedAction a))) px refl) (rw (compared-read equal))
-  tested-read unequal = rw (printed-term x (comparisonText unequal ++ (printedTerm y ++ (bytes ": " ++ printedAction a))) px refl) (rw (compared-read unequal))
+  tested-read Less = rw (printed-term x (comparisonText Less ++ (printedTerm y ++ (bytes ": " ++ printedAction a))) px refl) (rw (compared-read Less))
+  tested-read Equal = rw (printed-term x (comparisonText Equal ++ (printedTerm y ++ (bytes ": " ++ printedAction a))) px refl) (rw (compared-read Equal))
+  tested-read Unequal = rw (printed-term x (comparisonText Unequal ++ (printedTerm y ++ (bytes ": " ++ printedAction a))) px refl) (rw (compared-read Unequal))
 
 -- a line that begins with a capital is a rule
 capital-line : (f : ℕ) (t : List ℕ) → isCapital f ≡ true → lineForm (f ∷ t) ≡ ruleOf always (actionForm (f ∷ t))

@@ -7,8 +7,8 @@ use native.Mathlib.Omega.{arith}
 use native.Mathlib.Decide.{decLt}
 use lib.ListN.{length, getD, drop, length-append, drop-of-length-le}
 use lib.Seq.{drop-cons, drop-drop}
-use Rattle.integers.proofs.Bools.{and-both, and-true, true-false}
-use Rattle.chain_text.specs.Text.{every}
+use Rattle.laws.proofs.Bools.{and-both, and-true, true-false}
+use Rattle.laws.specs.Lists.{every}
 use Rattle.chain_text.proofs.Scanning.{first-at}
 use Rattle.text_forms.specs.Span.{starts, span}
 

@@ -9,10 +9,11 @@ use lib.Dec.{eqb}
 use lib.ListN.{length, drop}
 use lib.Seq.{drop-append-seam}
 use Rattle.chain_text.specs.Text as C
-use Rattle.chain_text.specs.Text.{isCapital, every}
+use Rattle.chain_text.specs.Text.{isCapital}
+use Rattle.laws.specs.Lists.{every}
 use Rattle.chain_text.specs.Scan.{startsWith, opens}
 use Rattle.chain_text.proofs.Forms.{spelled, printed-form, form-none}
-use Rattle.integers.proofs.Bools.{and-both, true-false}
+use Rattle.laws.proofs.Bools.{and-both, true-false}
 use Rattle.text_forms.specs.Numeral as N
 use Rattle.text_forms.specs.Numeral.{isDigit, digits, isNumeral, signedForm, numberForm, printedNumber}
 use Rattle.text_forms.specs.Token.{token, other}

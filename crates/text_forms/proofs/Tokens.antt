@@ -9,7 +9,7 @@ use borrow.Author.Tests.{eqb-true, ne-eqb, leb-true}
 use lib.Dec.{eqb, leb}
 use lib.ListN.{length, drop}
 use Rattle.chain_text.specs.Text.{isCapital}
-use Rattle.integers.proofs.Bools.{and-both}
+use Rattle.laws.proofs.Bools.{and-both}
 use Rattle.text_forms.specs.Token.{begins, Token, token, other, capital, then, word, or, finished}
 
 -- P holds of the answer, if there is one

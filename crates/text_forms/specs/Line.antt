@@ -5,17 +5,20 @@ use mathlib.Core.Bool.{true}
 use mathlib.Core.List.{List, [], _∷_, _++_}
 use mathlib.Core.Option.{Option, none, some}
 use Rattle.chain_text.specs.Text as C
-use Rattle.chain_text.specs.Text.{isCapital, every, printed}
+use Rattle.chain_text.specs.Text.{isCapital, printed}
+use Rattle.laws.specs.Lists.{every}
 use Rattle.text_forms.specs.Bytes.{bytes}
-use Rattle.text_forms.specs.Written.{Term, Comparison, less, equal, unequal, Condition, always, when, Action, set, sum, difference, least, total, Line, step, end, done, loop, rule}
+use Rattle.text_forms.specs.Written.{Term, Condition, always, when, Action, set, sum, difference, least, total, Line, step, end, done, loop, rule}
+use Rattle.program.specs.declared.rule.Comparison.{Comparison}
+use Rattle.program.specs.declared.rule.Comparison.the-variants.{Less, Equal, Unequal}
 use Rattle.text_forms.specs.Token.{capital, then, word, or, finished}
 use Rattle.text_forms.specs.Term.{printedTerm, ProperTerm, termForm}
 
 -- a comparison with its spaces
 abbrev pub comparisonText : Comparison → List ℕ
-comparisonText less = bytes " < "
-comparisonText equal = bytes " == "
-comparisonText unequal = bytes " != "
+comparisonText Less = bytes " < "
+comparisonText Equal = bytes " == "
+comparisonText Unequal = bytes " != "
 
 -- `F[u] := X`, `F[u] := X + Y`, `F[u] := X - Y`, `remote F[C] <?= X`, `remote F[C] += X`
 unfoldable pub printedAction : Action → List ℕ
@@ -92,7 +95,7 @@ compared x c t = word (comparisonText c) t (λ r. then (termForm r) (λ y r. wor
 
 -- behind `if `
 unfoldable pub testedForm : List ℕ → Option Line
-testedForm t = then (termForm t) (λ x r. or (compared x less r) (or (compared x equal r) (compared x unequal r)))
+testedForm t = then (termForm t) (λ x r. or (compared x Less r) (or (compared x Equal r) (compared x Unequal r)))
 
 -- the form of a line, or none: "7 no such line"
 unfoldable pub lineForm : List ℕ → Option Line

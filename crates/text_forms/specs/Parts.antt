@@ -6,7 +6,8 @@ use lib.Dec.{leb}
 use lib.ListN.{length}
 use Rattle.integers.specs.Range.{inRange}
 use Rattle.register.specs.declared.Sizes.{Sizes}
-use Rattle.chain_text.specs.Text.{every, names, isReferenceLetter, innerReferences}
+use Rattle.laws.specs.Lists.{every}
+use Rattle.chain_text.specs.Text.{names, isReferenceLetter, innerReferences}
 use Rattle.text_forms.specs.Numeral.{numberValue}
 use Rattle.text_forms.specs.Written.{Term, chain, number, Condition, always, when, Action, set, sum, difference, least, total, Line, step, end, done, loop, rule}
 

@@ -4,7 +4,8 @@ use mathlib.Core.Path.{_≡_}
 use mathlib.Core.Bool.{true}
 use mathlib.Core.List.{List}
 use Rattle.chain_text.specs.Text as C
-use Rattle.chain_text.specs.Text.{isCapital, every}
+use Rattle.chain_text.specs.Text.{isCapital}
+use Rattle.laws.specs.Lists.{every}
 use Rattle.text_forms.specs.Numeral as N
 use Rattle.text_forms.specs.Numeral.{isDigit, isNumeral, numberForm, printedNumber}
 use Rattle.text_forms.specs.Token.{Token, token, other}

@@ -2,15 +2,12 @@
 use Prim.Native.Nat.{ℕ}
 use mathlib.Core.Bool.{Bool}
 use mathlib.Core.List.{List}
+use Rattle.program.specs.declared.rule.Comparison.{Comparison}
 
 -- "A term X or Y is a chain or a number": a chain by its letters from the outside in, a number by its minus and digits
 pub data Term : Type 0 where
   chain : List ℕ → Term
   number : Bool → List ℕ → Term
-
--- `<`, `==`, `!=`
-pub data Comparison : Type 0 where
-  less equal unequal : Comparison
 
 -- "Before any of them may stand `if X < Y: `"
 pub data Condition : Type 0 where

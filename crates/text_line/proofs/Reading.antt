@@ -9,7 +9,7 @@ use borrow.Author.Tests.{eqb-true, eqb-false}
 use lib.Dec.{eqb}
 use lib.ListN.{length, drop, length-append, length-drop}
 use lib.Seq.{drop-drop}
-use Rattle.integers.proofs.Bools.{and-true, and-false}
+use Rattle.laws.proofs.Bools.{and-true, and-false}
 use Rattle.register.specs.declared.Sizes.{Sizes}
 use Rattle.chain_text.specs.Text as C
 use Rattle.chain_text.specs.Text.{names, fieldOf}
@@ -20,13 +20,13 @@ use Rattle.text_forms.specs.Term.{termForm}
 use Rattle.text_forms.specs.Line.{localForm, actionForm, ruleOf, compared, testedForm, lineForm}
 use Rattle.text_forms.specs.Parts.{terms, conditionTerms, actionTerms, everyTerm, fieldNamed, named, kindsAgree, kinded, short, numbersInRange, conditionKinds, actionKinds, termNamed, termKinded, termShort, termInRange, target}
 use Rattle.text_terms.specs.Read.{partsOf}
-use Rattle.text_local.specs.ActionRead.{bothChecks, termsChecks, ruleChecks, actionChecks, ruleOfAction, actionRead, written, comparisonOf, testOf}
+use Rattle.text_local.specs.ActionRead.{bothChecks, termsChecks, ruleChecks, actionChecks, ruleOfAction, actionRead, testOf}
 use Rattle.text_line.specs.LineRead.{lineChecks, lineRead, conditionParts, alwaysParts, whenParts, ruleRead, unequalRead, equalRead, comparisonRead, comparedForm, ruledForm, loopForm, openForm, isWord}
 use Rattle.text_terms.specs.declared.term.Checks.{Checks}
 use Rattle.text_terms.specs.declared.term.TermParts.{TermParts}
 use Rattle.text_line.specs.declared.line.TestParts.{TestParts}
-use Rattle.text_local.specs.declared.rule.Comparison.{Comparison}
-use Rattle.text_local.specs.declared.rule.Comparison.the-variants.{Less, Equal, Unequal}
+use Rattle.program.specs.declared.rule.Comparison.{Comparison}
+use Rattle.program.specs.declared.rule.Comparison.the-variants.{Less, Equal, Unequal}
 use Rattle.text_line.specs.declared.line.ComparisonRead.the-variants.{At, NoForm as NoComparison}
 use Rattle.text_line.specs.declared.line.LineRead.the-variants.{Step, End, Done, Loop, Rule, NoForm as NoLine}
 use Rattle.text_forms.proofs.Tokens.{word-begins}
@@ -80,16 +80,10 @@ rule-read s c none e = refl
 rule-read s c (some a) e = rw e (ap (Rule (record { test = testOf c; rule = ruleOfAction a })) (rule-checks s c a))
 
 -- tests
-comparison-same : (c : Comparison) → comparisonOf (written c) ≡ c
-unfolding comparisonOf written
-comparison-same Less = refl
-comparison-same Equal = refl
-comparison-same Unequal = refl
-
 pub when-parts : (s : Sizes) (p : TermParts) (c : Comparison) (q : TermParts) (x y : W.Term) → p ≡ partsOf s x → q ≡ partsOf s y
-    → whenParts p c q ≡ conditionParts s (W.when x (written c) y)
+    → whenParts p c q ≡ conditionParts s (W.when x c y)
 unfolding whenParts conditionParts testOf conditionKinds conditionTerms partsOf
-when-parts s p c q x y e h = rw (e, h, comparison-same c, checks-two s x y)
+when-parts s p c q x y e h = rw (e, h, checks-two s x y)
 
 pub always-parts : (s : Sizes) → alwaysParts ≡ conditionParts s W.always
 unfolding alwaysParts conditionParts testOf ruleChecks conditionKinds termsChecks conditionTerms everyTerm
@@ -133,19 +127,19 @@ same-end : {c d : Comparison} {e k : ℕ} → At c e ≡ At d k → e ≡ k
 same-end q = cc
 
 abbrev sides : W.Term → List ℕ → Option W.Line
-sides x r = or (compared x W.less r) (or (compared x W.equal r) (compared x W.unequal r))
+sides x r = or (compared x Less r) (or (compared x Equal r) (compared x Unequal r))
 
 -- behind a comparison that stands
 less-sides : (x : W.Term) (r : List ℕ) → sides x (bytes " < " ++ r) ≡ comparedForm x Less r
-unfolding compared comparedForm written word or
+unfolding compared comparedForm word or
 less-sides x r = or-none (comparedForm x Less r)
 
 equal-sides : (x : W.Term) (r : List ℕ) → sides x (bytes " == " ++ r) ≡ comparedForm x Equal r
-unfolding compared comparedForm written word or
+unfolding compared comparedForm word or
 equal-sides x r = or-none (comparedForm x Equal r)
 
 unequal-sides : (x : W.Term) (r : List ℕ) → sides x (bytes " != " ++ r) ≡ comparedForm x Unequal r
-unfolding compared comparedForm written word or
+unfolding compared comparedForm word or
 unequal-sides x r = refl
 
 module _ (t : List ℕ) (at : ℕ) (x : W.Term) where
@@ -192,7 +186,7 @@ module _ (s : Sizes) (t : List ℕ) (at : ℕ) (x : W.Term) (c : Comparison) whe
 
   module _ (p : TermParts) (end : ℕ) (q : TermTaken s t at p end) where
     abbrev rest-rule : List ℕ → Option W.Line
-    rest-rule r = ruleOf (W.when x (written c) (q .written)) (actionForm r)
+    rest-rule r = ruleOf (W.when x c (q .written)) (actionForm r)
 
     compared-term : comparedForm x c (drop at t) ≡ word (bytes ": ") (drop end t) rest-rule
     unfolding comparedForm then

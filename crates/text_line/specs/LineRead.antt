@@ -15,12 +15,12 @@ use Rattle.text_forms.specs.Term.{termForm}
 use Rattle.text_forms.specs.Line.{actionForm, ruleOf, testedForm}
 use Rattle.text_forms.specs.Parts.{same, conditionTerms, conditionKinds, named, kinded, short, numbersInRange}
 use Rattle.text_terms.specs.Read.{partsOf}
-use Rattle.text_local.specs.ActionRead.{bothChecks, termsChecks, ruleChecks, ruleOfAction, written, testOf}
+use Rattle.text_local.specs.ActionRead.{bothChecks, termsChecks, ruleChecks, ruleOfAction, testOf}
 use Rattle.text_terms.specs.declared.term.Checks.{Checks}
 use Rattle.text_terms.specs.declared.term.TermParts.{TermParts}
-use Rattle.text_local.specs.declared.rule.Comparison.{Comparison}
-use Rattle.text_local.specs.declared.rule.Comparison.the-variants.{Less, Equal, Unequal}
-use Rattle.text_local.specs.declared.rule.Test.the-variants.{Always, When}
+use Rattle.program.specs.declared.rule.Comparison.{Comparison}
+use Rattle.program.specs.declared.rule.Comparison.the-variants.{Less, Equal, Unequal}
+use Rattle.program.specs.declared.rule.Test.the-variants.{Always, When}
 use Rattle.text_local.specs.declared.action.ActionRead.{ActionRead}
 use Rattle.text_local.specs.declared.action.ActionRead.the-variants.{Action, NoForm}
 use Rattle.text_line.specs.declared.line.TestParts.{TestParts}
@@ -73,7 +73,7 @@ comparisonRead at t = cond (begins (bytes " < ") t) (At Less (at + 3)) (equalRea
 
 -- `Y: ` and a rule, behind `if X` and a comparison
 unfoldable pub comparedForm : W.Term → Comparison → List ℕ → Option W.Line
-comparedForm x c t = then (termForm t) (λ y r. word (bytes ": ") r (λ r. ruleOf (W.when x (written c) y) (actionForm r)))
+comparedForm x c t = then (termForm t) (λ y r. word (bytes ": ") r (λ r. ruleOf (W.when x c y) (actionForm r)))
 
 -- an answer that is right for every term with these parts
 abbrev pub ForSide : Sizes → TermParts → (W.Term → LineRead) → LineRead → Type 0

@@ -22,8 +22,8 @@ use Rattle.text_local.specs.declared.action.Letter.the-variants.{Capital
 use Rattle.text_local.specs.declared.action.LastRead.{LastRead}
 use Rattle.text_local.specs.declared.action.LastRead.the-variants.{Term, NoForm as NoTerm}
 use Rattle.text_local.specs.declared.action.ActionRead.the-variants.{Action, NoForm}
-use Rattle.text_local.specs.declared.rule.Rule.{Rule}
-use Rattle.text_local.specs.declared.rule.Rule.the-variants.{Set}
+use Rattle.program.specs.declared.rule.Rule.{Rule}
+use Rattle.program.specs.declared.rule.Rule.the-variants.{Set}
 use Rattle.text_terms.specs.declared.term.TermParts.{TermParts}
 use Rattle.text_forms.proofs.Tokens.{word-begins, capital-is}
 use Rattle.text_tokens.proofs.Words.{Taken}

@@ -17,12 +17,10 @@ use Rattle.text_forms.specs.Parts.{everyTerm, termNamed, termKinded, termShort,
 use Rattle.text_terms.specs.Read.{termOf, partsOf}
 use Rattle.text_terms.specs.declared.term.Checks.{Checks}
 use Rattle.text_terms.specs.declared.term.TermParts.{TermParts}
-use Rattle.text_local.specs.declared.rule.Rule.{Rule}
-use Rattle.text_local.specs.declared.rule.Rule.the-variants.{Set, Sum, Difference, Least, Total}
-use Rattle.text_local.specs.declared.rule.Comparison.{Comparison}
-use Rattle.text_local.specs.declared.rule.Comparison.the-variants.{Less, Equal, Unequal}
-use Rattle.text_local.specs.declared.rule.Test.{Test}
-use Rattle.text_local.specs.declared.rule.Test.the-variants.{Always, When}
+use Rattle.program.specs.declared.rule.Rule.{Rule}
+use Rattle.program.specs.declared.rule.Rule.the-variants.{Set, Sum, Difference, Least, Total}
+use Rattle.program.specs.declared.rule.Test.{Test}
+use Rattle.program.specs.declared.rule.Test.the-variants.{Always, When}
 use Rattle.text_local.specs.declared.action.Letter.{Letter}
 use Rattle.text_local.specs.declared.action.Letter.the-variants.{Capital, NoForm as NoLetter}
 use Rattle.text_local.specs.declared.action.LastRead.{LastRead}
@@ -112,19 +110,7 @@ ForTerm s p answer r = (w : W.Term) → p ≡ partsOf s w → r ≡ answer w
 abbrev pub ForTerms : Sizes → TermParts → TermParts → (W.Term → W.Term → ActionRead) → ActionRead → Type 0
 ForTerms s p q answer r = (v w : W.Term) → p ≡ partsOf s v → q ≡ partsOf s w → r ≡ answer v w
 
--- a comparison of the code as it is written
-unfoldable pub written : Comparison → W.Comparison
-written Less = W.less
-written Equal = W.equal
-written Unequal = W.unequal
-
--- a written comparison as the code has it
-unfoldable pub comparisonOf : W.Comparison → Comparison
-comparisonOf W.less = Less
-comparisonOf W.equal = Equal
-comparisonOf W.unequal = Unequal
-
 -- a test as a program holds it
 unfoldable pub testOf : W.Condition → Test
 testOf W.always = Always
-testOf (W.when x c y) = When (termOf x) (comparisonOf c) (termOf y)
+testOf (W.when x c y) = When (termOf x) c (termOf y)

@@ -4,24 +4,24 @@ use mathlib.Core.Path.{_≡_, refl, sym, ap, _∙_}
 use mathlib.Core.Bool.{true, false}
 use mathlib.Core.List.{List, [], _∷_, _++_, append-nil, append-assoc}
 use native.Mathlib.Omega.{arith}
-use Rattle.integers.proofs.Bools.{and-both}
+use Rattle.laws.proofs.Bools.{and-both}
 use Rattle.chain.specs.Word.{unpack}
 use Rattle.chain.proofs.Packing.{unpack-none}
 use Rattle.plan_theory.specs.Plan.{Fact, read, add, add-readings, plan}
-use Rattle.plan_theory.specs.Lines.{add-none, readings-append, plan-more, plan-length}
+use Rattle.plan_theory.proofs.Lines.{add-none, readings-append, plan-more, plan-length}
 use Rattle.plan_lines.specs.Held.{facts, settled, AddedTo}
 use Rattle.plan_lines.specs.declared.Added.{Added}
 use Rattle.plan_lines.proofs.Adding.{holds-facts, extended-holds, extended-more, added-plan}
 use Rattle.plan_lines.proofs.Settled.{settled-adds}
-use Rattle.text_terms.specs.declared.term.Term.{Term}
-use Rattle.text_terms.specs.declared.term.Term.the-variants.{Chain, Number}
-use Rattle.text_local.specs.declared.rule.Test.{Test}
-use Rattle.text_local.specs.declared.rule.Test.the-variants.{Always, When}
-use Rattle.text_local.specs.declared.rule.Rule.{Rule}
-use Rattle.text_local.specs.declared.rule.Rule.the-variants.{Set, Sum, Difference, Least, Total}
-use Rattle.text_local.specs.declared.rule.Slot.{Slot}
-use Rattle.text_rules.specs.Program.{termReadings, testReadings, actionReadings, ruleReadings}
-use Rattle.text_plan.specs.Stored.{termOf, testOf, actionOf, ruleOf}
+use Rattle.program.specs.declared.term.Term.{Term}
+use Rattle.program.specs.declared.term.Term.the-variants.{Chain, Number}
+use Rattle.program.specs.declared.rule.Test.{Test}
+use Rattle.program.specs.declared.rule.Test.the-variants.{Always, When}
+use Rattle.program.specs.declared.rule.Rule.{Rule}
+use Rattle.program.specs.declared.rule.Rule.the-variants.{Set, Sum, Difference, Least, Total}
+use Rattle.program.specs.declared.rule.Slot.{Slot}
+use Rattle.program.specs.Program.{termReadings, testReadings, actionReadings, ruleReadings}
+use Rattle.program.specs.Stored.{termOf, testOf, actionOf, ruleOf}
 use Rattle.text_plan.specs.Readings.{chainIn, testChains, ruleChains, slotChains, pairWords, words, pairSettled, allSettled, Sound, PlannedWith}
 use Rattle.text_plan.specs.declared.readings.Pair.{Pair}
 use Rattle.text_plan.specs.declared.readings.Readings.{Readings}

@@ -14,20 +14,14 @@ use Rattle.text_forms.specs.Written as W
 use Rattle.text_forms.specs.Parts.{conditionTerms, actionTerms, termNamed, termKinded, termShort, termInRange}
 use Rattle.text_terms.specs.Read as R
 use Rattle.text_terms.specs.Read.{plainNumber}
-use Rattle.text_local.specs.ActionRead.{ruleOfAction, written, comparisonOf}
+use Rattle.text_local.specs.ActionRead.{ruleOfAction}
 use Rattle.text_local.specs.ActionRead as L
-use Rattle.text_rules.specs.Program as P
+use Rattle.program.specs.Program as P
 use Rattle.text_rules.specs.Text as T
-use Rattle.text_rules.specs.Passed.{Each}
-use Rattle.text_rules.proofs.Checked.{Fine, each-front, each-back}
-use Rattle.text_plan.specs.Stored.{termOf, testOf, actionOf, ruleOf}
-
--- a comparison is as it was written
-written-of : (c : W.Comparison) → written (comparisonOf c) ≡ c
-unfolding written comparisonOf
-written-of W.less = refl
-written-of W.equal = refl
-written-of W.unequal = refl
+use Rattle.laws.specs.Lists.{Each}
+use Rattle.text_rules.proofs.Checked.{Fine}
+use Rattle.laws.proofs.Lists.{each-front, each-back}
+use Rattle.program.specs.Stored.{termOf, testOf, actionOf, ruleOf}
 
 module _ (s : Sizes) (lim : Limits s) where
   chain-of : (ls : List ℕ) → Fine s (W.chain ls) → unpack (pack (wordOf (take 16 ls))) ≡ wordOf ls
@@ -42,7 +36,7 @@ module _ (s : Sizes) (lim : Limits s) where
   test-of : (c : W.Condition) → Each (Fine s) (conditionTerms c) → testOf (L.testOf c) ≡ T.testOf c
   unfolding testOf L.testOf T.testOf conditionTerms
   test-of W.always w = refl
-  test-of (W.when x c y) w = rw (term-of x (w .0), term-of y (w .1 .0), written-of c)
+  test-of (W.when x c y) w = rw (term-of x (w .0), term-of y (w .1 .0))
 
   action-of : (a : W.Action) → Each (Fine s) (actionTerms a) → actionOf (ruleOfAction a) ≡ T.actionOf a
   unfolding actionOf ruleOfAction T.actionOf actionTerms

@@ -8,14 +8,14 @@ use Rattle.chain.specs.Word.{unpack}
 use Rattle.plan_theory.specs.Plan.{Fact, read, plan}
 use Rattle.plan_lines.specs.Held.{facts, settled, Holds, Extended}
 use Rattle.plan_lines.specs.declared.Added.{Added}
-use Rattle.text_terms.specs.declared.term.Term.{Term}
-use Rattle.text_terms.specs.declared.term.Term.the-variants.{Chain, Number}
-use Rattle.text_local.specs.declared.rule.Test.{Test}
-use Rattle.text_local.specs.declared.rule.Test.the-variants.{Always, When}
-use Rattle.text_local.specs.declared.rule.Rule.{Rule}
-use Rattle.text_local.specs.declared.rule.Rule.the-variants.{Set, Sum, Difference, Least, Total}
-use Rattle.text_local.specs.declared.rule.Slot.{Slot}
-use Rattle.text_rules.specs.Passed.{Each}
+use Rattle.program.specs.declared.term.Term.{Term}
+use Rattle.program.specs.declared.term.Term.the-variants.{Chain, Number}
+use Rattle.program.specs.declared.rule.Test.{Test}
+use Rattle.program.specs.declared.rule.Test.the-variants.{Always, When}
+use Rattle.program.specs.declared.rule.Rule.{Rule}
+use Rattle.program.specs.declared.rule.Rule.the-variants.{Set, Sum, Difference, Least, Total}
+use Rattle.program.specs.declared.rule.Slot.{Slot}
+use Rattle.laws.specs.Lists.{Each}
 use Rattle.text_plan.specs.declared.readings.Pair.{Pair}
 use Rattle.text_plan.specs.declared.readings.Readings.{Readings}
 

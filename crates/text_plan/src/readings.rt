@@ -9,10 +9,10 @@ ghost use Rattle.chain.specs.Word.{unpack};
 ghost use Rattle.plan_lines.specs.Held.{facts-in, Keyed};
 ghost use Rattle.text_plan.specs.Readings.{Sound, PlannedWith, chainIn, testChains, ruleChains, slotChains, words, pairWords, allSettled, pairSettled, Short};
 use plan_lines::Added;
-use text_local::rule::Rule;
-use text_local::rule::Slot;
-use text_local::rule::Test;
-use text_terms::term::Term;
+use program::rule::Rule;
+use program::rule::Slot;
+use program::rule::Test;
+use program::term::Term;
 
 // The chains of a test or of a rule, from left to right. A number has the place of the chain `u`, which has no line.
 pub struct Pair {

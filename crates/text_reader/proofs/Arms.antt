@@ -11,7 +11,7 @@ use lib.ListN.{length, getD, take, drop, set, length-set}
 use lib.Seq.{length-take-le, take-suc-set}
 use Rattle.register.specs.Shape.{Limits}
 use Rattle.register.specs.declared.Sizes.{Sizes}
-use Rattle.integers.proofs.Bools.{and-both, true-false}
+use Rattle.laws.proofs.Bools.{and-both, true-false}
 use Rattle.chain.specs.Word.{unpack}
 use Rattle.chain.proofs.Packing.{unpack-none}
 use Rattle.plan_theory.specs.Plan.{add-readings, plan}
@@ -25,32 +25,32 @@ use Rattle.text_forms.specs.Written.{Line, step, end, done, loop, rule}
 use Rattle.text_local.specs.ActionRead.{ruleOfAction}
 use Rattle.text_local.specs.ActionRead as R
 use Rattle.text_line.specs.LineRead.{lineRead}
-use Rattle.text_terms.specs.declared.term.Term.{Term}
-use Rattle.text_terms.specs.declared.term.Term.the-variants.{Chain, Number}
+use Rattle.program.specs.declared.term.Term.{Term}
+use Rattle.program.specs.declared.term.Term.the-variants.{Chain, Number}
 use Rattle.text_terms.specs.declared.term.Checks.{Checks}
 use Rattle.text_line.specs.declared.line.LineRead.{LineRead}
 use Rattle.text_line.specs.declared.line.LineRead.the-variants as L
-use Rattle.text_local.specs.declared.rule.Test.{Test}
-use Rattle.text_local.specs.declared.rule.Test.the-variants.{Always, When}
-use Rattle.text_local.specs.declared.rule.Rule as C
-use Rattle.text_local.specs.declared.rule.Rule.the-variants.{Set, Sum, Difference, Least, Total}
-use Rattle.text_local.specs.declared.rule.Slot.{Slot}
-use Rattle.text_rules.specs.Program.{Rule, Step, ruleReadings, readings, stepPlan}
+use Rattle.program.specs.declared.rule.Test.{Test}
+use Rattle.program.specs.declared.rule.Test.the-variants.{Always, When}
+use Rattle.program.specs.declared.rule.Rule as C
+use Rattle.program.specs.declared.rule.Rule.the-variants.{Set, Sum, Difference, Least, Total}
+use Rattle.program.specs.declared.rule.Slot.{Slot}
+use Rattle.program.specs.Program.{Rule, Step, ruleReadings, readings, stepPlan}
 use Rattle.text_rules.specs.Check.{State, isOutside, isUsed, isOpen, openRules, inPlace, hasRoom, planFits}
 use Rattle.text_rules.specs.Text as T
 use Rattle.text_rules.specs.Text.{settingIn, closeLoop, advance}
-use Rattle.text_rules.specs.Passed.{TermPasses, TestPasses, ActionPasses, RulePasses, Loops}
+use Rattle.program.specs.Passed.{TermPasses, TestPasses, ActionPasses, RulePasses, Loops}
 use Rattle.text_rules.specs.declared.around.Around.{Around}
 use Rattle.text_rules.specs.declared.around.Around.the-variants.{Outside, Unused, Used}
 use Rattle.text_rules.proofs.Checked.{Clean, rule-fine}
 use Rattle.text_rules.proofs.Loops.{openLoop}
 use Rattle.text_rules.proofs.Passing.{Reached}
-use Rattle.text_plan.specs.Stored.{termOf, testOf, actionOf, ruleOf, rulesIn}
-use Rattle.text_reader.specs.Kept.{stepsIn, FrameOf, Framed}
+use Rattle.program.specs.Stored.{termOf, testOf, actionOf, ruleOf, rulesIn}
+use Rattle.program.specs.Kept.{stepsIn, FrameOf, Framed}
 use Rattle.text_plan.specs.Readings.{chainIn, testChains, ruleChains, slotChains, pairWords, words, Short, Sound, PlannedWith, allSettled}
 use Rattle.text_state.specs.State.{noRules, moreRules, withRemote, withRule, frameOf, lastFrame, standing, advanceOf}
 use Rattle.text_state.specs.declared.tally.Tally.{Tally}
-use Rattle.text_state.specs.declared.state.Frame.{Frame}
+use Rattle.program.specs.declared.frame.Frame.{Frame}
 use Rattle.text_state.specs.declared.state.State as S
 use Rattle.text_plan.proofs.Plans.{readings-full, all-same, slot-plan}
 use Rattle.text_plan.proofs.Slots.{rule-of}

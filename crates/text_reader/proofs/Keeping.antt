@@ -6,13 +6,13 @@ use native.Mathlib.Omega.{arith}
 use native.Mathlib.Numerals.{add-one}
 use lib.ListN.{length, getD, take, drop, set, length-take, length-drop}
 use lib.Seq.{take-set-le, drop-set-add, take-set-lt, take-suc-set, drop-drop}
-use Rattle.text_local.specs.declared.rule.Slot.{Slot}
-use Rattle.text_rules.specs.Program.{Step}
+use Rattle.program.specs.declared.rule.Slot.{Slot}
+use Rattle.program.specs.Program.{Step}
 use Rattle.text_rules.specs.Text.{closeLoop}
-use Rattle.text_plan.specs.Stored.{ruleOf, rulesIn}
-use Rattle.text_reader.specs.Kept.{stepsIn, FrameOf, Framed}
+use Rattle.program.specs.Stored.{ruleOf, rulesIn}
+use Rattle.program.specs.Kept.{stepsIn, FrameOf, Framed}
 use Rattle.text_state.specs.State.{lastFrame}
-use Rattle.text_state.specs.declared.state.Frame.{Frame}
+use Rattle.program.specs.declared.frame.Frame.{Frame}
 
 -- a rule stored behind the steps leaves them as they are
 pub store-steps : (slots : List Slot) (fs : List Frame) (k : ℕ) (x : Slot) → stepsIn (set slots (32 * length fs + k) x) fs ≡ stepsIn slots fs
@@ -44,13 +44,6 @@ more-frames slots (g ∷ fs) f =
     (let at : 32 + 32 * length fs ≡ 32 * length (g ∷ fs) = omega arith in
     more-frames (drop 32 slots) fs f
     ∙ ap (λ (l : List Slot). stepsIn (drop 32 slots) fs ++ (record { rules = rulesIn (f .rules) (take 32 l); setting = f .setting } ∷ [])) (drop-drop (32 * length fs) 32 slots ∙ ap (λ (n : ℕ). drop n slots) at))
-
--- the frame of step i
-pub frame-at : (fs : List Frame) (xs : List Step) (i : ℕ) (d : Step) (e : Frame) → Framed fs xs → i < length xs → FrameOf (getD fs i e) (getD xs i d .rules)
-frame-at fs [] i d e h b = absurd (omega arith)
-frame-at [] (x ∷ xs) i d e h b = absurd h
-frame-at (f ∷ fs) (x ∷ xs) zero d e h b = h .0
-frame-at (f ∷ fs) (x ∷ xs) (suc i) d e h b = frame-at fs xs i d e (h .1) (omega arith)
 
 pub framed-more : (fs : List Frame) (xs : List Step) (f : Frame) (x : Step) → Framed fs xs → length xs < length fs → FrameOf f (x .rules)
     → Framed (set fs (length xs) f) (xs ++ (x ∷ []))

@@ -11,8 +11,8 @@ use lib.Dec.{ltb}
 use lib.ListN.{length, getD, drop, set, length-drop, drop-of-length-le}
 use lib.Seq.{drop-drop}
 use Rattle.register.specs.Shape.{Limits}
-use Rattle.register.specs.Outcome.{Outcome, refused, unless, after}
-use Rattle.register.specs.Outcome as O
+use Rattle.laws.specs.Outcome.{Outcome, refused, unless, after}
+use Rattle.laws.specs.Outcome as O
 use Rattle.register.specs.declared.Sizes.{Sizes}
 use Rattle.plan_theory.specs.Plan.{add-readings, plan as planOf}
 use Rattle.plan_lines.specs.Held.{Holds, Extended}
@@ -27,20 +27,21 @@ use Rattle.text_line.specs.LineRead.{lineRead}
 use Rattle.text_terms.specs.declared.term.Checks.{Checks}
 use Rattle.text_line.specs.declared.line.LineRead.{LineRead}
 use Rattle.text_line.specs.declared.line.LineRead.the-variants as L
-use Rattle.text_local.specs.declared.rule.Slot.{Slot}
-use Rattle.text_rules.specs.Program.{Program, readings, stepPlan}
+use Rattle.program.specs.declared.rule.Slot.{Slot}
+use Rattle.program.specs.Program.{Program, readings, stepPlan}
 use Rattle.text_rules.specs.Check.{State, isOutside, isOpen, openRules, lineRefusal}
 use Rattle.text_rules.specs.Text.{lines, advance, lineOutcome, closed, readFrom, start}
 use Rattle.text_rules.proofs.Checked.{Clean, refusal-none, rule-passes}
 use Rattle.text_rules.proofs.Passing.{Reached, start-reached, advance-reached}
 use Rattle.text_next.specs.Front.{front, firstForm}
-use Rattle.text_plan.specs.Stored.{ruleOf, rulesIn}
-use Rattle.text_reader.specs.Kept.{stepsIn, programOf, outcomeOf, Answers}
+use Rattle.program.specs.Stored.{ruleOf, rulesIn}
+use Rattle.program.specs.Kept.{stepsIn, programOf}
+use Rattle.text_reader.specs.Answers.{outcomeOf, Answers}
 use Rattle.text_plan.specs.Readings.{slotChains, words, Short}
 use Rattle.text_state.specs.State.{noRules, startState, frameOf, lastFrame, advanceOf}
 use Rattle.text_refusals.specs.Refusal.{refusalOf, lastRefusal}
-use Rattle.text_reader.specs.declared.Program as C
-use Rattle.text_state.specs.declared.state.Frame.{Frame}
+use Rattle.program.specs.declared.Program as C
+use Rattle.program.specs.declared.frame.Frame.{Frame}
 use Rattle.text_state.specs.declared.state.State as S
 use Rattle.text_reader.proofs.Arms.{Behind, step-line, loop-line, end-line, done-line, rule-line, no-line, at-step, at-loop, at-rule, at-end, at-done, slot-short, rule-is, rule-steps, rule-rules, end-steps, end-count, done-steps}
 use Rattle.text_next.proofs.Fronts.{lines-first}

@@ -3,28 +3,20 @@ ghost use Prim.Native.Nat.{_≤_};
 ghost use lib.ListN.{length};
 ghost use Rattle.register.specs.Shape.{Limits};
 ghost use Rattle.text_rules.specs.Text.{lines, start as startOf, readFrom};
-ghost use Rattle.text_reader.specs.Kept.{Answers};
+ghost use Rattle.text_reader.specs.Answers.{Answers};
 use plan_lines::Added;
 use plan_lines::Plan;
+use program::Program;
+use program::frame::Frame;
+use program::rule::Rule;
+use program::rule::Slot;
+use program::rule::Test;
+use program::setting::Setting;
+use program::term::Term;
 use register::Sizes;
 use text_line::line::LineRead;
-use text_local::rule::Rule;
-use text_local::rule::Slot;
-use text_local::rule::Test;
 use text_plan::readings;
-use text_rules::around::Setting;
 use text_state::state;
-use text_state::state::Frame;
-use text_terms::term::Term;
-
-// Rule k of step s, both from 0, stands at 32 × s + k; beside the rules the frames of the steps, their number, and the most
-// lines of any step's plan.
-pub struct Program {
-    pub slots: [Slot; 1024],
-    pub frames: [Frame; 32],
-    pub steps: usize,
-    pub lines: usize,
-}
 
 // A program, where the refusal is 0; otherwise the refusal's number and its line.
 pub struct Checked {

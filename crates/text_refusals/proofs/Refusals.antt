@@ -9,7 +9,7 @@ use native.Mathlib.Decide.{decLe}
 use borrow.Author.Tests.{le-ltb, lt-ltb, le-leb, lt-leb}
 use lib.Dec.{leb, ltb}
 use lib.ListN.{length}
-use Rattle.register.specs.Outcome.{orElse}
+use Rattle.laws.specs.Outcome.{orElse}
 use Rattle.register.specs.declared.Sizes.{Sizes}
 use Rattle.chain_text.specs.Text.{fieldOf}
 use Rattle.text_forms.specs.Written as W
@@ -18,7 +18,7 @@ use Rattle.text_forms.specs.Parts.{named, kinded, short, numbersInRange, fieldN
 use Rattle.text_local.specs.ActionRead.{ruleOfAction}
 use Rattle.text_line.specs.LineRead.{lineRead, lineChecks}
 use Rattle.text_terms.specs.declared.term.Checks.{Checks}
-use Rattle.text_rules.specs.Program.{Rule, stepPlan}
+use Rattle.program.specs.Program.{Rule, stepPlan}
 use Rattle.text_rules.specs.Check.{State, isOutside, isOpen, openRules, inPlace, hasRoom, oneSort, sortsAgree, planFits, lineRefusal}
 use Rattle.text_state.specs.State.{otherSort}
 use Rattle.text_refusals.specs.Refusal.{checksRefusal, stepRefusal, endRefusal, misplaced, doneRefusal, loopRefusal, ruleRefusal, refusalOf, lastRefusal}

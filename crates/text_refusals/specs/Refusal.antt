@@ -2,9 +2,9 @@
 use Prim.Native.Nat.{ℕ}
 use mathlib.Core.Bool.{Bool, cond, not, _||_}
 use lib.Dec.{ltb}
-use Rattle.register.specs.Outcome.{orElse}
+use Rattle.laws.specs.Outcome.{orElse}
 use Rattle.text_terms.specs.declared.term.Checks.{Checks}
-use Rattle.text_local.specs.declared.rule.Rule.{Rule}
+use Rattle.program.specs.declared.rule.Rule.{Rule}
 use Rattle.text_line.specs.declared.line.LineRead.{LineRead}
 use Rattle.text_line.specs.declared.line.LineRead.the-variants as L
 use Rattle.text_rules.specs.Check.{isOutside, isUsed}

@@ -1,9 +1,9 @@
 // Why a line is refused: the lowest number that applies to it where the reader stands, and to the end of the text.
 ghost use mathlib.Core.Path.{_≡_};
-ghost use Rattle.register.specs.Outcome.{orElse};
+ghost use Rattle.laws.specs.Outcome.{orElse};
 ghost use Rattle.text_refusals.specs.Refusal.{checksRefusal, ruleRefusal, stepRefusal, endRefusal, misplaced, loopRefusal, doneRefusal, refusalOf, lastRefusal};
+use program::rule::Rule;
 use text_line::line::LineRead;
-use text_local::rule::Rule;
 use text_rules::around;
 use text_state::state::State;
 use text_state::tally;

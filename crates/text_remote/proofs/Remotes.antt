@@ -7,9 +7,10 @@ use mathlib.Core.Option.{none, some}
 use native.Mathlib.Omega.{arith}
 use lib.ListN.{length, getD, drop, length-drop}
 use lib.Seq.{drop-drop}
-use Rattle.integers.proofs.Bools.{and-both}
+use Rattle.laws.proofs.Bools.{and-both}
 use Rattle.register.specs.declared.Sizes.{Sizes}
-use Rattle.chain_text.specs.Text.{isCapital, fieldOf, isReferenceLetter, Form, formed, unformed, form, closed, every}
+use Rattle.chain_text.specs.Text.{isCapital, fieldOf, isReferenceLetter, Form, formed, unformed, form, closed}
+use Rattle.laws.specs.Lists.{every}
 use Rattle.chain_text.specs.Scan.{startsWith, opens, summary, chainEnd, scanned}
 use Rattle.chain_text.specs.declared.letters.Letters.{Letters}
 use Rattle.chain_text.specs.declared.text.Scanned.the-variants.{Chain, NoForm as NoChain}
@@ -27,7 +28,7 @@ use Rattle.text_local.specs.declared.action.LastRead.the-variants.{Term, NoForm
 use Rattle.text_local.specs.declared.action.ActionRead.the-variants.{Action, NoForm}
 use Rattle.text_remote.specs.declared.remote.Target.{Target}
 use Rattle.text_remote.specs.declared.remote.TargetRead.the-variants.{At, NoForm as NoTarget}
-use Rattle.text_local.specs.declared.rule.Rule.the-variants.{Least, Total}
+use Rattle.program.specs.declared.rule.Rule.the-variants.{Least, Total}
 use Rattle.text_terms.specs.declared.term.TermParts.{TermParts}
 use Rattle.text_tokens.proofs.Words.{Taken, begins-text}
 use Rattle.text_terms.proofs.Answers.{chain-parts, reference-first}

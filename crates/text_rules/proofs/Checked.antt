@@ -9,18 +9,20 @@ use lib.Dec.{ltb}
 use lib.ListN.{length}
 use Rattle.register.specs.Shape.{Limits}
 use Rattle.register.specs.declared.Sizes.{Sizes}
-use Rattle.integers.proofs.Bools.{and-both}
+use Rattle.laws.proofs.Bools.{and-both}
 use Rattle.chain.specs.Word.{isReference, hasField, Passes}
-use Rattle.chain_text.specs.Text.{every, names, fieldOf, isReferenceLetter, wordOf}
+use Rattle.laws.specs.Lists.{every, Each}
+use Rattle.chain_text.specs.Text.{names, fieldOf, isReferenceLetter, wordOf}
 use Rattle.chain_text.proofs.Passing.{letters-pass, refused-none, reference-field, measure-field, named-field}
 use Rattle.text_forms.specs.Written as W
 use Rattle.text_forms.specs.Written.{chain, number, Line, rule}
 use Rattle.text_forms.specs.Parts as K
 use Rattle.text_forms.specs.Parts.{conditionTerms, actionTerms, terms, everyTerm, target, termNamed, fieldNamed, named, termKinded, same, conditionKinds, areMeasures, actionKinds, kindsAgree, kinded, termShort, short, termInRange, numbersInRange}
-use Rattle.text_rules.specs.Program.{Term, Action}
+use Rattle.program.specs.Program.{Term, Action}
 use Rattle.text_rules.specs.Check.{State, inPlace, hasRoom, sortsAgree, planFits, lineRefusal}
 use Rattle.text_rules.specs.Text.{termOf, testOf, actionOf}
-use Rattle.text_rules.specs.Passed.{Each, isReferenceWord, isReferenceTerm, TermPasses, TestPasses, Alike, Measured, Target, ActionPasses, RulePasses}
+use Rattle.program.specs.Passed.{isReferenceWord, isReferenceTerm, TermPasses, TestPasses, Alike, Measured, Target, ActionPasses, RulePasses}
+use Rattle.laws.proofs.Lists.{each-front, each-back}
 
 -- the tests that a line with no refusal has passed
 pub record Clean (s : Sizes) (st : State) (l : Line) : Type 0 where
@@ -49,19 +51,6 @@ refusal-none s st l e =
     let h = cond-none (sortsAgree st l) 14 _ (omega arith) (g .1) in
     let i = cond-none (planFits st l) 15 0 (omega arith) (h .1) in
     record { placed = a .0; is-named = b .0; is-kinded = c .0; is-short = d .0; in-range = f .0; room = g .0; sorts = h .0; fits = i .0 }
-
--- lists
-pub each-append : {A : Type 0} (P : A → Type 0) (l m : List A) → Each P l → Each P m → Each P (l ++ m)
-each-append P [] m h k = k
-each-append P (a ∷ l) m h k = (h .0, each-append P l m (h .1) k)
-
-pub each-front : {A : Type 0} (P : A → Type 0) (l m : List A) → Each P (l ++ m) → Each P l
-each-front P [] m h = tt
-each-front P (a ∷ l) m h = (h .0, each-front P l m (h .1))
-
-pub each-back : {A : Type 0} (P : A → Type 0) (l m : List A) → Each P (l ++ m) → Each P m
-each-back P [] m h = h
-each-back P (a ∷ l) m h = each-back P l m (h .1)
 
 -- the field of a letter that names one
 module _ (s : Sizes) (lim : Limits s) (l : ℕ) (h : names s l ≡ true) where

@@ -5,8 +5,9 @@ use mathlib.Core.Path.{_≡_, refl}
 use mathlib.Core.Bool.{Bool, true, false}
 use mathlib.Core.List.{List, [], _∷_, _++_}
 use lib.ListN.{replicate}
-use Rattle.register.specs.Outcome.{Outcome, refused, unless, after}
-use Rattle.register.specs.Outcome as O
+use Rattle.laws.specs.Lists.{every}
+use Rattle.laws.specs.Outcome.{Outcome, refused, unless, after}
+use Rattle.laws.specs.Outcome as O
 use Rattle.register.specs.declared.Sizes.{Sizes}
 use Rattle.integers.specs.Range.{inRange}
 use Rattle.chain_text.specs.Text as C
@@ -18,10 +19,10 @@ use Rattle.text_forms.specs.Term.{ofNumber, ofChain, termForm}
 use Rattle.text_forms.specs.Line.{assigned, localForm, sent, remoteForm, actionForm, ruleOf, compared, testedForm, lineForm}
 use Rattle.text_forms.specs.Parts.{numbersInRange, termInRange, short, termShort, kinded, kindsAgree, actionKinds, areMeasures, conditionKinds, same, isReferenceTerm, termKinded, named, fieldNamed, termNamed, target, everyTerm, terms, actionTerms, conditionTerms}
 use Rattle.text_forms.specs.Bytes.{bytes}
-use Rattle.text_rules.specs.Check.{lineRefusal, planFits, sortsAgree, oneSort, someAction, isTotal, isLeast, hasRoom, inPlace, openRules, isOpen, isUsed, isOutside}
-use Rattle.text_rules.specs.Program as P
-use Rattle.text_rules.specs.declared.around.Setting.the-variants.{Single, Looped}
-use Rattle.text_rules.specs.Program.{Rule, Program, hasRemote, isRemote, stepPlan, readings, ruleReadings, actionReadings, testReadings, termReadings}
+use Rattle.text_rules.specs.Check.{lineRefusal, planFits, sortsAgree, oneSort, hasRoom, inPlace, openRules, isOpen, isUsed, isOutside}
+use Rattle.program.specs.Program.{someAction, isTotal, isLeast, Rule, Program, hasRemote, isRemote, stepPlan, readings, ruleReadings, actionReadings, testReadings, termReadings}
+use Rattle.program.specs.Program as P
+use Rattle.program.specs.declared.setting.Setting.the-variants.{Single, Looped}
 use Rattle.text_rules.specs.Text.{planned, rulesAt, textProgram, readFrom, start, closed, lineOutcome, advance, closeLoop, lastOf, withStep, settingIn, actionOf, testOf, termOf, pieceForm, lines, onto}
 
 -- "n 3, r 1, m 1": the fields A, which is 0, and M, which is 8
@@ -30,7 +31,7 @@ sizes = record { records = 3; references = 1; measures = 1 }
 
 -- the program or refusal of some bytes over a register of some sizes, and of a text over that register
 unfoldable pub answerOver : Sizes → List ℕ → Outcome Program
-unfolding textProgram readFrom start closed lineOutcome advance closeLoop lastOf withStep settingIn actionOf testOf termOf pieceForm lines onto after unless lineRefusal planFits sortsAgree oneSort someAction isTotal isLeast hasRoom numbersInRange termInRange short termShort kinded kindsAgree actionKinds areMeasures conditionKinds same isReferenceTerm termKinded named fieldNamed termNamed target everyTerm terms actionTerms conditionTerms inPlace openRules isOpen isUsed isOutside lineForm testedForm compared ruleOf actionForm remoteForm sent localForm assigned termForm ofChain ofNumber capital then word or finished isDigit digits decimal isNumeral signedForm numberForm numberValue signedValue inRange startsWith C.isCapital C.closed C.form C.fieldOf C.isReferenceLetter C.names C.every C.innerReferences C.wordOf stepPlan readings ruleReadings actionReadings testReadings termReadings plan add-readings add planLines listed place sameFact same-word tree tree-within half doubled front rest
+unfolding textProgram readFrom start closed lineOutcome advance closeLoop lastOf withStep settingIn actionOf testOf termOf pieceForm lines onto after unless lineRefusal planFits sortsAgree oneSort someAction isTotal isLeast hasRoom numbersInRange termInRange short termShort kinded kindsAgree actionKinds areMeasures conditionKinds same isReferenceTerm termKinded named fieldNamed termNamed target everyTerm terms actionTerms conditionTerms inPlace openRules isOpen isUsed isOutside lineForm testedForm compared ruleOf actionForm remoteForm sent localForm assigned termForm ofChain ofNumber capital then word or finished isDigit digits decimal isNumeral signedForm numberForm numberValue signedValue inRange startsWith C.isCapital C.closed C.form C.fieldOf C.isReferenceLetter C.names every C.innerReferences C.wordOf stepPlan readings ruleReadings actionReadings testReadings termReadings plan add-readings add planLines listed place sameFact same-word tree tree-within half doubled front rest
 answerOver s t = textProgram s t
 
 unfoldable pub answer : String → Outcome Program

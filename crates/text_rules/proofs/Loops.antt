@@ -7,16 +7,16 @@ use mathlib.Core.Option.{Option, none, some}
 use native.Mathlib.Omega.{arith}
 use borrow.Author.Tests.{eq-eqb}
 use Rattle.register.specs.declared.Sizes.{Sizes}
-use Rattle.integers.proofs.Bools.{true-false}
+use Rattle.laws.proofs.Bools.{true-false}
 use Rattle.chain.specs.Word.{hasField}
 use Rattle.text_rules.specs.declared.around.Around.{Around}
 use Rattle.text_rules.specs.declared.around.Around.the-variants.{Outside, Unused, Used}
-use Rattle.text_rules.specs.declared.around.Setting.{Setting}
-use Rattle.text_rules.specs.declared.around.Setting.the-variants.{Single, Looped}
-use Rattle.text_rules.specs.Program.{Step}
+use Rattle.program.specs.declared.setting.Setting.{Setting}
+use Rattle.program.specs.declared.setting.Setting.the-variants.{Single, Looped}
+use Rattle.program.specs.Program.{Step}
 use Rattle.text_rules.specs.Check.{isOutside, isUsed}
 use Rattle.text_rules.specs.Text.{settingIn, withStep, lastOf, closeLoop}
-use Rattle.text_rules.specs.Passed.{SettingPasses, settingFits, openBehind, Loops}
+use Rattle.program.specs.Passed.{SettingPasses, settingFits, openBehind, Loops}
 
 -- the loop that the steps so far leave open
 unfoldable pub openLoop : Around → Option ℕ

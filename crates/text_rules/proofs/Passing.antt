@@ -9,21 +9,23 @@ use borrow.Author.Tests.{ltb-true, leb-true}
 use lib.Dec.{ltb}
 use lib.ListN.{length, length-append}
 use Rattle.register.specs.Shape.{Limits}
-use Rattle.register.specs.Outcome.{Outcome, refused, unless, after}
-use Rattle.register.specs.Outcome as O
+use Rattle.laws.specs.Outcome.{Outcome, refused, unless, after}
+use Rattle.laws.specs.Outcome as O
 use Rattle.register.specs.declared.Sizes.{Sizes}
-use Rattle.integers.proofs.Bools.{and-both, true-false}
+use Rattle.laws.proofs.Bools.{and-both, true-false}
 use Rattle.chain_text.specs.Text.{names}
 use Rattle.register.specs.Load.{load}
 use Rattle.register.proofs.Roundtrip.{loads}
 use Rattle.register.proofs.Bounds.{limits}
 use Rattle.text_forms.specs.Written.{Line, step, end, done, loop, rule}
 use Rattle.text_forms.specs.Parts.{terms, everyTerm, fieldNamed, named, same}
-use Rattle.text_rules.specs.Program.{Step, Program}
-use Rattle.text_rules.specs.Check.{isOutside, isUsed, State, isOpen, openRules, inPlace, hasRoom, someAction, sortsAgree, planFits, lineRefusal}
+use Rattle.program.specs.Program.{Step, Program, someAction}
+use Rattle.text_rules.specs.Check.{isOutside, isUsed, State, isOpen, openRules, inPlace, hasRoom, sortsAgree, planFits, lineRefusal}
 use Rattle.text_rules.specs.Text.{Piece, lines, pieceForm, testOf, closeLoop, advance, lineOutcome, closed, readFrom, start, textProgram, check}
-use Rattle.text_rules.specs.Passed.{Each, RulePasses, RulesPass, StepPasses, Loops, ProgramPasses}
-use Rattle.text_rules.proofs.Checked.{Clean, refusal-none, each-append, letter-field, rule-passes}
+use Rattle.laws.specs.Lists.{Each}
+use Rattle.program.specs.Passed.{RulePasses, RulesPass, StepPasses, Loops, ProgramPasses}
+use Rattle.text_rules.proofs.Checked.{Clean, refusal-none, letter-field, rule-passes}
+use Rattle.laws.proofs.Lists.{each-append}
 use Rattle.text_rules.proofs.Sorts.{one-sort}
 use Rattle.text_rules.proofs.Loops.{openLoop, loops-append, setting-fits, setting-behind, outside-open, close-used, AroundPasses, setting-passes, around-passes, last-passes}
 

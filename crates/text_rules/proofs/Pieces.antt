@@ -6,10 +6,10 @@ use mathlib.Core.List.{List, [], _∷_, _++_}
 use borrow.Author.Tests.{lt-ltb, not-true}
 use lib.Dec.{eqb}
 use lib.ListN.{length}
-use Rattle.register.specs.Outcome.{refused}
+use Rattle.laws.specs.Outcome.{refused}
 use Rattle.register.specs.declared.Sizes.{Sizes}
-use Rattle.chain_text.specs.Text.{every}
-use Rattle.integers.proofs.Bools.{and-both}
+use Rattle.laws.specs.Lists.{every}
+use Rattle.laws.proofs.Bools.{and-both}
 use Rattle.text_rules.specs.Text.{isWithin, ended, cut, onto, lines, textProgram}
 
 lines-more : (b : ℕ) (t : List ℕ) → isWithin b ≡ true → lines (b ∷ t) ≡ onto b (lines t)

@@ -5,21 +5,13 @@ use mathlib.Core.Bool.{Bool, true, false, _||_, or-false}
 use mathlib.Core.List.{List, [], _∷_, _++_}
 use borrow.Author.Tests.{not-true, eqb-true, ne-eqb}
 use lib.Dec.{eqb}
-use Rattle.integers.proofs.Bools.{true-false}
+use Rattle.laws.proofs.Bools.{true-false}
 use Rattle.chain_text.specs.Text.{fieldOf}
 use Rattle.text_forms.specs.Written as W
-use Rattle.text_rules.specs.Program.{Test, Action, Rule}
-use Rattle.text_rules.specs.Check.{isLeast, isTotal, someAction, oneSort}
+use Rattle.program.specs.Program.{Test, Action, Rule, isLeast, isTotal, someAction}
+use Rattle.text_rules.specs.Check.{oneSort}
 use Rattle.text_rules.specs.Text.{actionOf}
-
-pub some-append : (p : Action → Bool) (rs : List Rule) (r : Rule) → someAction p (rs ++ (r ∷ [])) ≡ someAction p rs || p (r .action)
-unfolding someAction
-some-append p [] r = or-false (p (r .action))
-some-append p (q ∷ rs) r = go (some-append p rs r) (p (q .action))
-  where
-    go : someAction p (rs ++ (r ∷ [])) ≡ someAction p rs || p (r .action) → (x : Bool) → x || someAction p (rs ++ (r ∷ [])) ≡ x || someAction p rs || p (r .action)
-    go ih true = refl
-    go ih false = ih
+use Rattle.program.proofs.Rules.{some-append}
 
 -- a written rule behind the rules so far
 abbrev pub more : List Rule → Test → W.Action → List Rule

@@ -7,16 +7,18 @@ use mathlib.Core.Option.{Option, some}
 use native.Mathlib.Omega.{arith}
 use borrow.Author.Tests.{leb-true, ne-eqb}
 use lib.Dec.{leb}
-use Rattle.chain_text.specs.Text.{isCapital, every, printed}
-use Rattle.integers.proofs.Bools.{and-both, and-true}
+use Rattle.chain_text.specs.Text.{isCapital, printed}
+use Rattle.laws.specs.Lists.{every, Each}
+use Rattle.laws.proofs.Bools.{and-both, and-true}
 use Rattle.text_forms.specs.Bytes.{bytes}
 use Rattle.text_forms.specs.Numeral.{isDigit, printedNumber}
-use Rattle.text_forms.specs.Written.{Term, chain, number, Comparison, less, equal, unequal, always, when, Action, set, sum, difference, least, total, Line, step, end, done, loop, rule}
+use Rattle.text_forms.specs.Written.{Term, chain, number, always, when, Action, set, sum, difference, least, total, Line, step, end, done, loop, rule}
+use Rattle.program.specs.declared.rule.Comparison.{Comparison}
+use Rattle.program.specs.declared.rule.Comparison.the-variants.{Less, Equal, Unequal}
 use Rattle.text_forms.specs.Term.{printedTerm, ProperTerm}
 use Rattle.text_forms.specs.Line.{comparisonText, printedAction, printedLine, ProperAction, Proper}
 use Rattle.text_forms.proofs.Lines.{printed-line}
 use Rattle.text_rules.specs.Text.{isWithin, lines, pieceForm}
-use Rattle.text_rules.specs.Passed.{Each}
 use Rattle.text_rules.proofs.Pieces.{lines-ended}
 
 -- the text of some lines
@@ -75,9 +77,9 @@ action-within (total f c x) p = within-append (printed (f ∷ c)) (bytes " += " 
 
 comparison-within : (c : Comparison) → Within (comparisonText c)
 unfolding every isWithin
-comparison-within less = refl
-comparison-within equal = refl
-comparison-within unequal = refl
+comparison-within Less = refl
+comparison-within Equal = refl
+comparison-within Unequal = refl
 
 line-within : (l : Line) → Proper l → Within (printedLine l)
 unfolding printedLine every isWithin

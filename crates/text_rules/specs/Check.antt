@@ -1,10 +1,10 @@
 -- Where a line of a rules text may stand and what a step may hold: one definition for each of the refusals 8, 13, 14 and 15, and the
 -- lowest that applies of these and of 9 to 12, which are in the Parts of `text_forms`.
 use Prim.Native.Nat.{ℕ}
-use mathlib.Core.Bool.{Bool, true, false, cond, not, _&&_, _||_}
-use mathlib.Core.List.{List, [], _∷_}
+use mathlib.Core.Bool.{Bool, true, false, cond, not, _&&_}
+use mathlib.Core.List.{List, []}
 use mathlib.Core.Option.{Option, none, some}
-use lib.Dec.{leb, ltb, eqb}
+use lib.Dec.{leb, ltb}
 use lib.ListN.{length}
 use Rattle.register.specs.declared.Sizes.{Sizes}
 use Rattle.chain_text.specs.Text.{fieldOf}
@@ -12,8 +12,7 @@ use Rattle.text_forms.specs.Written.{Action, set, sum, difference, least, total
 use Rattle.text_forms.specs.Parts.{named, kinded, short, numbersInRange}
 use Rattle.text_rules.specs.declared.around.Around.{Around}
 use Rattle.text_rules.specs.declared.around.Around.the-variants.{Outside, Unused, Used}
-use Rattle.text_rules.specs.Program as P
-use Rattle.text_rules.specs.Program.{Rule, Step, stepPlan}
+use Rattle.program.specs.Program.{Rule, Step, stepPlan, someAction, isLeast, isTotal}
 
 -- The steps closed so far, the loop around, and the rules so far of the step that is open, if one is.
 pub record State : Type 0 where
@@ -55,26 +54,7 @@ hasRoom st done = true
 hasRoom st (loop f) = true
 hasRoom st (rule c a) = ltb (length (openRules st)) 32
 
--- 14: "Within a step one field takes one sort of remote write"
-unfoldable pub isLeast : ℕ → P.Action → Bool
-isLeast f (P.set g x) = false
-isLeast f (P.sum g x y) = false
-isLeast f (P.difference g x y) = false
-isLeast f (P.least g c x) = eqb f g
-isLeast f (P.total g c x) = false
-
-unfoldable pub isTotal : ℕ → P.Action → Bool
-isTotal f (P.set g x) = false
-isTotal f (P.sum g x y) = false
-isTotal f (P.difference g x y) = false
-isTotal f (P.least g c x) = false
-isTotal f (P.total g c x) = eqb f g
-
-unfoldable pub someAction : (P.Action → Bool) → List Rule → Bool
-someAction p [] = false
-someAction p (r ∷ rs) = p (r .action) || someAction p rs
-
--- whether a rule behind these is of the sort that its field has taken so far
+-- 14: "Within a step one field takes one sort of remote write": whether a rule behind these is of the sort that its field has taken so far
 unfoldable pub oneSort : List Rule → Action → Bool
 oneSort rs (set f x) = true
 oneSort rs (sum f x y) = true

@@ -5,8 +5,8 @@ use mathlib.Core.List.{List, [], _∷_, _++_}
 use mathlib.Core.Option.{Option, none, some}
 use lib.Dec.{ltb, eqb}
 use lib.ListN.{length}
-use Rattle.register.specs.Outcome.{Outcome, refused, unless, after}
-use Rattle.register.specs.Outcome as O
+use Rattle.laws.specs.Outcome.{Outcome, refused, unless, after}
+use Rattle.laws.specs.Outcome as O
 use Rattle.register.specs.Load.{load}
 use Rattle.register.specs.declared.Sizes.{Sizes}
 use Rattle.chain_text.specs.Text.{fieldOf, wordOf}
@@ -16,10 +16,10 @@ use Rattle.text_forms.specs.Written.{Term, chain, number, Condition, always, wh
 use Rattle.text_forms.specs.Line.{lineForm}
 use Rattle.text_rules.specs.declared.around.Around.{Around}
 use Rattle.text_rules.specs.declared.around.Around.the-variants.{Outside, Unused, Used}
-use Rattle.text_rules.specs.declared.around.Setting.{Setting}
-use Rattle.text_rules.specs.declared.around.Setting.the-variants.{Single, Looped}
-use Rattle.text_rules.specs.Program as P
-use Rattle.text_rules.specs.Program.{Rule, Step, Program, readings, hasRemote}
+use Rattle.program.specs.declared.setting.Setting.{Setting}
+use Rattle.program.specs.declared.setting.Setting.the-variants.{Single, Looped}
+use Rattle.program.specs.Program as P
+use Rattle.program.specs.Program.{Rule, Step, Program, readings, hasRemote}
 use Rattle.text_rules.specs.Check.{State, isOutside, isOpen, openRules, lineRefusal}
 
 -- A line of a text: its bytes with byte 10 behind them, or the last line without byte 10.

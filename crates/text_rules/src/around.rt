@@ -2,18 +2,13 @@
 ghost use mathlib.Core.Path.{_≡_};
 ghost use Rattle.text_rules.specs.Check.{isOutside, isUsed};
 ghost use Rattle.text_rules.specs.Text.{settingIn, withStep, lastOf};
+use program::setting::Setting;
 
 // No loop is open, or one on a field that holds no step yet, or one that does.
 pub enum Around {
     Outside,
     Unused(u64),
     Used(u64),
-}
-
-// A step outside loops, or in a loop on a field, whether first and whether last in it.
-pub enum Setting {
-    Single,
-    Looped(u64, bool, bool),
 }
 
 pub fn is_outside(around: Around) -> bool

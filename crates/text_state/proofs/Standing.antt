@@ -12,7 +12,7 @@ use lib.ListN.{length, getD, set, replicate, length-append, length-set}
 use lib.Seq.{getD-set-same, getD-set-other}
 use Rattle.register.specs.Shape.{Limits}
 use Rattle.register.specs.declared.Sizes.{Sizes}
-use Rattle.integers.proofs.Bools.{and-both}
+use Rattle.laws.proofs.Bools.{and-both}
 use Rattle.chain.proofs.Fields.{field-below}
 use Rattle.chain_text.specs.Text.{names, fieldOf}
 use Rattle.text_forms.specs.Written as W
@@ -21,13 +21,13 @@ use Rattle.text_forms.specs.Parts.{named, fieldNamed, target}
 use Rattle.text_local.specs.ActionRead.{ruleOfAction}
 use Rattle.text_line.specs.LineRead.{lineRead}
 use Rattle.text_rules.proofs.Passing.{close-length}
-use Rattle.text_rules.specs.Program as P
-use Rattle.text_rules.specs.Program.{Test, Action, Rule, Step, stepPlan, writes, isRemote, hasRemote, mostLines}
-use Rattle.text_rules.specs.Check.{isOpen, openRules, isLeast, isTotal, someAction}
+use Rattle.program.specs.Program as P
+use Rattle.program.specs.Program.{Test, Action, Rule, Step, stepPlan, writes, isRemote, hasRemote, mostLines, isLeast, isTotal, someAction}
+use Rattle.text_rules.specs.Check.{isOpen, openRules}
 use Rattle.text_rules.specs.Check as C
 use Rattle.text_rules.specs.Text.{testOf, actionOf, closeLoop, withStep, advance, start}
 use Rattle.text_rules.proofs.Checked.{Clean, letter-field}
-use Rattle.text_rules.proofs.Sorts.{some-append}
+use Rattle.program.proofs.Rules.{some-append}
 use Rattle.text_state.specs.State.{noRules, moreRules, withRemote, withRule, startState, standing, advanceOf}
 use Rattle.text_state.specs.declared.tally.Tally.{Tally}
 use Rattle.text_state.specs.declared.state.State.{State}

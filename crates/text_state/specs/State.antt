@@ -4,8 +4,8 @@ use mathlib.Core.Bool.{Bool, true, false}
 use mathlib.Core.List.{List}
 use lib.ListN.{getD, set, replicate}
 use Rattle.plan_lines.specs.declared.Plan.{Plan}
-use Rattle.text_local.specs.declared.rule.Rule.{Rule}
-use Rattle.text_local.specs.declared.rule.Rule.the-variants.{Set, Sum, Difference, Least, Total}
+use Rattle.program.specs.declared.rule.Rule.{Rule}
+use Rattle.program.specs.declared.rule.Rule.the-variants.{Set, Sum, Difference, Least, Total}
 use Rattle.text_line.specs.declared.line.LineRead.{LineRead}
 use Rattle.text_line.specs.declared.line.LineRead.the-variants as L
 use Rattle.text_rules.specs.Text.{settingIn, withStep, lastOf}
@@ -13,7 +13,7 @@ use Rattle.text_rules.specs.declared.around.Around.{Around}
 use Rattle.text_rules.specs.declared.around.Around.the-variants.{Outside, Unused}
 use Rattle.text_state.specs.declared.tally.Tally.{Tally}
 use Rattle.text_state.specs.declared.state.State.{State}
-use Rattle.text_state.specs.declared.state.Frame.{Frame}
+use Rattle.program.specs.declared.frame.Frame.{Frame}
 
 -- at the start of a step
 unfoldable pub noRules : Tally

@@ -5,10 +5,10 @@ ghost use Rattle.text_state.specs.State.{startState, frameOf, lastFrame,
 use crate::tally;
 use crate::tally::Tally;
 use plan_lines::Plan;
+use program::frame::Frame;
 use text_line::line::LineRead;
 use text_rules::around;
 use text_rules::around::Around;
-use text_rules::around::Setting;
 
 // The number of closed steps, the most plan lines of any of them, the loop around, whether a step is open and what is kept
 // of its rules.
@@ -18,16 +18,6 @@ pub struct State {
     pub around: Around,
     pub in_step: bool,
     pub tally: Tally,
-}
-
-// What stands beside the rules of a closed step: their number, whether one is remote, which fields they write, its loop, and
-// its plan.
-pub struct Frame {
-    pub rules: usize,
-    pub remote: bool,
-    pub fields: [bool; 16],
-    pub setting: Setting,
-    pub plan: Plan,
 }
 
 pub fn start() -> State

@@ -4,7 +4,7 @@ ghost use mathlib.Core.Bool.{true, false};
 ghost use Prim.Native.Nat.{_≤_};
 ghost use lib.ListN.{getD, set};
 ghost use Rattle.text_state.specs.State.{noRules, otherSort, moreRules, withRemote, withRule};
-use text_local::rule::Rule;
+use program::rule::Rule;
 
 // Their number, whether one is remote, which fields they write, and which of these have taken a `<?=` and which a `+=`.
 pub struct Tally {

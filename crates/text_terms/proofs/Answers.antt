@@ -10,8 +10,9 @@ use lib.ListN.{length, getD, drop, length-append, length-drop}
 use lib.Seq.{drop-at, drop-drop}
 use Rattle.register.specs.declared.Sizes.{Sizes}
 use Rattle.integers.specs.Range.{inRange, sumOf}
-use Rattle.integers.proofs.Bools.{and-both}
-use Rattle.chain_text.specs.Text.{isCapital, Form, formed, unformed, form, printed, every, isReferenceLetter}
+use Rattle.laws.proofs.Bools.{and-both}
+use Rattle.chain_text.specs.Text.{isCapital, Form, formed, unformed, form, printed, isReferenceLetter}
+use Rattle.laws.specs.Lists.{every}
 use Rattle.chain_text.specs.Scan.{summary, chainEnd, scanned}
 use Rattle.chain_text.specs.declared.letters.Letters.{Letters}
 use Rattle.chain_text.specs.declared.text.Scanned.{Scanned}

@@ -18,8 +18,8 @@ use Rattle.text_forms.specs.Term.{printedTerm}
 use Rattle.text_forms.specs.Parts.{termNamed, termKinded, termShort, termInRange, isReferenceTerm}
 use Rattle.text_tokens.specs.declared.numeral.NumberRead.{NumberRead}
 use Rattle.text_tokens.specs.declared.numeral.NumberRead.the-variants.{Number, NoForm}
-use Rattle.text_terms.specs.declared.term.Term.{Term}
-use Rattle.text_terms.specs.declared.term.Term.the-variants.{Chain as PackedChain, Number as PlainNumber}
+use Rattle.program.specs.declared.term.Term.{Term}
+use Rattle.program.specs.declared.term.Term.the-variants.{Chain as PackedChain, Number as PlainNumber}
 use Rattle.text_terms.specs.declared.term.Checks.{Checks}
 use Rattle.text_terms.specs.declared.term.TermParts.{TermParts}
 use Rattle.text_terms.specs.declared.term.TermRead.{TermRead}

@@ -10,15 +10,10 @@ use chain_text::letters::Letters;
 use chain_text::text;
 use chain_text::text::Scanned;
 use integers::Sum;
+use program::term::Term;
 use register::Sizes;
 use text_tokens::numeral;
 use text_tokens::numeral::NumberRead;
-
-// "A term X or Y is a chain or a number": a chain packed into one number, or a plain number.
-pub enum Term {
-    Chain(u64),
-    Number(i32),
-}
 
 // What refusals 9 to 12 ask: that capitals name fields, that kinds fit, that chains have at most 16 hops, that numbers are
 // in the range of sums.

@@ -9,7 +9,7 @@ use borrow.Author.Tests.{eqb-true}
 use lib.Dec.{eqb}
 use lib.ListN.{length, getD, drop, length-append, length-drop}
 use lib.Seq.{drop-cons, drop-drop, drop-length}
-use Rattle.integers.proofs.Bools.{and-both, and-true, and-false, true-false}
+use Rattle.laws.proofs.Bools.{and-both, and-true, and-false, true-false}
 use Rattle.chain_text.specs.Scan.{startsWith}
 use Rattle.text_tokens.specs.Tokens.{literalRead}
 use Rattle.text_forms.specs.Token.{begins}

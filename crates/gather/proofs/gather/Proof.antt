@@ -8,7 +8,7 @@ use Rattle.register.specs.File.{cellsOfFile}
 use Rattle.register.proofs.Loading.{file-parts}
 use Rattle.plan_theory.specs.Plan.{last-round}
 use Rattle.plan_lines.specs.Held.{facts-in}
-use Rattle.text_rules.specs.Program.{stepPlan}
+use Rattle.program.specs.Program.{stepPlan}
 use Rattle.gather_follow.specs.Filled.{FollowLines}
 use Rattle.gather_follow.proofs.Readings.{lines-follow}
 use Rattle.gather_exchanges.proofs.Planned.{planned-lines, planned-followable, planned-count, planned-rounds}

@@ -8,7 +8,7 @@ use native.Mathlib.Omega.{arith}
 use borrow.Author.Needs.{needs}
 use denote.Ref.{now}
 use lib.ListN.{length}
-use Rattle.register.specs.Outcome.{Outcome, refused}
+use Rattle.laws.specs.Outcome.{Outcome, refused}
 use Rattle.register.specs.File.{sizesOf}
 use Rattle.register.specs.declared.Sizes.{Sizes}
 use Rattle.register.proofs.Bounds.{limits}
@@ -16,7 +16,7 @@ use Rattle.register.proofs.Roundtrip.{Bytes, Loads, cells-valid}
 use Rattle.plan_theory.specs.Plan.{Fact}
 use Rattle.plan_lines.specs.Held.{Holds}
 use Rattle.plan_lines.proofs.Appending.{holds-count}
-use Rattle.text_rules.specs.Program.{mostLines, stepPlan}
+use Rattle.program.specs.Program.{mostLines, stepPlan}
 use Rattle.machine.specs.Run.{scratch, isShort}
 use Rattle.op_check.specs.StepPlan.{StepFound}
 use Rattle.op_check.specs.declared.step.StepPlan.{StepPlan}

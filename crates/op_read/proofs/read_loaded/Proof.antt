@@ -6,7 +6,7 @@ use mathlib.Core.List.{List}
 use borrow.Author.Needs.{needs}
 use denote.Ref.{now}
 use Rattle.register.proofs.Roundtrip.{Bytes, Loads, loads, file-is, cells-valid}
-use Rattle.register.specs.Outcome.{done}
+use Rattle.laws.specs.Outcome.{done}
 use Rattle.register.specs.Cells.{cellsOf}
 use Rattle.register.specs.File.{cellsOfFile, valuesPart, marksPart}
 use Rattle.register.specs.Shape.{Parts, Valid}

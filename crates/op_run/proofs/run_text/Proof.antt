@@ -7,14 +7,14 @@ use native.Mathlib.Omega.{arith}
 use borrow.Author.Needs.{needs}
 use denote.Ref.{now}
 use lib.ListN.{length}
-use Rattle.register.specs.Outcome.{Outcome, done, refused}
+use Rattle.laws.specs.Outcome.{Outcome, done, refused}
 use Rattle.register.specs.File.{sizesOf, cellsOfFile}
 use Rattle.register.specs.declared.Sizes.{Sizes}
 use Rattle.register.proofs.Bounds.{limits}
-use Rattle.text_rules.specs.Program.{mostLines}
+use Rattle.program.specs.Program.{mostLines}
 use Rattle.text_rules.specs.Text.{check}
-use Rattle.text_reader.specs.Kept.{programOf, Complete}
-use Rattle.text_reader.specs.declared.Program as R
+use Rattle.program.specs.Kept.{programOf, Complete}
+use Rattle.program.specs.declared.Program as R
 use Rattle.op_check.proofs.Checks.{answered-refused, answered-program}
 use Rattle.op_check.proofs.Passed.{loaded, passed, few-lines}
 use Rattle.op_check.proofs.Room.{room}

@@ -4,7 +4,7 @@ use mathlib.Core.Path.{ap, subst, _∙_}
 use denote.Ref.{now}
 use Rattle.register.specs.File.{cellsOfFile}
 use Rattle.register.proofs.Loading.{file-parts}
-use Rattle.text_rules.specs.Passed.{SettingPasses}
+use Rattle.program.specs.Passed.{SettingPasses}
 use Rattle.machine.specs.Run.{begins}
 use Rattle.run_loop.proofs.Passes.{entered-on, entered-first}
 use borrow.Author.Needs.{needs}

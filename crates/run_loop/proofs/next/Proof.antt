@@ -6,7 +6,7 @@ use borrow.Author.Tests.{not-true, not-false}
 use denote.Ref.{now}
 use Rattle.register.specs.File.{cellsOfFile}
 use Rattle.register.proofs.Loading.{file-parts}
-use Rattle.text_rules.specs.Passed.{SettingPasses}
+use Rattle.program.specs.Passed.{SettingPasses}
 use Rattle.run_loop.specs.Column.{HasPass}
 use Rattle.run_loop.proofs.Passes.{next-single, next-inside, next-behind, next-back}
 use borrow.Author.Needs.{needs}

@@ -10,8 +10,8 @@ use denote.Ref.{now}
 use lib.ListN.{length, getD, take, drop, length-set}
 use Rattle.register.specs.File.{cellsOfFile}
 use Rattle.plan_lines.specs.Held.{facts}
-use Rattle.text_reader.specs.Kept.{stepsIn, programOf}
-use Rattle.text_plan.specs.Stored.{ruleOf, rulesIn}
+use Rattle.program.specs.Kept.{stepsIn, programOf}
+use Rattle.program.specs.Stored.{ruleOf, rulesIn}
 use Rattle.scratch.specs.Places.{Kept}
 use Rattle.step_locate.specs.Locate.{LocatedTo}
 use Rattle.step_cells.specs.Work.{Same}

@@ -1,9 +1,9 @@
 -- `step_effects::is_remote` meets its contract.
 -- Assumes nothing.
 use mathlib.Core.Path.{sym, ap}
-use Rattle.text_rules.specs.Program.{isRemote}
-use Rattle.text_plan.specs.Stored.{actionOf}
-use Rattle.text_local.specs.declared.rule.Rule.{Rule}
+use Rattle.program.specs.Program.{isRemote}
+use Rattle.program.specs.Stored.{actionOf}
+use Rattle.program.specs.declared.rule.Rule.{Rule}
 use borrow.Author.Needs.{needs}
 use Rattle.step_effects.proofs.is_remote.Statement.{statement}
 use Rattle.step_effects.proofs.is_remote.Tie as tie

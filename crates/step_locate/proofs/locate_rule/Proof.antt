@@ -4,7 +4,7 @@ use mathlib.Core.Path.{_≡_, subst}
 use borrow.Author.Needs.{needs}
 use denote.Ref.{now}
 use Rattle.plan_lines.specs.Held.{Keyed}
-use Rattle.text_local.specs.declared.rule.Rule.{Rule}
+use Rattle.program.specs.declared.rule.Rule.{Rule}
 use Rattle.step_locate.specs.Locate.{locatedRule, RuleEach, Short}
 use Rattle.step_locate.proofs.locate_rule.Statement.{statement}
 use Rattle.step_locate.proofs.locate_rule.Tie as tie

@@ -3,7 +3,7 @@
 use mathlib.Core.Path.{ap}
 use borrow.Author.Needs.{needs}
 use Rattle.integers.proofs.Complement.{kept}
-use Rattle.text_terms.specs.declared.term.Term.the-variants.{Chain, Number}
+use Rattle.program.specs.declared.term.Term.the-variants.{Chain, Number}
 use Rattle.step_locate.specs.Locate.{locatedTerm}
 use Rattle.step_locate.proofs.locate_term.Statement.{statement}
 use Rattle.step_locate.proofs.locate_term.Tie as tie

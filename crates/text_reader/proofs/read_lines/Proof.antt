@@ -8,7 +8,7 @@ use native.Mathlib.Omega.{arith}
 use lib.ListN.{length}
 use Rattle.register.specs.Shape.{Limits}
 use Rattle.register.specs.declared.Sizes.{Sizes}
-use Rattle.register.specs.Outcome.{refused}
+use Rattle.laws.specs.Outcome.{refused}
 use Rattle.text_rules.specs.Text.{advance}
 use Rattle.text_rules.specs.Check.{openRules}
 use Rattle.text_state.specs.State.{advanceOf}

@@ -3,7 +3,7 @@
 use Prim.Native.Nat.{ℕ}
 use mathlib.Core.Path.{sym, ap, _∙_}
 use borrow.Author.Needs.{needs}
-use Rattle.register.specs.Outcome.{refused}
+use Rattle.laws.specs.Outcome.{refused}
 use Rattle.op_read.specs.Reading.{readingOutcome}
 use Rattle.op_read.specs.declared.ReadingAnswer.{ReadingAnswer}
 use Rattle.api_read.specs.Numbers.{readNumbers}

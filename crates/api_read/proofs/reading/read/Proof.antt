@@ -5,7 +5,7 @@ use borrow.Author.Needs.{needs}
 use lib.IntN.{ℤ}
 use mir.Syntax.{w64}
 use mir.Facts.{toZ-ofZ}
-use Rattle.register.specs.Outcome.{done}
+use Rattle.laws.specs.Outcome.{done}
 use Rattle.register.specs.declared.cells.Cell.{Cell}
 use Rattle.integers.proofs.Complement.{kept}
 use Rattle.api_read.specs.declared.reading.ReadNumbers.{ReadNumbers}

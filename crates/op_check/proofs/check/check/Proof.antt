@@ -3,7 +3,7 @@
 use mathlib.Core.Path.{_≡_, sym, ap, _∙_}
 use denote.Ref.{now}
 use Rattle.register.specs.Load.{load, refusalNumber, outcomeOf}
-use Rattle.register.specs.Outcome.{done, refused}
+use Rattle.laws.specs.Outcome.{done, refused}
 use Rattle.register.proofs.Bounds.{limits}
 use Rattle.register.proofs.Roundtrip.{loads}
 use Rattle.op_check.proofs.Checks.{check-loaded, check-refused, number-positive}

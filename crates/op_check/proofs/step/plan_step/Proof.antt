@@ -4,10 +4,10 @@ use Prim.Native.Nat.{_≤_}
 use mathlib.Core.Path.{_≡_}
 use native.Mathlib.Omega.{arith}
 use denote.Ref.{now}
-use Rattle.register.specs.Outcome.{done}
+use Rattle.laws.specs.Outcome.{done}
 use Rattle.text_rules.specs.Text.{check}
 use Rattle.text_rules.proofs.Passing.{check-passes}
-use Rattle.text_reader.specs.Kept.{programOf, Complete}
+use Rattle.program.specs.Kept.{programOf, Complete}
 use Rattle.op_check.proofs.Checks.{answered-refused, answered-program, plan-refused, step-zero, step-past, step-there}
 use borrow.Author.Needs.{needs}
 use Rattle.op_check.proofs.step.plan_step.Statement.{statement}

@@ -3,7 +3,7 @@
 use Prim.Native.Nat.{ℕ, suc, _^_, _-_, _<_}
 use mathlib.Core.Path.{_≡_, refl, sym, _∙_}
 use native.Mathlib.Omega.{arith}
-use Rattle.plan_theory.specs.Half.{half-unique}
+use Rattle.plan_theory.proofs.Half.{half-unique}
 use lib.Pow.{pow-pos}
 use Rattle.plan_keys.proofs.word.half.Statement.{statement}
 use Rattle.plan_keys.proofs.word.half.Tie as tie

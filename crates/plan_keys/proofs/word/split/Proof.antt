@@ -6,7 +6,7 @@ use native.Mathlib.Omega.{arith}
 use lib.ListN.{length, take, drop}
 use Rattle.chain.specs.Word.{unpack}
 use Rattle.plan_theory.specs.Plan.{half as halfOf, front as frontOf, rest as restOf}
-use Rattle.plan_theory.specs.Half.{half-pos, half-below}
+use Rattle.plan_theory.proofs.Half.{half-pos, half-below}
 use borrow.Author.Needs.{needs}
 use Rattle.plan_keys.proofs.word.split.Statement.{statement}
 use Rattle.plan_keys.proofs.word.split.Tie as tie

@@ -5,8 +5,8 @@ use mathlib.Core.Path.{_≡_}
 use native.Mathlib.Omega.{arith}
 use borrow.Author.Needs.{needs}
 use Rattle.register.specs.Load.{cellsRefusal, recordRefusal, checkNumber}
-use Rattle.register.specs.Outcome.{first}
-use Rattle.register.proofs.First.{first-none, first-end}
+use Rattle.laws.specs.Outcome.{first}
+use Rattle.laws.proofs.First.{first-none, first-end}
 use Rattle.register.proofs.Refusals.{goes-on, stops}
 use Rattle.register.proofs.check.check_cells.Statement.{statement}
 use Rattle.register.proofs.check.check_cells.Tie as tie

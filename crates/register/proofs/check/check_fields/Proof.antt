@@ -4,9 +4,9 @@ use Prim.Native.Nat.{_≤_, _-_}
 use mathlib.Core.Path.{_≡_}
 use native.Mathlib.Omega.{arith}
 use borrow.Author.Needs.{needs}
-use Rattle.register.specs.Outcome.{first}
+use Rattle.laws.specs.Outcome.{first}
 use Rattle.register.specs.Load.{refusalAt, checkNumber}
-use Rattle.register.proofs.First.{first-end}
+use Rattle.laws.proofs.First.{first-end}
 use Rattle.register.proofs.Refusals.{goes-on, stops}
 use Rattle.register.proofs.check.check_fields.Statement.{statement}
 use Rattle.register.proofs.check.check_fields.Tie as tie

@@ -1,7 +1,7 @@
 -- `step_effects::sent::message_of` meets its contract.
 -- Assumes nothing.
 use mathlib.Core.Path.{_∙_}
-use Rattle.text_plan.specs.Stored.{actionOf}
+use Rattle.program.specs.Stored.{actionOf}
 use Rattle.machine.specs.Remote.{actionMessages}
 use Rattle.step_effects.specs.Answers.{messagesIn}
 use Rattle.step_effects.proofs.Answering.{send-local, send-nothing, send-done}

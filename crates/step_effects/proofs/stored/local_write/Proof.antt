@@ -1,7 +1,7 @@
 -- `step_effects::stored::local_write` meets its contract.
 -- Assumes nothing.
-use Rattle.text_plan.specs.Stored.{actionOf}
-use Rattle.text_rules.specs.Program.{fieldOf}
+use Rattle.program.specs.Stored.{actionOf}
+use Rattle.program.specs.Program.{fieldOf}
 use Rattle.machine.specs.Value.{cellInRange}
 use Rattle.machine.specs.Local.{formed, stored}
 use Rattle.step_effects.specs.Answers.{sumWrite, writeStored}

@@ -17,7 +17,7 @@ use Rattle.register.specs.declared.cells.Cell.the-variants.{Missing, Value}
 use Rattle.register.proofs.Loading.{file-parts}
 use Rattle.chain.specs.Word.{hasField}
 use Rattle.chain.proofs.Fields.{field-below}
-use Rattle.text_plan.specs.Stored.{ruleOf}
+use Rattle.program.specs.Stored.{ruleOf}
 use Rattle.step_effects.specs.Answers.{cellWrite, writeOf}
 use Rattle.step_effects.specs.declared.stored.Write.the-variants.{OutOfRange}
 use Rattle.step_rules.specs.Ready.{reads}

@@ -6,7 +6,7 @@ use borrow.Author.Needs.{needs}
 use denote.Ref.{now}
 use Rattle.register.specs.File.{cellsOfFile}
 use Rattle.register.proofs.Loading.{file-parts}
-use Rattle.text_plan.specs.Stored.{rulesIn}
+use Rattle.program.specs.Stored.{rulesIn}
 use Rattle.machine.specs.Remote.{messages, recordMessages}
 use Rattle.step_rules.specs.Ready.{reads}
 use Rattle.step_cells.proofs.Working.{same-then, room-same}

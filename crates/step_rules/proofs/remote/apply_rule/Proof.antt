@@ -14,7 +14,7 @@ use Rattle.register.specs.Cells.{cellsOf}
 use Rattle.register.specs.File.{cellCount, cellIndex}
 use Rattle.register.specs.declared.cells.Cell.{Cell}
 use Rattle.chain.specs.Word.{hasField, column}
-use Rattle.text_plan.specs.Stored.{ruleOf, actionOf}
+use Rattle.program.specs.Stored.{ruleOf, actionOf}
 use Rattle.machine.specs.declared.message.Message.{Message}
 use Rattle.machine.specs.Remote.{ruleMessages}
 use Rattle.step_cells.specs.Work.{Room}

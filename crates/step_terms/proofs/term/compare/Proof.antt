@@ -2,7 +2,6 @@
 -- Assumes nothing.
 use mathlib.Core.Path.{ap}
 use mathlib.Core.Bool.{not}
-use Rattle.text_local.specs.ActionRead.{written}
 use Rattle.machine.specs.Value.{compare}
 use Rattle.step_terms.proofs.Sides.{compare-kept}
 use borrow.Author.Needs.{needs}
@@ -28,19 +27,19 @@ equal-requires-2 : tie.Need-equal-requires-2
 equal-requires-2 c κs = search needs
 
 returns : tie.Need-returns
-unfolding written compare
+unfolding compare
 returns c =
     let s = c .before .before .before in
     compare-kept (s .fits .a) (s .fits .b) (c .before .enum-told .given .1) (c .less .ensures)
 
 returns-2 : tie.Need-returns-2
-unfolding written compare
+unfolding compare
 returns-2 c =
     let s = c .before .before .before in
     compare-kept (s .fits .a) (s .fits .b) (c .before .enum-told2 .given .1) (c .equal .ensures)
 
 returns-3 : tie.Need-returns-3
-unfolding written compare
+unfolding compare
 returns-3 c =
     let s = c .before .before .before in
     compare-kept (s .fits .a) (s .fits .b) (c .before .enum-told3 .given .1) (ap not (c .equal2 .ensures))

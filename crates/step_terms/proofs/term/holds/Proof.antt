@@ -1,7 +1,7 @@
 -- `step_terms::term::holds` meets its contract.
 -- Assumes nothing.
 use mathlib.Core.Path.{ap₂, _∙_}
-use Rattle.text_plan.specs.Stored.{testOf}
+use Rattle.program.specs.Stored.{testOf}
 use Rattle.machine.specs.Value.{holds, compareCells}
 use borrow.Author.Needs.{needs}
 use Rattle.step_terms.proofs.term.holds.Statement.{statement}

@@ -3,7 +3,7 @@
 use mathlib.Core.Path.{ap}
 use Rattle.integers.proofs.Complement.{kept}
 use Rattle.register.specs.declared.cells.Cell.the-variants.{Value}
-use Rattle.text_plan.specs.Stored.{termOf}
+use Rattle.program.specs.Stored.{termOf}
 use Rattle.machine.specs.Value.{termValue}
 use borrow.Author.Needs.{needs}
 use Rattle.step_terms.proofs.term.term_value.Statement.{statement}

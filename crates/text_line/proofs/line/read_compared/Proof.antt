@@ -6,7 +6,6 @@ use denote.Ref.{now}
 use Rattle.text_forms.specs.Bytes.{bytes}
 use Rattle.text_forms.specs.Written as W
 use Rattle.text_line.specs.LineRead.{lineRead}
-use Rattle.text_local.specs.ActionRead.{written}
 use Rattle.text_tokens.proofs.Words.{literal-taken, literal-refused, Taken}
 use Rattle.text_terms.proofs.Answers.{term-taken, term-refused, TermTaken}
 use Rattle.text_line.proofs.Reading.{when-parts, rule-read, compared-no-term, compared-no-colon, compared-rule}
@@ -66,7 +65,7 @@ returns-3 c =
     let q = term-read (c .before .before .before .before .before .before .before .before) in
     λ w e.
     c .read-rule .ensures
-    ∙ rule-read (a .sizes) (W.when w (written (a .comparison)) (q .written)) _ (c .before .when .ensures ∙ when-parts _ _ _ _ w (q .written) e (q .parts))
+    ∙ rule-read (a .sizes) (W.when w (a .comparison) (q .written)) _ (c .before .when .ensures ∙ when-parts _ _ _ _ w (q .written) e (q .parts))
     ∙ sym (ap (lineRead (a .sizes)) (compared-rule _ _ _ w _ _ _ q _ (colon-read (c .before .before .before))))
 
 pub read-compared-spec : {M : Type 1} → statement M

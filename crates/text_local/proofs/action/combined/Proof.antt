@@ -8,7 +8,7 @@ use Rattle.chain_text.proofs.Steps.{capital-low}
 use Rattle.text_forms.specs.Written as W
 use Rattle.text_terms.specs.Read.{partsOf}
 use Rattle.text_local.specs.ActionRead.{combined, ruleOfAction}
-use Rattle.text_local.specs.declared.rule.Rule.{Rule}
+use Rattle.program.specs.declared.rule.Rule.{Rule}
 use Rattle.text_local.proofs.Actions.{combined-read}
 use Rattle.text_local.proofs.action.combined.Statement.{statement}
 use Rattle.text_local.proofs.action.combined.Tie as tie

@@ -1,9 +1,9 @@
 -- `text_state::state::open_frame` meets its contract.
 -- Assumes nothing.
 use mathlib.Core.Path.{ap}
-use Rattle.text_rules.specs.declared.around.Setting.{Setting}
+use Rattle.program.specs.declared.setting.Setting.{Setting}
 use Rattle.text_state.specs.State.{frameOf}
-use Rattle.text_state.specs.declared.state.Frame.{Frame}
+use Rattle.program.specs.declared.frame.Frame.{Frame}
 use borrow.Author.Needs.{needs}
 use Rattle.text_state.proofs.state.open_frame.Statement.{statement}
 use Rattle.text_state.proofs.state.open_frame.Tie as tie

@@ -9,8 +9,8 @@ use lib.ListN.{length, length-take, length-drop, take-append-drop}
 use borrow.Author.Tests.{lt-ltb, le-ltb}
 use Rattle.plan_theory.specs.Plan.{half, front, rest, Fact, back, read, word, hops, line-from, back-need, read-need, none, one, both, tree-within, tree, rounds, round}
 use Rattle.plan_theory.specs.Promise.{Needed, itself, by-back, by-read}
-use Rattle.plan_theory.specs.Cases.{lt-or-le}
-use Rattle.plan_theory.specs.Half.{half-below, half-pos}
+use Rattle.laws.proofs.Cases.{lt-or-le}
+use Rattle.plan_theory.proofs.Half.{half-below, half-pos}
 
 pub front-rest : (c : List ℕ) → front c ++ rest c ≡ c
 unfolding front rest

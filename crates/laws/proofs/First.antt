@@ -4,7 +4,7 @@ use mathlib.Core.Path.{_≡_, refl, sym, ap, _∙_}
 use mathlib.Core.Logic.{_≢_}
 use native.Mathlib.Omega.{arith}
 use native.Mathlib.Decide.{decLt, le-ind}
-use Rattle.register.specs.Outcome.{orElse, first}
+use Rattle.laws.specs.Outcome.{orElse, first}
 
 orElse-zero : (x y : ℕ) → x ≡ 0 → orElse x y ≡ y
 unfolding orElse

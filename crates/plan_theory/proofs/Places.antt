@@ -9,7 +9,7 @@ use lib.Dec.{eqb}
 use lib.ListN.{length}
 use borrow.Author.Tests.{eqb-true, eq-eqb}
 use Rattle.plan_theory.specs.Plan.{Fact, back, read, same-word, same, place, line}
-use Rattle.plan_theory.specs.Cases.{true-or-false, lt-or-le}
+use Rattle.laws.proofs.Cases.{true-or-false, lt-or-le}
 
 both-true : (a b : Bool) → a && b ≡ true → (a ≡ true) × (b ≡ true)
 both-true true b e = (refl, e)

@@ -3,15 +3,14 @@ use Prim.Native.Nat.{ℕ}
 use mathlib.Core.List.{List, map}
 use lib.ListN.{take}
 use Rattle.chain.specs.Word.{unpack}
-use Rattle.text_local.specs.ActionRead.{written}
-use Rattle.text_terms.specs.declared.term.Term.{Term}
-use Rattle.text_terms.specs.declared.term.Term.the-variants.{Chain, Number}
-use Rattle.text_local.specs.declared.rule.Test.{Test}
-use Rattle.text_local.specs.declared.rule.Test.the-variants.{Always, When}
-use Rattle.text_local.specs.declared.rule.Rule.{Rule}
-use Rattle.text_local.specs.declared.rule.Rule.the-variants.{Set, Sum, Difference, Least, Total}
-use Rattle.text_local.specs.declared.rule.Slot.{Slot}
-use Rattle.text_rules.specs.Program as P
+use Rattle.program.specs.declared.term.Term.{Term}
+use Rattle.program.specs.declared.term.Term.the-variants.{Chain, Number}
+use Rattle.program.specs.declared.rule.Test.{Test}
+use Rattle.program.specs.declared.rule.Test.the-variants.{Always, When}
+use Rattle.program.specs.declared.rule.Rule.{Rule}
+use Rattle.program.specs.declared.rule.Rule.the-variants.{Set, Sum, Difference, Least, Total}
+use Rattle.program.specs.declared.rule.Slot.{Slot}
+use Rattle.program.specs.Program as P
 
 -- the rule of the program that a place of the array holds
 unfoldable pub termOf : Term → P.Term
@@ -20,7 +19,7 @@ termOf (Number z) = P.constant z
 
 unfoldable pub testOf : Test → P.Test
 testOf Always = P.always
-testOf (When x c y) = P.when (termOf x) (written c) (termOf y)
+testOf (When x c y) = P.when (termOf x) c (termOf y)
 
 unfoldable pub actionOf : Rule → P.Action
 actionOf (Set f x) = P.set f (termOf x)

@@ -8,11 +8,11 @@ use lib.ListN.{length, length-append, List·getD-append}
 use lib.Seq.{getD-append-seam}
 use Rattle.plan_theory.specs.Plan.{Fact, read, word, hops, back-need, read-need, round, place, plan, last-round, line}
 use Rattle.plan_theory.specs.Promise.{Wanted, Stands, InRound, Promise, longest}
-use Rattle.plan_theory.specs.Cases.{lt-or-le}
-use Rattle.plan_theory.specs.Half.{half-pos}
-use Rattle.plan_theory.specs.Facts.{round-both, round-line, line-round, later-round, front-length, needed-hops}
-use Rattle.plan_theory.specs.Places.{place-line, place-append-listed, place-append-before, place-append-last}
-use Rattle.plan_theory.specs.Lines.{Next, Grows, stays, appends, readings-grow, readings-had}
+use Rattle.laws.proofs.Cases.{lt-or-le}
+use Rattle.plan_theory.proofs.Half.{half-pos}
+use Rattle.plan_theory.proofs.Facts.{round-both, round-line, line-round, later-round, front-length, needed-hops}
+use Rattle.plan_theory.proofs.Places.{place-line, place-append-listed, place-append-before, place-append-last}
+use Rattle.plan_theory.proofs.Lines.{Next, Grows, stays, appends, readings-grow, readings-had}
 
 -- what holds of each line and of one more behind them holds of each line then
 pub lines-append : (P : ℕ → Fact → Type 0) (l : List Fact) (f : Fact) → ((i : ℕ) → i < length l → P i (line l i)) → P (length l) f

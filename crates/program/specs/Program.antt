@@ -6,8 +6,8 @@ use lib.IntN.{ℤ}
 use lib.Dec.{eqb}
 use lib.ListN.{length}
 use Rattle.plan_theory.specs.Plan.{Fact, plan}
-use Rattle.text_forms.specs.Written.{Comparison}
-use Rattle.text_rules.specs.declared.around.Setting.{Setting}
+use Rattle.program.specs.declared.rule.Comparison.{Comparison}
+use Rattle.program.specs.declared.setting.Setting.{Setting}
 
 -- "A term X or Y is a chain or a number": a chain by its hop word
 pub data Term : Type 0 where
@@ -95,3 +95,23 @@ isRemote (total f c x) = true
 unfoldable pub hasRemote : List Rule → Bool
 hasRemote [] = false
 hasRemote (r ∷ rs) = isRemote (r .action) || hasRemote rs
+
+-- whether a rule is a remote write to field f: by `<?=`, by `+=`
+unfoldable pub isLeast : ℕ → Action → Bool
+isLeast f (set g x) = false
+isLeast f (sum g x y) = false
+isLeast f (difference g x y) = false
+isLeast f (least g c x) = eqb f g
+isLeast f (total g c x) = false
+
+unfoldable pub isTotal : ℕ → Action → Bool
+isTotal f (set g x) = false
+isTotal f (sum g x y) = false
+isTotal f (difference g x y) = false
+isTotal f (least g c x) = false
+isTotal f (total g c x) = eqb f g
+
+-- whether p holds of one of these rules
+unfoldable pub someAction : (Action → Bool) → List Rule → Bool
+someAction p [] = false
+someAction p (r ∷ rs) = p (r .action) || someAction p rs

@@ -9,9 +9,9 @@ use lib.ListN.{length, length-append}
 use borrow.Author.Tests.{lt-ltb, le-ltb}
 use Rattle.plan_theory.specs.Plan.{Fact, read, hops, line-from, back-need, read-need, place, listed, lines, add, add-readings, plan}
 use Rattle.plan_theory.specs.Promise.{Needed, itself, by-back, by-read, Wanted}
-use Rattle.plan_theory.specs.Cases.{lt-or-le}
-use Rattle.plan_theory.specs.Facts.{tree-none, tree-one, tree-both, fact-cases, line-from-le, back-need-shorter, read-need-shorter, fact-ind, needed-hops}
-use Rattle.plan_theory.specs.Places.{place-append-listed, place-append-new, place-append-last, place-past}
+use Rattle.laws.proofs.Cases.{lt-or-le}
+use Rattle.plan_theory.proofs.Facts.{tree-none, tree-one, tree-both, fact-cases, line-from-le, back-need-shorter, read-need-shorter, fact-ind, needed-hops}
+use Rattle.plan_theory.proofs.Places.{place-append-listed, place-append-new, place-append-last, place-past}
 
 pub add-none : (l : List Fact) (f : Fact) → hops f < line-from f → add l f ≡ l
 unfolding add lines

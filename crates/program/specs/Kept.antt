@@ -1,18 +1,15 @@
--- What the reader's arrays hold of a program, and its answer.
+-- What a program's arrays hold.
 use Prim.Native.Nat.{ℕ, _≤_}
 use mathlib.Core.Path.{_≡_}
 use mathlib.Core.Bool.{false}
 use mathlib.Core.List.{List, [], _∷_}
 use lib.ListN.{length, getD, take, drop}
-use Rattle.register.specs.Outcome.{Outcome, done, unless}
 use Rattle.plan_lines.specs.Held.{Holds}
-use Rattle.text_rules.specs.Program.{Rule, Step, Program, stepPlan, writes, hasRemote, mostLines}
-use Rattle.text_rules.specs.Check.{someAction}
-use Rattle.text_local.specs.declared.rule.Slot.{Slot}
-use Rattle.text_plan.specs.Stored.{rulesIn}
-use Rattle.text_state.specs.declared.state.Frame.{Frame}
-use Rattle.text_reader.specs.declared.Program as R
-use Rattle.text_reader.specs.declared.Checked.{Checked}
+use Rattle.program.specs.Program.{Rule, Step, Program, stepPlan, writes, hasRemote, mostLines, someAction}
+use Rattle.program.specs.declared.rule.Slot.{Slot}
+use Rattle.program.specs.Stored.{rulesIn}
+use Rattle.program.specs.declared.frame.Frame.{Frame}
+use Rattle.program.specs.declared.Program as R
 
 -- the steps of these frames, each with 32 places: rule k of step s stands at 32 × s + k
 unfoldable pub stepsIn : List Slot → List Frame → Program
@@ -42,12 +39,3 @@ pub record Complete (p : R.Program) : Type 0 where
   pub framed : Framed (p .frames) (programOf p)
   pub steps-are : p .steps ≡ length (programOf p)
   pub lines-are : p .lines ≡ mostLines (programOf p)
-
--- the outcome of a check
-unfoldable pub outcomeOf : Checked → Outcome Program
-outcomeOf r = unless (r .refusal) (r .line) (done (programOf (r .program)))
-
--- an answer of this outcome, with all that is kept beside a program that passed
-pub record Answers (o : Outcome Program) (r : Checked) : Type 0 where
-  pub outcome-is : outcomeOf r ≡ o
-  pub complete : r .refusal ≡ 0 → Complete (r .program)

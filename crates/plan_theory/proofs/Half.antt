@@ -8,7 +8,7 @@ use lib.Dec.{ltb}
 use lib.Pow.{pow-mono, pow-pos}
 use borrow.Author.Tests.{ltb-true, ltb-false}
 use Rattle.plan_theory.specs.Plan.{doubled, half}
-use Rattle.plan_theory.specs.Cases.{true-or-false, lt-or-le}
+use Rattle.laws.proofs.Cases.{true-or-false, lt-or-le}
 
 doubled-cases : (h k : ℕ) → ((2 * h < k) × (doubled h k ≡ 2 * h)) ⊎ ((k ≤ 2 * h) × (doubled h k ≡ h))
 unfolding doubled

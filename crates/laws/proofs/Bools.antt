@@ -1,7 +1,7 @@
 -- Tests joined by `&&` and `||`, as branches leave them.
 use Prim.Native.Nat.{ℕ}
 use mathlib.Core.Path.{_≡_, refl}
-use mathlib.Core.Bool.{Bool, true, false, _&&_, _||_}
+use mathlib.Core.Bool.{Bool, true, false, cond, _&&_, _||_}
 use native.Mathlib.Omega.{arith}
 
 -- what the first test leaves of both
@@ -30,3 +30,8 @@ or-neither false b e = (refl, e)
 
 pub true-false : {A : Type 0} {a : Bool} → a ≡ true → a ≡ false → A
 true-false p q = absurd (let z : _≡_ {A = ℕ} 0 1 = cc in omega arith)
+
+-- what holds of both arms
+pub cond-both : {A : Type 0} (P : A → Type 0) (b : Bool) (x y : A) → P x → P y → P (cond b x y)
+cond-both P true x y h k = h
+cond-both P false x y h k = k

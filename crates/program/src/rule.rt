@@ -1,5 +1,5 @@
 // Rules and tests, as a program holds them.
-use text_terms::term::Term;
+use crate::term::Term;
 
 // `F[u] := X`, `F[u] := X + Y`, `F[u] := X - Y`, `remote F[C] <?= X`, `remote F[C] += X`: F by its field, C packed.
 pub enum Rule {

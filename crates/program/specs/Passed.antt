@@ -9,15 +9,10 @@ use lib.ListN.{length}
 use Rattle.integers.specs.Range.{inRange}
 use Rattle.register.specs.declared.Sizes.{Sizes}
 use Rattle.chain.specs.Word.{isReference, hasField, Passes}
-use Rattle.text_rules.specs.declared.around.Setting.{Setting}
-use Rattle.text_rules.specs.declared.around.Setting.the-variants.{Single, Looped}
-use Rattle.text_rules.specs.Program.{Term, reading, constant, Test, always, when, Action, set, sum, difference, least, total, Rule, Step, Program, stepPlan}
-use Rattle.text_rules.specs.Check.{someAction, isLeast, isTotal}
-
--- P holds of each
-abbrev pub Each : {A : Type 0} → (A → Type 0) → List A → Type 0
-Each P [] = Unit {0}
-Each P (a ∷ l) = P a × Each P l
+use Rattle.program.specs.declared.setting.Setting.{Setting}
+use Rattle.program.specs.declared.setting.Setting.the-variants.{Single, Looped}
+use Rattle.program.specs.Program.{Term, reading, constant, Test, always, when, Action, set, sum, difference, least, total, Rule, Step, Program, stepPlan, someAction, isLeast, isTotal}
+use Rattle.laws.specs.Lists.{Each}
 
 -- "Its kind is that of the outermost letter, `u` being a reference"
 unfoldable pub isReferenceWord : List ℕ → Bool

@@ -6,10 +6,10 @@ use native.Mathlib.Omega.{arith}
 use native.Mathlib.Nat.{max-comm}
 use lib.ListN.{length}
 use Rattle.plan_theory.specs.Knows.{Knows, own-number, own-cell, told, LeastRounds}
-use Rattle.plan_theory.specs.Bound.{reading-bound}
+use Rattle.plan_theory.proofs.Bound.{reading-bound}
 use Rattle.plan_theory.specs.Plan.{half, front, rest, Fact, back, read, word, hops, line-from, back-need, read-need, round}
-use Rattle.plan_theory.specs.Half.{half-next, half-double, half-below}
-use Rattle.plan_theory.specs.Facts.{front-rest, front-length, rest-length, round-none, round-one, round-both, fact-ind, fact-cases, line-from-pos, line-from-le}
+use Rattle.plan_theory.proofs.Half.{half-next, half-double, half-below}
+use Rattle.plan_theory.proofs.Facts.{front-rest, front-length, rest-length, round-none, round-one, round-both, fact-ind, fact-cases, line-from-pos, line-from-le}
 
 -- what a fact says, with k rounds: Back(w), the record at w knows u; Read(w), u knows w
 abbrev pub Derives : Fact → ℕ → Type 0

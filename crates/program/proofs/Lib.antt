@@ -1,0 +1,3 @@
+-- Laws of a program and of its array.
+pub mod Rules
+pub mod Frames

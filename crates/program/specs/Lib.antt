@@ -1,0 +1,5 @@
+-- A read program: what it is, how its array holds it, and what one that passed keeps to.
+pub mod Program
+pub mod Passed
+pub mod Stored
+pub mod Kept
