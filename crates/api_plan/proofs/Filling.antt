@@ -8,8 +8,8 @@ use borrow.Author.Count.{below-none, below-more}
 use borrow.Author.Tests.{lt-ltb, le-ltb}
 use lib.ListN.{length, getD, set, take, drop, replicate, length-map, length-set, length-replicate, List·getD-map, List·getD-eq-default}
 use lib.Seq.{getD-take, getD-set-same, getD-set-other}
-use Rattle.chain.specs.Word.{isReference, unpack, unpackWithin}
-use Rattle.chain.proofs.Packing.{unpack-none, unpack-last, unpack-more}
+use Rattle.chain.specs.Word.{isReference, unpack, unpackWithin, FirstHop}
+use Rattle.chain.proofs.Packing.{unpack-none}
 use Rattle.plan_theory.specs.Plan.{Fact, read, word, round, rounds, tree, tree-within}
 use Rattle.laws.proofs.Cases.{lt-or-le}
 use Rattle.plan_keys.specs.Keys.{fact-of}
@@ -50,9 +50,9 @@ pub letter-reference : (f : ℕ) → f < 8 → 65 + f ≡ letterOf f
 unfolding letterOf isReference
 letter-reference f h = rw (lt-ltb f 8 h)
 
-pub letter-measure : (f : ℕ) → 8 ≤ f → 69 + f ≡ letterOf f
+pub letter-measure : (f : ℕ) → 8 ≤ f → 77 + (f - 8) ≡ letterOf f
 unfolding letterOf isReference
-letter-measure f h = rw (le-ltb f 8 h)
+letter-measure f h = rw (le-ltb f 8 h) (omega arith)
 
 -- the letter of hop h is that of the first hop behind h hops
 first-behind : (w : List ℕ) (h : ℕ) → getD (map letterOf (drop h w)) 0 0 ≡ getD (map letterOf w) h 0
@@ -67,11 +67,8 @@ module _ (chain hop rest : ℕ) (e : unpack rest ≡ drop hop (unpack chain)) wh
   pub letter-none : rest ≡ 0 → 0 ≡ getD (map letterOf (unpack chain)) hop 0
   letter-none z = letter-first [] (ap unpack z ∙ unpack-none)
 
-  pub letter-last : 1 ≤ rest → rest ≤ 16 → letterOf (rest - 1) ≡ getD (map letterOf (unpack chain)) hop 0
-  letter-last lo hi = letter-first _ (unpack-last rest lo hi)
-
-  pub letter-more : 16 < rest → letterOf ((rest - 9) % 8) ≡ getD (map letterOf (unpack chain)) hop 0
-  letter-more h = letter-first _ (unpack-more rest h)
+  pub letter-some : {f : ℕ} → FirstHop f (unpack rest) → letterOf f ≡ getD (map letterOf (unpack chain)) hop 0
+  letter-some h = letter-first _ (h .splits)
 
 module _ {p : Plan} (h : Holds p (facts p)) where
   -- what v makes of line i; behind the last line, of f

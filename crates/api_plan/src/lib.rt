@@ -7,6 +7,7 @@ ghost use Rattle.chain.specs.Word.{unpack};
 ghost use Rattle.plan_keys.specs.Keys.{fact-of};
 ghost use Rattle.plan_lines.specs.Held.{facts, Holds};
 ghost use Rattle.api_plan.specs.PlanArrays.{flagNumber, kindNumber, letterOf, kindAt, letterAt, roundAt, planLines, Filled, PlanArrays};
+use chain::packed;
 use plan_keys::key;
 use plan_keys::key::Kind;
 use plan_keys::word;
@@ -29,9 +30,9 @@ fn letter(field: u64) -> u8
     ensures { λ r. ⌜ r ≡ letterOf field ⌝ }
 {
     if field < 8 {
-        65 + field as u8
+        b'A' + field as u8
     } else {
-        69 + field as u8
+        b'M' + (field - 8) as u8
     }
 }
 
@@ -42,10 +43,8 @@ fn letter_at(chain: u64, hop: u64) -> u8
     let rest = word::rest(chain, hop);
     if rest == 0 {
         0
-    } else if rest <= 16 {
-        letter(rest - 1)
     } else {
-        letter((rest - 9) % 8)
+        letter(packed::first_hop(rest))
     }
 }
 

@@ -3,8 +3,8 @@ ghost use mathlib.Core.Path.{_≡_};
 ghost use Rattle.op_read.specs.Reading.{readingOutcome, refusalNumber as chainNumber};
 ghost use Rattle.laws.specs.Outcome.{done, refused as refusedWith};
 ghost use Rattle.api_read.specs.Numbers.{readNumbers};
+use chain::reading::Reading;
 use op_read::ReadingAnswer;
-use register::cells::Cell;
 
 fn chain_number(refusal: op_read::Refusal) -> u32
     ensures { λ r. ⌜ r ≡ chainNumber refusal ⌝ }
@@ -36,17 +36,17 @@ fn refused(number: u32, line: u64) -> ReadNumbers
     }
 }
 
-fn read(cell: Cell) -> ReadNumbers
-    ensures { λ r. ⌜ r ≡ readNumbers (done cell) ⌝ }
+fn read(reading: Reading) -> ReadNumbers
+    ensures { λ r. ⌜ r ≡ readNumbers (done reading) ⌝ }
 {
-    match cell {
-        Cell::Missing => ReadNumbers {
+    match reading {
+        Reading::Missing => ReadNumbers {
             number: 0,
             line: 0,
             value: 0,
             filled: 0,
         },
-        Cell::Value(value) => ReadNumbers {
+        Reading::Value(value) => ReadNumbers {
             number: 0,
             line: 0,
             value: integers::widen(value),
@@ -59,7 +59,7 @@ pub fn numbers(answer: ReadingAnswer) -> ReadNumbers
     ensures { λ r. ⌜ r ≡ readNumbers (readingOutcome answer) ⌝ }
 {
     match answer {
-        ReadingAnswer::Read(cell) => read(cell),
+        ReadingAnswer::Read(reading) => read(reading),
         ReadingAnswer::Register(refusal) => refused(register::number_of(refusal), 0),
         ReadingAnswer::Chain(refusal) => refused(chain_number(refusal), 1),
         ReadingAnswer::Record => refused(16, 0),

@@ -1,4 +1,5 @@
 -- What the places of a plan's lines hold once its readings are gathered, and what was counted.
+use mathlib.Core.Bool.{Bool}
 use mathlib.Core.List.{List}
 use mathlib.Core.Path.{_≡_}
 use Prim.Native.Nat.{ℕ, _*_, _≤_}
@@ -19,9 +20,10 @@ abbrev pub countedBy : Machine → Sizes → List Cell → List Fact → Counts
 countedBy Direct s cells l = record { exchanges = 0; messages = 0 }
 countedBy Messages s cells l = record { exchanges = last-round l; messages = planMessages (heldAfter s cells (last-round l)) l (s .records) }
 
--- every Read line's places hold what is had by following, whichever machine it was
-pub record GatheredBy (m : Machine) (s : Sizes) (cells : List Cell) (l : List Fact) (values : List ℤ) (marks : List ℕ) (values′ : List ℤ) (marks′ : List ℕ) (r : Counts) : Type 0 where
-  pub filled : Filled s cells l (length l) values marks values′ marks′
+-- the places of every Read line that is wanted hold what is had by following, whichever machine it was
+pub record GatheredBy (m : Machine) (s : Sizes) (cells : List Cell) (l : List Fact) (wanted : List Bool)
+    (values : List ℤ) (marks : List ℕ) (values′ : List ℤ) (marks′ : List ℕ) (r : Counts) : Type 0 where
+  pub filled : Filled s cells l wanted (length l) values marks values′ marks′
   pub counted : r ≡ countedBy m s cells l
   pub few-exchanges : r .exchanges ≤ 255
   pub few-messages : r .messages ≤ length l * s .records

@@ -9,14 +9,15 @@ use lib.ListN.{length, take, set, length-set}
 use lib.Seq.{take-all}
 use mir.Syntax.{w32}
 use mir.Val.{SFits}
-use Rattle.register.specs.Cells.{valueOf, markOf}
 use Rattle.register.specs.declared.Sizes.{Sizes}
 use Rattle.register.specs.declared.cells.Cell.{Cell}
-use Rattle.register.specs.declared.cells.Cell.the-variants.{Missing}
+use Rattle.chain.specs.declared.reading.Reading.{Reading}
+use Rattle.chain.specs.declared.reading.Reading.the-variants.{Missing}
+use Rattle.chain.specs.Word.{readingValue}
 use Rattle.plan_theory.specs.Plan.{Fact, round, line}
 use Rattle.laws.proofs.Cases.{lt-or-le}
 use Rattle.machine_messages.specs.Held.{heldAfter}
-use Rattle.scratch.specs.Places.{Kept}
+use Rattle.scratch.specs.Places.{readingMark, Kept}
 use Rattle.scratch.proofs.Placed.{kept-same, kept-again, kept-other}
 use Rattle.gather_line.specs.Written.{Stored, LineSent}
 use Rattle.gather_exchanges.specs.Exchanged.{roundMessages, HeldTo, Exchanged, ExchangedTo, Cleared}
@@ -70,7 +71,7 @@ module _ (s : Sizes) (cells : List Cell) (l : List Fact) where
           }
 
       -- a line of this one
-      pub round-line : {message : ℕ → Cell} {values″ : List ℤ} {marks″ : List ℕ} {q : ℕ} → round (line l k) ≡ t
+      pub round-line : {message : ℕ → Reading} {values″ : List ℤ} {marks″ : List ℕ} {q : ℕ} → round (line l k) ≡ t
           → LineSent s message k (s .records) values′ marks′ values″ marks″ q
           → ((u : ℕ) → u < s .records → message u ≡ heldAfter s cells t (line l k) u)
           → RoundSent s cells l t (k + 1) values marks values″ marks″ (m + q)
@@ -152,14 +153,14 @@ module _ (values : List ℤ) (marks : List ℕ) where
   clear-none = record { values-length = refl; marks-length = refl; missing = λ j h. absurd (omega arith); behind = λ j h. kept-same }
 
   pub clear-next : {values′ : List ℤ} {marks′ : List ℕ} (k : ℕ) → k < length values → k < length marks
-      → Cleared k values marks values′ marks′ → SFits w32 (valueOf Missing)
-      → Cleared (k + 1) values marks (set values′ k (valueOf Missing)) (set marks′ k (markOf Missing))
+      → Cleared k values marks values′ marks′ → SFits w32 (readingValue Missing)
+      → Cleared (k + 1) values marks (set values′ k (readingValue Missing)) (set marks′ k (readingMark Missing))
   clear-next {values′} {marks′} k room room′ c fits =
-      let other : (j : ℕ) → j ≢ k → Kept j values′ marks′ (set values′ k (valueOf Missing)) (set marks′ k (markOf Missing)) =
-      kept-other values′ marks′ k (valueOf Missing) (markOf Missing) in
+      let other : (j : ℕ) → j ≢ k → Kept j values′ marks′ (set values′ k (readingValue Missing)) (set marks′ k (readingMark Missing)) =
+      kept-other values′ marks′ k (readingValue Missing) (readingMark Missing) in
       record {
-        values-length = length-set values′ k (valueOf Missing) ∙ c .values-length;
-        marks-length = length-set marks′ k (markOf Missing) ∙ c .marks-length;
+        values-length = length-set values′ k (readingValue Missing) ∙ c .values-length;
+        marks-length = length-set marks′ k (readingMark Missing) ∙ c .marks-length;
         missing = λ j h.
             ⊎-elim
             (λ (b : j < k). stored-kept (c .missing j b) (other j (λ q. omega arith)))

@@ -8,7 +8,7 @@ use lib.IntN.{pos}
 use lib.ListN.{length}
 use Rattle.register.specs.declared.Sizes.{Sizes}
 use Rattle.register.specs.declared.cells.Cell.{Cell}
-use Rattle.register.specs.declared.cells.Cell.the-variants.{Value}
+use Rattle.chain.specs.declared.reading.Reading.the-variants.{Value}
 use Rattle.plan_theory.specs.Plan.{Fact, read, word, hops, rest, back-need}
 use Rattle.machine_messages.specs.Held.{Held, knows, writer, needed}
 

@@ -9,12 +9,13 @@ use native.Mathlib.Omega.{arith}
 use lib.IntN.{ℤ, natAbs}
 use lib.ListN.{length}
 use Rattle.integers.proofs.Complement.{index-is}
-use Rattle.register.specs.Shape.{Valid, refersWithin}
+use Rattle.register.specs.Shape.{Valid}
 use Rattle.register.specs.declared.Sizes.{Sizes}
 use Rattle.register.specs.declared.cells.Cell.{Cell}
-use Rattle.register.specs.declared.cells.Cell.the-variants.{Missing, Value}
-use Rattle.chain.specs.Word.{hasField, readable, unpack}
-use Rattle.chain.proofs.Packing.{unpack-last}
+use Rattle.chain.specs.declared.reading.Reading.{Reading}
+use Rattle.chain.specs.declared.reading.Reading.the-variants.{Missing, Value}
+use Rattle.chain.specs.Word.{hasField, readable, unpack, FirstHop, refersTo}
+use Rattle.chain.proofs.Packing.{packed-some}
 use Rattle.plan_theory.specs.Plan.{Fact, back, read, word, hops, rest, line-from, back-need, read-need, round, line}
 use Rattle.laws.proofs.Cases.{lt-or-le}
 use Rattle.plan_theory.proofs.Half.{half-below}
@@ -23,7 +24,6 @@ use Rattle.plan_lines.specs.Held.{facts, line-at}
 use Rattle.plan_lines.specs.Promised.{fact-at, Serves, LinePromise}
 use Rattle.plan_lines.specs.declared.Plan.{Plan}
 use Rattle.plan_lines.proofs.Search.{facts-length, facts-line}
-use Rattle.plan_keys.proofs.Words.{hops-none, hops-two}
 use Rattle.machine.proofs.Readable.{Follows, referring-readable, read-follows}
 use Rattle.machine_messages.specs.Held.{knows, writer, needed, written, sent, heldAfter}
 use Rattle.gather_exchanges.specs.Lines.{OneHop, Lines, Followable}
@@ -42,24 +42,19 @@ needed-some f h =
     (λ (two : 2 ≤ hops f). rw (needed-rest f two) (omega (arith, rest-length (word f), half-below (hops f) two)))
     (lt-or-le (hops f) 2)
 
--- a packed word of one or more hops is not 0, and of fewer than two it is one field
-packed-some : (n : ℕ) → 1 ≤ length (unpack n) → 1 ≤ n
-packed-some n h =
-    ⊎-elim
-    (λ (b : n < 1). let e : n ≡ 0 = omega arith in absurd (omega (arith, ap (λ (k : ℕ). length (unpack k)) e, hops-none)))
-    (λ b. b)
-    (lt-or-le n 1)
-
-packed-one : (n : ℕ) → 1 ≤ n → length (unpack n) < 2 → unpack n ≡ (n - 1) ∷ []
-packed-one n h l = unpack-last n h (⊎-elim (λ (b : n < 17). omega arith) (λ (b : 17 ≤ n). absurd (omega (arith, hops-two n b))) (lt-or-le n 17))
+-- a word of fewer than two hops is its first
+first-alone : {g : ℕ} (w : List ℕ) → FirstHop g w → length w < 2 → w ≡ g ∷ []
+first-alone [] h l = h .splits
+first-alone (f ∷ []) h l = h .splits
+first-alone (f ∷ g ∷ w) h l = absurd (omega arith)
 
 -- the field of a line, from what its writer has to know, packed
 module _ (f : Fact) (n : ℕ) (has-line : line-from f ≤ hops f) (e : unpack n ≡ needed f) where
   pub field-some : 1 ≤ n
   field-some = packed-some n (rw e (needed-some f has-line))
 
-  pub field-is : OneHop f (n - 1)
-  field-is short = sym e ∙ packed-one n field-some (rw e short)
+  pub field-is : {g : ℕ} → FirstHop g (unpack n) → OneHop f g
+  field-is h short = sym e ∙ first-alone (unpack n) h (rw e short)
 
 -- the lines before line i hold what was sent in rounds up to t
 pub record Earlier (s : Sizes) (cells : List Cell) (l : List Fact) (t i : ℕ) (values : List ℤ) (marks : List ℕ) : Type 0 where
@@ -155,7 +150,7 @@ module _ {p : Plan} (lines : Lines p) where
             record { values-room = omega arith; marks-room = omega arith; fits = λ u h. stored-fits (served x u h) }
 
         back-refers : (x : Serves p i (line-at p i .back) (back-need (fact-at p i))) → (u : ℕ) → u < s .records
-            → refersWithin (s .records) (heldAfter s cells t (back-need (fact-at p i)) u) ≡ true
+            → refersTo (s .records) (heldAfter s cells t (back-need (fact-at p i)) u) ≡ true
         back-refers x u h =
             let c : line-at p i .back < p .count = omega (arith, x .before) in
             held-refers valid t (back-need (fact-at p i)) u h (follow .backs (line-at p i .back) _ (omega (arith, plan-count)) (plan-line _ c ∙ x .brings))
@@ -182,9 +177,9 @@ module _ {p : Plan} (lines : Lines p) where
               sym (w.known-told s cells values marks _ field v e) ∙ stored-place (served (promise .read-line (read-long e)) v h)
               ∙ sym (ap (knows s cells (heldAfter s cells t) v) (read-rest e) ∙ knows-told s cells (heldAfter s cells t) v _ (read-long e)))
 
-          written-is : (c : Cell) → refersWithin (s .records) c ≡ true
-              → writtenAt s cells values marks (line-at p i .read) field c ≡ written s cells (heldAfter s cells t) (fact-at p i) c
-          unfolding writtenAt written refersWithin
+          written-is : (x : Reading) → refersTo (s .records) x ≡ true
+              → writtenAt s cells values marks (line-at p i .read) field x ≡ written s cells (heldAfter s cells t) (fact-at p i) x
+          unfolding writtenAt written refersTo
           written-is Missing r = refl
           written-is (Value z) r = known-is (natAbs z) (index-is (s .records) z r .1)
 

@@ -9,6 +9,7 @@ use lib.ListN.{length}
 use Rattle.register.specs.Shape.{Valid}
 use Rattle.register.specs.declared.Sizes.{Sizes}
 use Rattle.register.specs.declared.cells.Cell.{Cell}
+use Rattle.chain.specs.declared.reading.Reading.{Reading}
 use Rattle.plan_theory.specs.Plan.{round, line}
 use Rattle.plan_lines.specs.Held.{facts, line-at}
 use Rattle.plan_lines.specs.Promised.{fact-at}
@@ -58,7 +59,7 @@ module _ {s : Sizes} {cells : List Cell} {p : Plan} (valid : Valid s cells) {t :
         }
 
     -- the messages of the line, by the places of its needs
-    abbrev message : ℕ → Cell
+    abbrev message : ℕ → Reading
     message = messageAt s cells values′ marks′ (line-at p i .back) (line-at p i .read) field
 
     message-is : (u : ℕ) → u < s .records → message u ≡ heldAfter s cells (suc t) (line (facts p) i) u

@@ -9,7 +9,7 @@ use lib.IntN.{ℤ}
 use lib.ListN.{length}
 use Rattle.register.specs.declared.Sizes.{Sizes}
 use Rattle.register.specs.declared.cells.Cell.{Cell}
-use Rattle.register.specs.declared.cells.Cell.the-variants.{Missing}
+use Rattle.chain.specs.declared.reading.Reading.the-variants.{Missing}
 use Rattle.plan_theory.specs.Plan.{Fact, round, line}
 use Rattle.machine_messages.specs.Held.{Held, heldAfter}
 use Rattle.machine_messages.specs.Counts.{lineMessages, planMessages}

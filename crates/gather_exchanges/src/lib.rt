@@ -9,11 +9,12 @@ ghost use Rattle.plan_keys.specs.Keys.{fact-of};
 ghost use Rattle.plan_lines.specs.Held.{facts-in, plan-of};
 ghost use Rattle.gather_exchanges.specs.Lines.{OneHop, PlanReady};
 ghost use Rattle.gather_exchanges.specs.Exchanged.{HeldTo, Exchanged, ExchangedTo, Cleared};
+use chain::packed;
+use chain::reading::Reading;
 use gather_line;
 use plan_keys::key;
 use plan_keys::key::ONE_HOP;
 use register::Sizes;
-use register::cells::Cell;
 use scratch;
 
 // The field of the word that a line's writer has to know, where that has one hop.
@@ -22,9 +23,9 @@ fn field_of(key: u64) -> usize
     ensures { λ r. ⌜ OneHop (fact-of key) r ⌝ }
 {
     if key <= ONE_HOP {
-        return (key::chain_of(key) - 1) as usize;
+        return packed::first_hop(key::chain_of(key)) as usize;
     }
-    (key::chain_of(key::needs_of(key).read) - 1) as usize
+    packed::first_hop(key::chain_of(key::needs_of(key).read)) as usize
 }
 
 // Exchange t: the lines of round t, in order; how many messages are sent.
@@ -41,8 +42,11 @@ pub fn exchange(
     count: usize,
     t: u8,
 ) -> usize
-    requires { ⌜ Parts sizes (now cells) (now filled) × Valid sizes (cellsOf (now cells) (now filled)) × PlanReady sizes (plan-of (now keys) (now rounds) (now backs) (now reads) count) (now values) (now marks) × (1 ≤ t) × HeldTo sizes (cellsOf (now cells) (now filled)) (facts-in (now keys) count) (t - 1) (now values) (now marks) ⌝ }
-    ensures { λ r. ⌜ Exchanged sizes (cellsOf (now (cells .entry)) (now (filled .entry))) (facts-in (now (keys .entry)) count) t (now (values .entry)) (now (marks .entry)) (now (values .exit)) (now (marks .exit)) r ⌝ }
+    requires { ⌜ Parts sizes (now cells) (now filled) × Valid sizes (cellsOf (now cells) (now filled))
+        × PlanReady sizes (plan-of (now keys) (now rounds) (now backs) (now reads) count) (now values) (now marks)
+        × (1 ≤ t) × HeldTo sizes (cellsOf (now cells) (now filled)) (facts-in (now keys) count) (t - 1) (now values) (now marks) ⌝ }
+    ensures { λ r. ⌜ Exchanged sizes (cellsOf (now (cells .entry)) (now (filled .entry))) (facts-in (now (keys .entry)) count) t
+        (now (values .entry)) (now (marks .entry)) (now (values .exit)) (now (marks .exit)) r ⌝ }
 {
     let mut sent = 0;
     for i in 0..count {
@@ -77,8 +81,10 @@ pub fn exchange_to(
     count: usize,
     last: u8,
 ) -> usize
-    requires { ⌜ Parts sizes (now cells) (now filled) × Valid sizes (cellsOf (now cells) (now filled)) × PlanReady sizes (plan-of (now keys) (now rounds) (now backs) (now reads) count) (now values) (now marks) ⌝ }
-    ensures { λ r. ⌜ ExchangedTo sizes (cellsOf (now (cells .entry)) (now (filled .entry))) (facts-in (now (keys .entry)) count) last (now (values .entry)) (now (marks .entry)) (now (values .exit)) (now (marks .exit)) r ⌝ }
+    requires { ⌜ Parts sizes (now cells) (now filled) × Valid sizes (cellsOf (now cells) (now filled))
+        × PlanReady sizes (plan-of (now keys) (now rounds) (now backs) (now reads) count) (now values) (now marks) ⌝ }
+    ensures { λ r. ⌜ ExchangedTo sizes (cellsOf (now (cells .entry)) (now (filled .entry))) (facts-in (now (keys .entry)) count) last
+        (now (values .entry)) (now (marks .entry)) (now (values .exit)) (now (marks .exit)) r ⌝ }
 {
     let mut sent = 0;
     for t in 0..last {
@@ -105,6 +111,6 @@ pub fn clear(values: &mut [i64], marks: &mut [u8], places: usize)
     ensures { λ _. ⌜ Cleared places (now (values .entry)) (now (marks .entry)) (now (values .exit)) (now (marks .exit)) ⌝ }
 {
     for j in 0..places {
-        scratch::put_cell(values, marks, j, Cell::Missing);
+        scratch::put_reading(values, marks, j, Reading::Missing);
     }
 }

@@ -15,16 +15,15 @@ use lib.ListN.{length, set, length-set}
 use mir.Syntax.{w32}
 use mir.Val.{SFits}
 use Rattle.integers.proofs.Complement.{index-is}
-use Rattle.register.specs.Cells.{valueOf, markOf}
-use Rattle.register.specs.Shape.{refersWithin}
 use Rattle.register.specs.declared.Sizes.{Sizes}
 use Rattle.register.specs.declared.cells.Cell.{Cell}
-use Rattle.register.specs.declared.cells.Cell.the-variants.{Missing, Value}
-use Rattle.chain.specs.Word.{cell}
+use Rattle.chain.specs.declared.reading.Reading.{Reading}
+use Rattle.chain.specs.declared.reading.Reading.the-variants.{Missing, Value}
+use Rattle.chain.specs.Word.{readCell, refersTo, readingValue}
 use Rattle.laws.proofs.Cases.{lt-or-le}
-use Rattle.machine.proofs.Direct.{own-refers}
+use Rattle.chain.proofs.Following.{own-refers}
 use Rattle.machine_messages.specs.Counts.{isSent}
-use Rattle.scratch.specs.Places.{placeAt, Kept}
+use Rattle.scratch.specs.Places.{placeAt, readingMark, Kept}
 use Rattle.scratch.proofs.Placed.{kept-same, kept-again, kept-other, placeAt-kept}
 use Rattle.gather_line.specs.Written.{knownAt, writerAt, writtenAt, messageAt, Before, LineHeld, ReadHeld, BackHeld, LineSent}
 use Rattle.gather_line.proofs.Sent.{line-nothing, line-more}
@@ -50,7 +49,7 @@ module _ (s : Sizes) (values : List ℤ) (marks : List ℕ) (back u : ℕ) where
 
 module _ (s : Sizes) (cells : List Cell) (values : List ℤ) (marks : List ℕ) (read field : ℕ) where
   -- what a record knows
-  pub known-own : (v : ℕ) → read ≡ 64 → cell s cells v field ≡ knownAt s cells values marks read field v
+  pub known-own : (v : ℕ) → read ≡ 64 → readCell s cells v field ≡ knownAt s cells values marks read field v
   unfolding knownAt
   known-own v e = simp (eq-eqb read 64 e)
 
@@ -71,7 +70,7 @@ module _ (s : Sizes) (cells : List Cell) (values : List ℤ) (marks : List ℕ) 
 
 -- the writer is a record
 pub writer-refers : (s : Sizes) (values : List ℤ) (marks : List ℕ) (back u : ℕ) → BackHeld s values marks back → u < s .records
-    → refersWithin (s .records) (writerAt s values marks back u) ≡ true
+    → refersTo (s .records) (writerAt s values marks back u) ≡ true
 writer-refers s values marks back u h p =
     none-or-line back
     (λ e. rw (← writer-own s values marks back u e) (own-refers (s .records) u p))
@@ -80,7 +79,7 @@ writer-refers s values marks back u h p =
 -- so its number is an index
 pub writer-index : {s : Sizes} {values : List ℤ} {marks : List ℕ} {back : ℕ} (u : ℕ) (z : ℤ) → BackHeld s values marks back → u < s .records
     → Value z ≡ writerAt s values marks back u → T (nonNeg z) × (natAbs z < s .records)
-unfolding refersWithin
+unfolding refersTo
 writer-index {s} {values} {marks} {back} u z h p e =
     let i = index-is (s .records) z (rw (← e) at (writer-refers s values marks back u h p)) in
     (rw (i .0) tt, i .1)
@@ -131,9 +130,9 @@ module _ (s : Sizes) (i : ℕ) (values : List ℤ) (marks : List ℕ) (values′
         (λ e.
         sym (writer-told s values′ marks′ back u e) ∙ placeAt-kept (kept _ (place-before (s .records) (bb e) p)) ∙ writer-told s values marks back u e)
 
-    written-kept : (c : Cell) → refersWithin (s .records) c ≡ true
-        → writtenAt s cells values′ marks′ read field c ≡ writtenAt s cells values marks read field c
-    unfolding writtenAt refersWithin
+    written-kept : (x : Reading) → refersTo (s .records) x ≡ true
+        → writtenAt s cells values′ marks′ read field x ≡ writtenAt s cells values marks read field x
+    unfolding writtenAt refersTo
     written-kept Missing r = refl
     written-kept (Value z) r = known-kept (natAbs z) (index-is (s .records) z r .1)
 
@@ -143,7 +142,7 @@ module _ (s : Sizes) (i : ℕ) (values : List ℤ) (marks : List ℕ) (values′
         ap (writtenAt s cells values′ marks′ read field) writer-kept
         ∙ written-kept (writerAt s values marks back u) (writer-refers s values marks back u h p)
 
-module _ (s : Sizes) (message : ℕ → Cell) (i : ℕ) (values : List ℤ) (marks : List ℕ) where
+module _ (s : Sizes) (message : ℕ → Reading) (i : ℕ) (values : List ℤ) (marks : List ℕ) where
   pub line-none : LineSent s message i 0 values marks values marks 0
   line-none =
       record {
@@ -156,25 +155,25 @@ module _ (s : Sizes) (message : ℕ → Cell) (i : ℕ) (values : List ℤ) (mar
       }
 
   -- the message for origin k, stored at its place and counted
-  pub line-next : {values′ : List ℤ} {marks′ : List ℕ} {m : ℕ} (k : ℕ) (c : Cell) (q : ℕ) → k < s .records
+  pub line-next : {values′ : List ℤ} {marks′ : List ℕ} {m : ℕ} (k : ℕ) (x : Reading) (q : ℕ) → k < s .records
       → i * s .records + s .records ≤ length values → i * s .records + s .records ≤ length marks
-      → LineSent s message i k values marks values′ marks′ m → c ≡ message k → SFits w32 (valueOf c) → q ≡ isSent c
-      → LineSent s message i (k + 1) values marks (set values′ (i * s .records + k) (valueOf c)) (set marks′ (i * s .records + k) (markOf c)) (m + q)
-  line-next {values′} {marks′} {m} k c q h room room′ l e fits one =
+      → LineSent s message i k values marks values′ marks′ m → x ≡ message k → SFits w32 (readingValue x) → q ≡ isSent x
+      → LineSent s message i (k + 1) values marks (set values′ (i * s .records + k) (readingValue x)) (set marks′ (i * s .records + k) (readingMark x)) (m + q)
+  line-next {values′} {marks′} {m} k x q h room room′ l e fits one =
       let j = i * s .records + k in
-      let other : (j′ : ℕ) → j′ ≢ j → Kept j′ values′ marks′ (set values′ j (valueOf c)) (set marks′ j (markOf c)) =
-      kept-other values′ marks′ j (valueOf c) (markOf c) in
+      let other : (j′ : ℕ) → j′ ≢ j → Kept j′ values′ marks′ (set values′ j (readingValue x)) (set marks′ j (readingMark x)) =
+      kept-other values′ marks′ j (readingValue x) (readingMark x) in
       record {
-        values-length = length-set values′ j (valueOf c) ∙ l .values-length;
-        marks-length = length-set marks′ j (markOf c) ∙ l .marks-length;
+        values-length = length-set values′ j (readingValue x) ∙ l .values-length;
+        marks-length = length-set marks′ j (readingMark x) ∙ l .marks-length;
         sent = λ u p.
             ⊎-elim
             (λ (b : u < k). stored-kept (l .sent u b) (other _ (λ z. omega arith)))
             (λ (b : k ≤ u).
             let same : u ≡ k = omega arith in
-            rw (same, ← e) (stored-set values′ marks′ j c (omega (arith, l .values-length)) (omega (arith, l .marks-length)) fits))
+            rw (same, ← e) (stored-set values′ marks′ j x (omega (arith, l .values-length)) (omega (arith, l .marks-length)) fits))
             (lt-or-le u k);
         before = λ j′ p. kept-again (l .before j′ p) (other _ (λ z. omega arith));
         behind = λ j′ p. kept-again (l .behind j′ p) (other _ (λ z. omega arith));
-        messages = line-more message k m q c (l .messages) one e;
+        messages = line-more message k m q x (l .messages) one e;
       }

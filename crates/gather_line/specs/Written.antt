@@ -10,31 +10,30 @@ use lib.IntN.{ℤ, pos, natAbs}
 use lib.ListN.{length, getD}
 use mir.Syntax.{w32}
 use mir.Val.{SFits}
-use Rattle.register.specs.Cells.{valueOf, markOf}
-use Rattle.register.specs.Shape.{refersWithin}
 use Rattle.register.specs.declared.Sizes.{Sizes}
 use Rattle.register.specs.declared.cells.Cell.{Cell}
-use Rattle.register.specs.declared.cells.Cell.the-variants.{Missing, Value}
-use Rattle.chain.specs.Word.{hasField, cell}
+use Rattle.chain.specs.declared.reading.Reading.{Reading}
+use Rattle.chain.specs.declared.reading.Reading.the-variants.{Missing, Value}
+use Rattle.chain.specs.Word.{hasField, readCell, refersTo, readingValue}
 use Rattle.machine_messages.specs.Counts.{lineMessages}
-use Rattle.scratch.specs.Places.{placeAt, Kept}
+use Rattle.scratch.specs.Places.{placeAt, readingMark, Kept}
 
 -- the writer for origin u: u, or the addressee of the message of line `back`
-unfoldable pub writerAt : Sizes → List ℤ → List ℕ → ℕ → ℕ → Cell
+unfoldable pub writerAt : Sizes → List ℤ → List ℕ → ℕ → ℕ → Reading
 writerAt s values marks back u = cond (eqb back 64) (Value (pos u)) (placeAt values marks (back * s .records + u))
 
 module _ (s : Sizes) (cells : List Cell) (values : List ℤ) (marks : List ℕ) where
   -- what record v knows: its own cell, or what the message of line `read` told it
-  unfoldable pub knownAt : ℕ → ℕ → ℕ → Cell
-  knownAt read field v = cond (eqb read 64) (cell s cells v field) (placeAt values marks (read * s .records + v))
+  unfoldable pub knownAt : ℕ → ℕ → ℕ → Reading
+  knownAt read field v = cond (eqb read 64) (readCell s cells v field) (placeAt values marks (read * s .records + v))
 
   -- what a writer writes; where there is none, nothing
-  unfoldable pub writtenAt : ℕ → ℕ → Cell → Cell
+  unfoldable pub writtenAt : ℕ → ℕ → Reading → Reading
   writtenAt read field Missing = Missing
   writtenAt read field (Value v) = knownAt read field (natAbs v)
 
   -- the message for origin u
-  unfoldable pub messageAt : ℕ → ℕ → ℕ → ℕ → Cell
+  unfoldable pub messageAt : ℕ → ℕ → ℕ → ℕ → Reading
   messageAt back read field u = writtenAt read field (writerAt s values marks back u)
 
 -- a need's line, where there is one, stands before line i
@@ -55,7 +54,7 @@ pub record ReadHeld (s : Sizes) (values : List ℤ) (marks : List ℕ) (read fie
 -- and so can the writer, who is a record
 pub record BackHeld (s : Sizes) (values : List ℤ) (marks : List ℕ) (back : ℕ) : Type 0 where
   pub line : back ≢ 64 → LineHeld s values marks back
-  pub refers : back ≢ 64 → (u : ℕ) → u < s .records → refersWithin (s .records) (placeAt values marks (back * s .records + u)) ≡ true
+  pub refers : back ≢ 64 → (u : ℕ) → u < s .records → refersTo (s .records) (placeAt values marks (back * s .records + u)) ≡ true
 
 -- line i has its places, and what its messages are made of can be looked up in lines before it
 pub record LineReady (s : Sizes) (values : List ℤ) (marks : List ℕ) (i back read field : ℕ) : Type 0 where
@@ -66,14 +65,14 @@ pub record LineReady (s : Sizes) (values : List ℤ) (marks : List ℕ) (i back 
   pub back-before : Before back i
   pub read-before : Before read i
 
--- place j holds the cell c, a value of 32 bits; where c is missing "value 0 and mark 0"
-pub record Stored (c : Cell) (j : ℕ) (values : List ℤ) (marks : List ℕ) : Type 0 where
-  pub value-is : getD values j (pos 0) ≡ valueOf c
-  pub mark-is : getD marks j 0 ≡ markOf c
-  pub fits : SFits w32 (valueOf c)
+-- place j holds the reading x, a value of 32 bits; where x is missing "value 0 and mark 0"
+pub record Stored (x : Reading) (j : ℕ) (values : List ℤ) (marks : List ℕ) : Type 0 where
+  pub value-is : getD values j (pos 0) ≡ readingValue x
+  pub mark-is : getD marks j 0 ≡ readingMark x
+  pub fits : SFits w32 (readingValue x)
 
 -- The places of line i hold its messages for the first k origins, m in number, and no other place has changed.
-pub record LineSent (s : Sizes) (message : ℕ → Cell) (i k : ℕ) (values : List ℤ) (marks : List ℕ) (values′ : List ℤ) (marks′ : List ℕ) (m : ℕ) : Type 0 where
+pub record LineSent (s : Sizes) (message : ℕ → Reading) (i k : ℕ) (values : List ℤ) (marks : List ℕ) (values′ : List ℤ) (marks′ : List ℕ) (m : ℕ) : Type 0 where
   pub values-length : length values′ ≡ length values
   pub marks-length : length marks′ ≡ length marks
   pub sent : (u : ℕ) → u < k → Stored (message u) (i * s .records + u) values′ marks′

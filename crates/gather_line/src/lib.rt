@@ -6,22 +6,22 @@ ghost use Rattle.register.specs.Shape.{Parts};
 ghost use Rattle.machine_messages.specs.Counts.{isSent};
 ghost use Rattle.gather_line.specs.Written.{writerAt, knownAt, messageAt, ReadHeld, BackHeld, LineReady, LineSent};
 use chain::follow;
+use chain::reading::Reading;
 use register::Sizes;
-use register::cells::Cell;
 use scratch;
 
 // The line of a need that has none.
 const NO_LINE: usize = 64;
 
 // Who writes for origin u: u itself, or the addressee of the message of line `back`; missing where that was not sent.
-fn writer(values: &[i64], marks: &[u8], sizes: Sizes, u: usize, back: usize) -> Cell
+fn writer(values: &[i64], marks: &[u8], sizes: Sizes, u: usize, back: usize) -> Reading
     requires { ⌜ (sizes .records ≤ 4096) × (u < sizes .records) × BackHeld sizes (now values) (now marks) back ⌝ }
     ensures { λ r. ⌜ r ≡ writerAt sizes (now (values .entry)) (now (marks .entry)) back u ⌝ }
 {
     if back == NO_LINE {
-        return Cell::Value(integers::of_index(u));
+        return Reading::Value(integers::of_index(u));
     }
-    scratch::cell_at(values, marks, back * sizes.records + u)
+    scratch::read_at(values, marks, back * sizes.records + u)
 }
 
 // What record v knows of a word: its own cell of a field where no line reads it, otherwise what the message of line `read`
@@ -35,14 +35,14 @@ fn known(
     v: usize,
     read: usize,
     field: usize,
-) -> Cell
+) -> Reading
     requires { ⌜ Parts sizes (now cells) (now filled) × (v < sizes .records) × ReadHeld sizes (now values) (now marks) read field ⌝ }
     ensures { λ r. ⌜ r ≡ knownAt sizes (cellsOf (now (cells .entry)) (now (filled .entry))) (now (values .entry)) (now (marks .entry)) read field v ⌝ }
 {
     if read == NO_LINE {
-        return follow::cell_of(cells, filled, sizes, v, field);
+        return follow::read_cell(cells, filled, sizes, v, field);
     }
-    scratch::cell_at(values, marks, read * sizes.records + v)
+    scratch::read_at(values, marks, read * sizes.records + v)
 }
 
 // The message for origin u: what its writer knows.
@@ -56,24 +56,24 @@ fn message(
     back: usize,
     read: usize,
     field: usize,
-) -> Cell
+) -> Reading
     requires { ⌜ Parts sizes (now cells) (now filled) × (u < sizes .records) × BackHeld sizes (now values) (now marks) back × ReadHeld sizes (now values) (now marks) read field ⌝ }
     ensures { λ r. ⌜ r ≡ messageAt sizes (cellsOf (now (cells .entry)) (now (filled .entry))) (now (values .entry)) (now (marks .entry)) back read field u ⌝ }
 {
-    let Cell::Value(number) = writer(values, marks, sizes, u, back) else {
-        return Cell::Missing;
+    let Reading::Value(number) = writer(values, marks, sizes, u, back) else {
+        return Reading::Missing;
     };
     let v = integers::index(number);
     known(cells, filled, values, marks, sizes, v, read, field)
 }
 
 // 1 for a message, also one to oneself, and 0 for none.
-fn is_sent(cell: Cell) -> usize
-    ensures { λ r. ⌜ r ≡ isSent cell ⌝ }
+fn is_sent(message: Reading) -> usize
+    ensures { λ r. ⌜ r ≡ isSent message ⌝ }
 {
-    match cell {
-        Cell::Missing => 0,
-        Cell::Value(_) => 1,
+    match message {
+        Reading::Missing => 0,
+        Reading::Value(_) => 1,
     }
 }
 
@@ -90,14 +90,15 @@ pub fn exchange(
     field: usize,
 ) -> usize
     requires { ⌜ Parts sizes (now cells) (now filled) × LineReady sizes (now values) (now marks) i back read field ⌝ }
-    ensures { λ r. ⌜ LineSent sizes (messageAt sizes (cellsOf (now (cells .entry)) (now (filled .entry))) (now (values .entry)) (now (marks .entry)) back read field) i (sizes .records) (now (values .entry)) (now (marks .entry)) (now (values .exit)) (now (marks .exit)) r ⌝ }
+    ensures { λ r. ⌜ LineSent sizes (messageAt sizes (cellsOf (now (cells .entry)) (now (filled .entry))) (now (values .entry)) (now (marks .entry)) back read field)
+        i (sizes .records) (now (values .entry)) (now (marks .entry)) (now (values .exit)) (now (marks .exit)) r ⌝ }
 {
     let first = i * sizes.records;
     let mut sent = 0;
     for u in 0..sizes.records {
-        let cell = message(cells, filled, values, marks, sizes, u, back, read, field);
-        sent += is_sent(cell);
-        scratch::put_cell(values, marks, first + u, cell);
+        let reading = message(cells, filled, values, marks, sizes, u, back, read, field);
+        sent += is_sent(reading);
+        scratch::put_reading(values, marks, first + u, reading);
     }
     sent
 }

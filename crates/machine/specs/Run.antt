@@ -7,8 +7,9 @@ use Rattle.integers.specs.Range.{eqZ}
 use Rattle.register.specs.File.{width}
 use Rattle.register.specs.declared.Sizes.{Sizes}
 use Rattle.register.specs.declared.cells.Cell.{Cell}
-use Rattle.register.specs.declared.cells.Cell.the-variants.{Missing, Value}
-use Rattle.chain.specs.Word.{cell, valueAtRecord}
+use Rattle.chain.specs.declared.reading.Reading.{Reading}
+use Rattle.chain.specs.declared.reading.Reading.the-variants.{Missing, Value}
+use Rattle.chain.specs.Word.{readCell, valueAtRecord}
 use Rattle.program.specs.declared.setting.Setting.{Setting}
 use Rattle.program.specs.declared.setting.Setting.the-variants.{Single, Looped}
 use Rattle.program.specs.Program.{Rule, Step, Program}
@@ -16,23 +17,23 @@ use Rattle.machine.specs.Step.{stepCells, stops}
 
 -- what each record reads in a step, over the cells before it
 abbrev pub Reader : Type 0
-Reader = List Rule → List Cell → ℕ → List ℕ → Cell
+Reader = List Rule → List Cell → ℕ → List ℕ → Reading
 
 -- the machine that document 01 calls straight: hop by hop
 unfoldable pub direct : Sizes → Reader
 direct s rs cells u w = valueAtRecord s cells w u
 
 -- "the same, values and marks"
-unfoldable pub sameCell : Cell → Cell → Bool
-sameCell Missing Missing = true
-sameCell Missing (Value b) = false
-sameCell (Value a) Missing = false
-sameCell (Value a) (Value b) = eqZ a b
+unfoldable pub sameReading : Reading → Reading → Bool
+sameReading Missing Missing = true
+sameReading Missing (Value b) = false
+sameReading (Value a) Missing = false
+sameReading (Value a) (Value b) = eqZ a b
 
 -- whether field f is the same for the records below n
 unfoldable pub sameColumn : Sizes → ℕ → List Cell → List Cell → ℕ → Bool
 sameColumn s f before after zero = true
-sameColumn s f before after (suc n) = sameColumn s f before after n && sameCell (cell s before n f) (cell s after n f)
+sameColumn s f before after (suc n) = sameColumn s f before after n && sameReading (readCell s before n f) (readCell s after n f)
 
 -- The pass of a loop: the steps from its first on, and the cells as it began.
 pub record Pass : Type 0 where

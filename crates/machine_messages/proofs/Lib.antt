@@ -3,7 +3,6 @@ pub mod Settling
 pub mod Telling
 pub mod Rounds
 pub mod Knowing
-pub mod Agreeing
 pub mod Same
 pub mod Counting
 pub mod Least

@@ -9,38 +9,33 @@ use Rattle.register.specs.declared.cells.Cell.{Cell}
 use Rattle.program.specs.Program.{Rule, Step, Program}
 use Rattle.laws.specs.Lists.{Each}
 use Rattle.program.specs.Passed.{RulesPass, StepPasses, ProgramPasses}
-use Rattle.machine.specs.Alike.{RulesAlike}
 use Rattle.machine.specs.Remote.{recordMessages}
 use Rattle.machine.specs.Step.{stepCells, offendsAt, stops}
 use Rattle.machine.specs.Run.{direct, Pass, begins, goesOn, entered, following, Run, behind, stepFirst, runFrom, run}
 use Rattle.laws.proofs.Bools.{cond-both}
-use Rattle.machine.proofs.Alike.{stepCells-alike, stops-alike, offendsAt-alike, recordMessages-alike}
+use Rattle.machine.proofs.Agreeing.{stepCells-agree, stops-agree, offendsAt-agree, recordMessages-agree}
 use Rattle.machine.proofs.Keeping.{stepCells-valid}
 use Rattle.machine.proofs.Direct.{direct-refers}
 use Rattle.machine_messages.specs.Counts.{byMessages}
 use Rattle.machine_messages.proofs.Knowing.{knows-direct}
-use Rattle.machine_messages.proofs.Agreeing.{rules-agree}
 
 -- a step of rules that pass
 module _ {s : Sizes} {rs : List Rule} {cells : List Cell} (k : RulesPass s rs) (v : Valid s cells) where
-  step-alike : (u : ℕ) → u < s .records → RulesAlike (byMessages s rs cells u) (direct s rs cells u) rs rs
-  step-alike u h = rules-agree _ _ rs (knows-direct k v u h)
-
   -- leaves the same cells
   pub step-cells : stepCells s (byMessages s rs cells) rs cells ≡ stepCells s (direct s rs cells) rs cells
-  step-cells = stepCells-alike s _ _ rs rs step-alike cells
+  step-cells = stepCells-agree _ _ rs s (knows-direct k v) cells
 
   -- offends at the same places
   pub step-offends : (u c : ℕ) → u < s .records → offendsAt s (byMessages s rs cells) rs cells u c ≡ offendsAt s (direct s rs cells) rs cells u c
-  step-offends = offendsAt-alike s _ _ rs rs step-alike cells
+  step-offends = offendsAt-agree _ _ rs s (knows-direct k v) cells
 
   -- stops where the other does
   pub step-stops : stops s (byMessages s rs cells) rs cells ≡ stops s (direct s rs cells) rs cells
-  step-stops = stops-alike s _ _ rs rs step-alike cells
+  step-stops = stops-agree _ _ rs s (knows-direct k v) cells
 
   -- and sends the same remote writes
   pub step-writes : recordMessages (byMessages s rs cells) rs (s .records) ≡ recordMessages (direct s rs cells) rs (s .records)
-  step-writes = recordMessages-alike s _ _ rs rs (s .records) step-alike
+  step-writes = recordMessages-agree _ _ rs (s .records) (knows-direct k v)
 
   -- behind a step that does not stop the register is valid
   step-valid : stops s (direct s rs cells) rs cells ≡ false → Valid s (stepCells s (direct s rs cells) rs cells)

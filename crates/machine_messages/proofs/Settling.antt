@@ -7,7 +7,7 @@ use native.Mathlib.Decide.{le-ind}
 use borrow.Author.Tests.{eq-eqb, ne-eqb}
 use Rattle.register.specs.declared.Sizes.{Sizes}
 use Rattle.register.specs.declared.cells.Cell.{Cell}
-use Rattle.register.specs.declared.cells.Cell.the-variants.{Missing}
+use Rattle.chain.specs.declared.reading.Reading.the-variants.{Missing}
 use Rattle.plan_theory.specs.Plan.{Fact, round}
 use Rattle.machine_messages.specs.Held.{sent, heldAfter}
 

@@ -10,11 +10,12 @@ use lib.IntN.{pos, natAbs}
 use lib.ListN.{length}
 use Rattle.laws.proofs.Bools.{and-both}
 use Rattle.integers.proofs.Complement.{index-is}
-use Rattle.register.specs.Shape.{Valid, refersWithin}
+use Rattle.register.specs.Shape.{Valid}
 use Rattle.register.specs.declared.Sizes.{Sizes}
 use Rattle.register.specs.declared.cells.Cell.{Cell}
-use Rattle.register.specs.declared.cells.Cell.the-variants.{Missing, Value}
-use Rattle.chain.specs.Word.{hop, follow, valueAtRecord}
+use Rattle.chain.specs.declared.reading.Reading.{Reading}
+use Rattle.chain.specs.declared.reading.Reading.the-variants.{Missing, Value}
+use Rattle.chain.specs.Word.{hop, follow, valueAtRecord, refersTo}
 use Rattle.laws.specs.Lists.{every}
 use Rattle.chain.proofs.Following.{follow-missing}
 use Rattle.plan_theory.specs.Plan.{Fact, back, read, word, hops, front, rest, line-from, back-need, read-need, round, line}
@@ -25,15 +26,15 @@ use Rattle.program.specs.Program.{Rule, readings, stepPlan}
 use Rattle.program.specs.Passed.{RulesPass}
 use Rattle.machine.proofs.Readable.{referring, Follows, back-follows, read-follows}
 use Rattle.machine.proofs.Readings.{plan-follows}
-use Rattle.machine.proofs.Direct.{own-refers, hop-refers}
+use Rattle.chain.proofs.Following.{own-refers, hop-refers}
 use Rattle.machine_messages.specs.Held.{knows, writer, needed, written, sent, heldAfter}
 use Rattle.machine_messages.proofs.Settling.{held-now, held-settled}
 
 -- a word is followed in two parts
-follow-append : (s : Sizes) (cells : List Cell) (c : Cell) (v w : List ℕ) → follow s cells c (v ++ w) ≡ follow s cells (follow s cells c v) w
+follow-append : (s : Sizes) (cells : List Cell) (x : Reading) (v w : List ℕ) → follow s cells x (v ++ w) ≡ follow s cells (follow s cells x v) w
 unfolding follow
-follow-append s cells c [] w = refl
-follow-append s cells c (f ∷ v) w = follow-append s cells (hop s cells c f) v w
+follow-append s cells x [] w = refl
+follow-append s cells x (f ∷ v) w = follow-append s cells (hop s cells x f) v w
 
 -- once the exchange of its round is done, a fact with a line is held for each record as following its word reads there
 abbrev pub Told : Sizes → List Cell → Fact → Type 0
@@ -41,12 +42,12 @@ Told s cells f = Follows s f → line-from f ≤ hops f → (t u : ℕ) → roun
 
 module _ {s : Sizes} {cells : List Cell} (valid : Valid s cells) where
   -- references lead from record to record
-  follow-refers : (c : Cell) (w : List ℕ) → referring s w ≡ true → refersWithin (s .records) c ≡ true → refersWithin (s .records) (follow s cells c w) ≡ true
+  follow-refers : (x : Reading) (w : List ℕ) → referring s w ≡ true → refersTo (s .records) x ≡ true → refersTo (s .records) (follow s cells x w) ≡ true
   unfolding follow every
-  follow-refers c [] k h = h
-  follow-refers c (f ∷ w) k h =
+  follow-refers x [] k h = h
+  follow-refers x (f ∷ w) k h =
       let (a, b) = and-both (ltb f (s .references)) (referring s w) k in
-      follow-refers (hop s cells c f) w b (hop-refers valid c f (ltb-true f (s .references) a) h)
+      follow-refers (hop s cells x f) w b (hop-refers valid x f (ltb-true f (s .references) a) h)
 
   -- a record knows what following reads ..
   pub knows-value : (w : List ℕ) → Told s cells (read w) → Follows s (read w) → (t u : ℕ) → round (read w) ≤ t → u < s .records
@@ -58,13 +59,13 @@ module _ {s : Sizes} {cells : List Cell} (valid : Valid s cells) where
 
   -- .. and writes what following on reads
   written-value : (f : Fact) → 2 ≤ hops f → Told s cells (read-need f) → Follows s (read-need f) → (t : ℕ) → round (read-need f) ≤ t
-      → (c : Cell) → refersWithin (s .records) c ≡ true → written s cells (heldAfter s cells t) f c ≡ follow s cells c (rest (word f))
-  unfolding written needed refersWithin valueAtRecord
+      → (x : Reading) → refersTo (s .records) x ≡ true → written s cells (heldAfter s cells t) f x ≡ follow s cells x (rest (word f))
+  unfolding written needed refersTo valueAtRecord
   written-value f h told k t ht Missing r = sym (follow-missing s cells (rest (word f)))
   written-value f h told k t ht (Value z) r =
       let i = index-is (s .records) z r in
       rw (le-ltb (hops f) 2 h)
-      (knows-value (rest (word f)) told k t (natAbs z) ht (i .1) ∙ ap (λ c. follow s cells c (rest (word f))) (ap Value (sym (i .0))))
+      (knows-value (rest (word f)) told k t (natAbs z) ht (i .1) ∙ ap (λ x. follow s cells x (rest (word f))) (ap Value (sym (i .0))))
 
   -- so from the messages of its needs comes the message of a fact
   sent-value : (f : Fact) → 2 ≤ hops f → Told s cells (back-need f) → Told s cells (read-need f) → Follows s f
@@ -88,7 +89,7 @@ module _ {s : Sizes} {cells : List Cell} (valid : Valid s cells) where
   sent-one (read w) l h t u = absurd (omega arith)
 
   -- what is sent in its round is held from then on
-  held-sent : (f : Fact) (k t u : ℕ) {c : Cell} → round f ≡ suc k → suc k ≤ t → sent s cells (heldAfter s cells k) f u ≡ c → heldAfter s cells t f u ≡ c
+  held-sent : (f : Fact) (k t u : ℕ) {x : Reading} → round f ≡ suc k → suc k ≤ t → sent s cells (heldAfter s cells k) f u ≡ x → heldAfter s cells t f u ≡ x
   held-sent f k t u e h q = held-settled s cells (suc k) t f u (omega arith) h ∙ held-now s cells k f u e ∙ q
 
   -- every fact: messages tell what following reads

@@ -6,7 +6,8 @@ use Prim.Native.Nat.{ℕ, zero, suc, _+_, max}
 use lib.ListN.{length}
 use Rattle.register.specs.declared.Sizes.{Sizes}
 use Rattle.register.specs.declared.cells.Cell.{Cell}
-use Rattle.register.specs.declared.cells.Cell.the-variants.{Missing, Value}
+use Rattle.chain.specs.declared.reading.Reading.{Reading}
+use Rattle.chain.specs.declared.reading.Reading.the-variants.{Missing, Value}
 use Rattle.plan_theory.specs.Plan.{Fact, read, round}
 use Rattle.program.specs.Program.{Rule, Step, readings, stepPlan, hasRemote}
 use Rattle.machine.specs.Remote.{recordMessages}
@@ -27,12 +28,12 @@ unfoldable pub byMessages : Sizes → Reader
 byMessages s rs cells u w = knows s cells (heldIn s rs cells) u w
 
 -- 1 for a message, whomever it goes to: "Letters to oneself count."; 0 for none
-abbrev pub isSent : Cell → ℕ
+abbrev pub isSent : Reading → ℕ
 isSent Missing = 0
 isSent (Value z) = 1
 
 -- the messages of one line, to the origins below n, and of all
-unfoldable pub lineMessages : (ℕ → Cell) → ℕ → ℕ
+unfoldable pub lineMessages : (ℕ → Reading) → ℕ → ℕ
 lineMessages held zero = 0
 lineMessages held (suc n) = lineMessages held n + isSent (held n)
 

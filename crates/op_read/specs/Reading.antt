@@ -8,6 +8,7 @@ use Rattle.register.specs.File.{cellsOfFile}
 use Rattle.register.specs.Load.{load, refusalNumber as register-number}
 use Rattle.register.specs.declared.Sizes.{Sizes}
 use Rattle.register.specs.declared.cells.Cell.{Cell}
+use Rattle.chain.specs.declared.reading.Reading.{Reading}
 use Rattle.chain_text.specs.declared.letters.Letters.{Letters}
 use Rattle.op_read.specs.declared.Refusal.{Refusal}
 use Rattle.op_read.specs.declared.Refusal.the-variants.{Form as BadForm, Field, Kind, Hops}
@@ -25,15 +26,15 @@ wordOfForm s (formed ls (b ∷ rest)) = refused 7 1
 wordOfForm s (formed ls []) = unless (lettersRefusal s ls) 1 (done (wordOf ls))
 
 -- a word at record u: "16 record number not below n"
-unfoldable pub atRecord : Sizes → List Cell → ℕ → List ℕ → Outcome Cell
+unfoldable pub atRecord : Sizes → List Cell → ℕ → List ℕ → Outcome Reading
 atRecord s cells u w = cond (ltb u (s .records)) (done (valueAtRecord s cells w u)) (refused 16 0)
 
 -- over a register that loads: the chain, then the record number
-unfoldable pub readingLoaded : Sizes → List ℕ → List ℕ → ℕ → Outcome Cell
+unfoldable pub readingLoaded : Sizes → List ℕ → List ℕ → ℕ → Outcome Reading
 readingLoaded s file text u = after (wordOfForm s (form text)) (atRecord s (cellsOfFile s file) u)
 
 -- "The register is looked at first, then rules or chain, then 16 or 17."
-unfoldable pub reading : List ℕ → List ℕ → ℕ → Outcome Cell
+unfoldable pub reading : List ℕ → List ℕ → ℕ → Outcome Reading
 reading file text u = after (load file) (λ s. readingLoaded s file text u)
 
 -- document 01's number for each refusal of a chain
@@ -49,8 +50,8 @@ chainOutcome (Chain n) = done (unpack n)
 chainOutcome (Refused r) = refused (refusalNumber r) 1
 
 -- the outcome of each answer for a reading
-unfoldable pub readingOutcome : ReadingAnswer → Outcome Cell
-readingOutcome (Read c) = done c
+unfoldable pub readingOutcome : ReadingAnswer → Outcome Reading
+readingOutcome (Read x) = done x
 readingOutcome (Register r) = refused (register-number r) 0
 readingOutcome (BadChain r) = refused (refusalNumber r) 1
 readingOutcome Record = refused 16 0

@@ -6,13 +6,13 @@ ghost use Rattle.register.specs.Shape.{Limits};
 ghost use Rattle.chain_text.specs.Text.{form};
 ghost use Rattle.op_read.specs.Reading.{wordOfForm, readingLoaded, reading as readingOf, chainOutcome, readingOutcome, judgedOf};
 use chain::follow;
+use chain::reading::Reading;
 use chain_text::letters::Letters;
 use chain_text::text;
 use chain_text::text::Scanned;
 use register::LoadAnswer;
 use register::Sizes;
 use register::cells;
-use register::cells::Cell;
 
 // Refusals 7, 9, 10 and 11 of document 01, in order.
 pub enum Refusal {
@@ -30,7 +30,7 @@ pub enum ChainAnswer {
 
 // A reading, or why it is refused: by the register, by the chain, or by the record number (refusal 16).
 pub enum ReadingAnswer {
-    Read(Cell),
+    Read(Reading),
     Register(register::Refusal),
     Chain(Refusal),
     Record,
@@ -84,7 +84,7 @@ fn read_loaded(file: &[u8], sizes: Sizes, text: &[u8], u: u64) -> ReadingAnswer
     }
 }
 
-// Document 01's single reading: the cell reached from record u by a chain.
+// Document 01's single reading: what a chain reads at record u.
 pub fn reading(file: &[u8], text: &[u8], u: u64) -> ReadingAnswer
     ensures { λ r. ⌜ readingOutcome r ≡ readingOf (now (file .entry)) (now (text .entry)) u ⌝ }
 {

@@ -35,8 +35,11 @@ pub fn show<'a>(
     count: usize,
     t: u16,
 )
-    requires { ⌜ Valid sizes (cellsOfFile sizes (now file)) × (length (now file) ≡ 12 + 5 * cellCount sizes) × Planned sizes (plan-of (now keys) (now rounds) (now backs) (now reads) count) × (count * sizes .records ≤ length (now values)) × (count * sizes .records ≤ length (now marks)) ⌝ }
-    ensures { λ _. ⌜ Shown sizes (cellsOfFile sizes (now (file .entry))) (facts-in (now (keys .entry)) count) t (now (values .entry)) (now (marks .entry)) (now (values .exit)) (now (marks .exit)) ⌝ }
+    requires { ⌜ Valid sizes (cellsOfFile sizes (now file)) × (length (now file) ≡ 12 + 5 * cellCount sizes)
+        × Planned sizes (plan-of (now keys) (now rounds) (now backs) (now reads) count)
+        × (count * sizes .records ≤ length (now values)) × (count * sizes .records ≤ length (now marks)) ⌝ }
+    ensures { λ _. ⌜ Shown sizes (cellsOfFile sizes (now (file .entry))) (facts-in (now (keys .entry)) count) t
+        (now (values .entry)) (now (marks .entry)) (now (values .exit)) (now (marks .exit)) ⌝ }
 {
     let cells = cells::values_part(file, sizes);
     let filled = cells::marks_part(file, sizes);

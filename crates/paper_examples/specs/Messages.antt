@@ -5,9 +5,9 @@ use mathlib.Core.List.{List, [], _∷_, map}
 use Rattle.register.specs.File.{width, cellIndex}
 use Rattle.register.specs.declared.Sizes.{Sizes}
 use Rattle.register.specs.declared.cells.Cell.{Cell}
-use Rattle.chain.specs.Word.{isReference, column, cell}
+use Rattle.chain.specs.Word.{isReference, column, readOf, readCell}
 use Rattle.plan_theory.specs.Plan.{Fact, back, read, round, rounds, tree, tree-within, half, doubled, front, rest, plan, add, add-readings, lines, listed, place}
-use Rattle.program.specs.Program.{Step, Program, stepPlan, readings, ruleReadings, actionReadings, testReadings, termReadings, isRemote, hasRemote}
+use Rattle.program.specs.Program.{Step, Program, stepPlan, readings, ruleReadings, targetReadings, testReadings, expressionReadings, someTarget, isRemote, hasRemote}
 use Rattle.machine.specs.Run.{Run, run}
 use Rattle.machine_messages.specs.Held.{knows, writer, needed, written, sent, heldAfter}
 use Rattle.machine_messages.specs.Counts.{mostRounds, heldIn, byMessages, lineMessages, planMessages, stepExchanges, stepMessages, exchanges, messages}
@@ -17,12 +17,12 @@ use Rattle.paper_examples.specs.Runs.{directRun, printedRun, printedResu
 
 -- the lines of a step's plan, each with its messages over the cells before the step
 unfoldable pub lineCounts : Sizes → Step → List Cell → List (Fact × ℕ)
-unfolding width cellIndex isReference column cell round rounds tree tree-within half doubled front rest plan add add-readings lines listed place stepPlan readings ruleReadings actionReadings testReadings termReadings knows writer needed written sent heldAfter mostRounds heldIn lineMessages
+unfolding width cellIndex isReference column readOf readCell round rounds tree tree-within half doubled front rest plan add add-readings lines listed place stepPlan readings ruleReadings targetReadings testReadings expressionReadings knows writer needed written sent heldAfter mostRounds heldIn lineMessages
 lineCounts s x cells = map (λ f. (f, lineMessages (heldIn s (x .rules) cells f) (s .records))) (stepPlan (x .rules))
 
 -- the exchanges and the messages of a run
 unfoldable pub counted : Sizes → Run → ℕ × ℕ
-unfolding lineCounts isRemote hasRemote planMessages stepExchanges stepMessages exchanges messages
+unfolding lineCounts someTarget isRemote hasRemote planMessages stepExchanges stepMessages exchanges messages
 counted s x = (exchanges (x .trace), messages s (x .trace))
 
 -- the run of the message machine

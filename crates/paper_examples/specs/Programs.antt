@@ -2,7 +2,7 @@
 use Prim.Native.Nat.{ℕ}
 use Prim.Native.String.{String}
 use mathlib.Core.Path.{_≡_, refl}
-use mathlib.Core.List.{List, [], _∷_, map}
+use mathlib.Core.List.{List, [], _∷_}
 use lib.IntN.{pos, negsuc}
 use Rattle.laws.specs.Lists.{every}
 use Rattle.integers.specs.Range.{inRange}
@@ -17,25 +17,27 @@ use Rattle.text_forms.specs.Term.{ofNumber, ofChain, termForm}
 use Rattle.text_forms.specs.Line.{assigned, localForm, sent, remoteForm, actionForm, ruleOf, compared, testedForm, lineForm}
 use Rattle.text_forms.specs.Parts.{numbersInRange, termInRange, short, termShort, kinded, kindsAgree, actionKinds, areMeasures, conditionKinds, same, isReferenceTerm, termKinded, named, fieldNamed, termNamed, target, everyTerm, terms, actionTerms, conditionTerms}
 use Rattle.text_rules.specs.Check.{lineRefusal, planFits, sortsAgree, oneSort, hasRoom, inPlace, openRules, isOpen, isUsed, isOutside}
-use Rattle.program.specs.Program.{someAction, isTotal, isLeast, reading, constant, always, Action, set, sum, total, Rule, Step, Program, stepPlan, readings, ruleReadings, actionReadings, testReadings, termReadings}
-use Rattle.text_rules.specs.Text.{textProgram, readFrom, start, closed, lineOutcome, advance, settingIn, withStep, actionOf, testOf, termOf, pieceForm, lines, onto}
+use Rattle.program.specs.declared.rule.Operator.the-variants.{Plus}
+use Rattle.program.specs.declared.rule.Sort.the-variants.{Total}
+use Rattle.program.specs.Program.{Expression, reading, constant, operation, always, Target, own, remote, Rule, Step, Program, expressionReadings, testReadings, targetReadings, ruleReadings, readings, stepPlan, isLeast, isTotal, someTarget}
+use Rattle.text_rules.specs.Text.{textProgram, readFrom, start, closed, lineOutcome, advance, settingIn, withStep, ruleOf as programRule, targetOf, expressionOf, testOf, termOf, pieceForm, lines, onto}
 use Rattle.program.specs.declared.setting.Setting.the-variants.{Single}
 
 -- the program of a text over a register of n records with the fields A and M
 unfoldable pub programOf : ℕ → String → Outcome Program
-unfolding textProgram readFrom start closed lineOutcome advance settingIn withStep actionOf testOf termOf pieceForm lines onto after unless lineRefusal planFits sortsAgree oneSort someAction isTotal isLeast hasRoom inPlace openRules isOpen isUsed isOutside numbersInRange termInRange short termShort kinded kindsAgree actionKinds areMeasures conditionKinds same isReferenceTerm termKinded named fieldNamed termNamed target everyTerm terms actionTerms conditionTerms lineForm testedForm compared ruleOf actionForm remoteForm sent localForm assigned termForm ofChain ofNumber capital then word or finished isDigit digits decimal isNumeral signedForm numberForm numberValue signedValue inRange startsWith C.isCapital C.closed C.form C.fieldOf C.isReferenceLetter C.names every C.innerReferences C.wordOf stepPlan readings ruleReadings actionReadings testReadings termReadings plan add-readings add planLines listed place sameFact same-word tree tree-within half doubled front rest
+unfolding textProgram readFrom start closed lineOutcome advance settingIn withStep programRule targetOf expressionOf testOf termOf pieceForm lines onto after unless lineRefusal planFits sortsAgree oneSort someTarget isTotal isLeast hasRoom inPlace openRules isOpen isUsed isOutside numbersInRange termInRange short termShort kinded kindsAgree actionKinds areMeasures conditionKinds same isReferenceTerm termKinded named fieldNamed termNamed target everyTerm terms actionTerms conditionTerms lineForm testedForm compared ruleOf actionForm remoteForm sent localForm assigned termForm ofChain ofNumber capital then word or finished isDigit digits decimal isNumeral signedForm numberForm numberValue signedValue inRange startsWith C.isCapital C.closed C.form C.fieldOf C.isReferenceLetter C.names every C.innerReferences C.wordOf stepPlan readings ruleReadings targetReadings testReadings expressionReadings plan add-readings add planLines listed place sameFact same-word tree tree-within half doubled front rest
 programOf n t = textProgram (record { records = n; references = 1; measures = 1 }) (bytes t)
 
--- a rule without a test, and a step of such rules outside loops
-abbrev pub untested : Action → Rule
-untested a = record { test = always; action = a }
+-- a rule without a test, and a step outside loops
+abbrev pub untested : Target → Expression → Rule
+untested t x = record { test = always; target = t; expression = x }
 
-abbrev pub stepOf : List Action → Step
-stepOf actions = record { rules = map untested actions; setting = Single }
+abbrev pub stepOf : List Rule → Step
+stepOf rs = record { rules = rs; setting = Single }
 
 -- "Text: `step`, `M[u] := M[A[A[u]]]`, `end`."
 abbrev pub printedStep : Step
-printedStep = stepOf (set 8 (reading (0 ∷ 0 ∷ 8 ∷ [])) ∷ [])
+printedStep = stepOf (untested (own 8) (reading (0 ∷ 0 ∷ 8 ∷ [])) ∷ [])
 
 pub printed-text : (n : ℕ) → programOf n "step\nM[u] := M[A[A[u]]]\nend\n" ≡ done (printedStep ∷ [])
 unfolding programOf
@@ -43,7 +45,7 @@ printed-text n = refl
 
 -- "`A[u] := u`"
 abbrev pub ownStep : Step
-ownStep = stepOf (set 0 (reading []) ∷ [])
+ownStep = stepOf (untested (own 0) (reading []) ∷ [])
 
 pub own-text : (n : ℕ) → programOf n "step\nA[u] := u\nend\n" ≡ done (ownStep ∷ [])
 unfolding programOf
@@ -51,7 +53,7 @@ own-text n = refl
 
 -- "2147483647 + 1"
 abbrev pub aboveStep : Step
-aboveStep = stepOf (sum 8 (constant (pos 2147483647)) (constant (pos 1)) ∷ [])
+aboveStep = stepOf (untested (own 8) (operation Plus (constant (pos 2147483647)) (constant (pos 1))) ∷ [])
 
 pub above-text : (n : ℕ) → programOf n "step\nM[u] := 2147483647 + 1\nend\n" ≡ done (aboveStep ∷ [])
 unfolding programOf
@@ -59,7 +61,7 @@ above-text n = refl
 
 -- "2147483647 + 0"
 abbrev pub mostStep : Step
-mostStep = stepOf (sum 8 (constant (pos 2147483647)) (constant (pos 0)) ∷ [])
+mostStep = stepOf (untested (own 8) (operation Plus (constant (pos 2147483647)) (constant (pos 0))) ∷ [])
 
 pub most-text : (n : ℕ) → programOf n "step\nM[u] := 2147483647 + 0\nend\n" ≡ done (mostStep ∷ [])
 unfolding programOf
@@ -67,7 +69,7 @@ most-text n = refl
 
 -- "two remote amounts 1 and −1", each record's to itself
 abbrev pub amountsStep : Step
-amountsStep = stepOf (total 8 [] (constant (pos 1)) ∷ total 8 [] (constant (negsuc 0)) ∷ [])
+amountsStep = stepOf (untested (remote Total 8 []) (constant (pos 1)) ∷ untested (remote Total 8 []) (constant (negsuc 0)) ∷ [])
 
 pub amounts-text : (n : ℕ) → programOf n "step\nremote M[u] += 1\nremote M[u] += -1\nend\n" ≡ done (amountsStep ∷ [])
 unfolding programOf

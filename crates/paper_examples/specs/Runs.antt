@@ -9,11 +9,11 @@ use Rattle.register.specs.File.{width, cellIndex}
 use Rattle.register.specs.declared.Sizes.{Sizes}
 use Rattle.register.specs.declared.cells.Cell.{Cell}
 use Rattle.register.specs.declared.cells.Cell.the-variants.{Missing, Value}
-use Rattle.chain.specs.Word.{isReference, column, cell, hop, follow, valueAtRecord}
+use Rattle.chain.specs.Word.{isReference, column, readOf, readCell, hop, follow, valueAtRecord}
 use Rattle.program.specs.Program.{Step, Program, fieldOf}
-use Rattle.machine.specs.Value.{both, termValue, holds, cellInRange}
-use Rattle.machine.specs.Local.{sumCell, formed, stored, store, localRule, localRules, localRecords, offends, sumOffends}
-use Rattle.machine.specs.Remote.{sentTo, actionMessages, ruleMessages, messages, recordMessages, increased, merged, deliver, deliverAll}
+use Rattle.machine.specs.Value.{both, operate, combined, value, readingInRange, cellInRange, overflows, holds}
+use Rattle.machine.specs.Local.{storedCell, storedTo, stored, store, localRule, localRules, localRecords, offends, sumOffends}
+use Rattle.machine.specs.Remote.{sentTo, sentBy, ruleMessages, messages, recordMessages, increased, merged, deliver, deliverAll}
 use Rattle.machine.specs.Step.{stepCells, offendsAt, someBelow, stops}
 use Rattle.machine.specs.Run.{Run, complete, spent, offended, direct, entered, following, behind, stepFirst, runFrom, run}
 use Rattle.paper_examples.specs.Printed.{printedSizes, printedCells}
@@ -21,7 +21,7 @@ use Rattle.paper_examples.specs.Programs.{printedStep, ownStep, aboveSte
 
 -- the run of the direct machine: a program with a budget over the cells of a register
 unfoldable pub directRun : Sizes → Program → ℕ → List Cell → Run
-unfolding inRange width cellIndex isReference column cell hop follow valueAtRecord both termValue holds cellInRange sumCell formed stored fieldOf store localRule localRules localRecords offends sumOffends sentTo actionMessages ruleMessages messages recordMessages increased merged deliver deliverAll stepCells offendsAt someBelow stops direct entered following behind stepFirst runFrom run
+unfolding inRange width cellIndex isReference column readOf readCell hop follow valueAtRecord both operate combined value readingInRange cellInRange overflows holds storedCell storedTo stored fieldOf store localRule localRules localRecords offends sumOffends sentTo sentBy ruleMessages messages recordMessages increased merged deliver deliverAll stepCells offendsAt someBelow stops direct entered following behind stepFirst runFrom run
 directRun s program budget cells = run s (direct s) program budget cells
 
 -- over the printed register, "allowance 1,000"

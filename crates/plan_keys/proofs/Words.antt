@@ -42,13 +42,6 @@ packed-small = unpack-ind (λ n. (k : ℕ) → length (unpack n) ≤ k → n + 5
     hop n h r (suc k) l = omega (arith, pow-succ' 8 k, r k (omega (arith, hops-more n h)))
 
 -- the hops behind the first
-pub tail-last : (n : ℕ) → n ≤ 16 → unpack 0 ≡ drop 1 (unpack n)
-tail-last zero h = rw unpack-none
-tail-last (suc n) h = rw (unpack-none, unpack-last (suc n) (omega arith) h)
-
-pub tail-more : (n : ℕ) → 16 < n → unpack ((n - 9) / 8) ≡ drop 1 (unpack n)
-tail-more n h = sym (ap (drop 1) (unpack-more n h))
-
 pub hops-tail : (m n : ℕ) → unpack m ≡ drop 1 (unpack n) → n ≢ 0 → length (unpack n) ≡ suc (length (unpack m))
 hops-tail m n e h = omega (arith, ap length e, length-drop 1 (unpack n), hops-pos n h)
 

@@ -5,13 +5,7 @@ ghost use lib.ListN.{length, take, drop};
 ghost use Rattle.chain.specs.Word.{unpack};
 ghost use Rattle.plan_theory.specs.Plan.{half as halfOf};
 ghost use Rattle.plan_keys.specs.Keys.{HalvesOf};
-
-// The chain behind its first hop.
-fn tail(chain: u64) -> u64
-    ensures { λ r. ⌜ unpack r ≡ drop 1 (unpack chain) ⌝ }
-{
-    if chain <= 16 { 0 } else { (chain - 9) / 8 }
-}
+use chain::packed;
 
 pub fn hops(chain: u64) -> u64
     ensures { λ r. ⌜ r ≡ length (unpack chain) ⌝ }
@@ -19,7 +13,7 @@ pub fn hops(chain: u64) -> u64
     let mut left = chain;
     let mut count = 0;
     while left != 0 {
-        left = tail(left);
+        left = packed::rest_hops(left);
         count += 1;
     }
     count
@@ -31,7 +25,7 @@ pub fn rest(chain: u64, h: u64) -> u64
 {
     let mut left = chain;
     for _ in 0..h {
-        left = tail(left);
+        left = packed::rest_hops(left);
     }
     left
 }

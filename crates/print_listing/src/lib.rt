@@ -46,30 +46,30 @@ fn put_header(page: &mut [u8], records: usize, ran: Ran) -> usize
 fn put_record(
     page: &mut [u8],
     at: usize,
-    values: &[u8],
-    marks: &[u8],
+    cells: &[u8],
+    filled: &[u8],
     sizes: Sizes,
     u: usize,
 ) -> usize
-    requires { ⌜ Parts sizes (now values) (now marks) × (u < sizes .records) × (at + recordRoom (width sizes) ≤ length (now page)) ⌝ }
+    requires { ⌜ Parts sizes (now cells) (now filled) × (u < sizes .records) × (at + recordRoom (width sizes) ≤ length (now page)) ⌝ }
     ensures { λ r. ⌜ r ≤ at + recordRoom (width sizes) ⌝ }
 {
     let mut next = put_number(page, at, u as u64);
     for f in 0..sizes.references + sizes.measures {
-        let cell = cells::cell_at(values, marks, register::cell_index(sizes, u, f));
+        let cell = cells::cell_at(cells, filled, register::cell_index(sizes, u, f));
         next = put_byte(page, next, b' ');
         next = put_cell(page, next, cell);
     }
     put_byte(page, next, b'\n')
 }
 
-fn put_records(page: &mut [u8], at: usize, values: &[u8], marks: &[u8], sizes: Sizes) -> usize
-    requires { ⌜ Parts sizes (now values) (now marks) × (at + recordsRoom (sizes .records) (width sizes) ≤ length (now page)) ⌝ }
+fn put_records(page: &mut [u8], at: usize, cells: &[u8], filled: &[u8], sizes: Sizes) -> usize
+    requires { ⌜ Parts sizes (now cells) (now filled) × (at + recordsRoom (sizes .records) (width sizes) ≤ length (now page)) ⌝ }
     ensures { λ r. ⌜ r ≤ at + recordsRoom (sizes .records) (width sizes) ⌝ }
 {
     let mut next = at;
     for u in 0..sizes.records {
-        next = put_record(page, next, values, marks, sizes, u);
+        next = put_record(page, next, cells, filled, sizes, u);
     }
     next
 }
@@ -80,9 +80,9 @@ pub fn put_listing(page: &mut [u8], file: &[u8], sizes: Sizes, ran: Ran) -> usiz
     ensures { λ r. ⌜ r ≤ pageRoom ⌝ }
 {
     let at = put_header(page, sizes.records, ran);
-    let values = cells::values_part(file, sizes);
-    let marks = cells::marks_part(file, sizes);
-    put_records(page, at, values, marks, sizes)
+    let cells = cells::values_part(file, sizes);
+    let filled = cells::marks_part(file, sizes);
+    put_records(page, at, cells, filled, sizes)
 }
 
 // "A refusal prints only `refused N at K`"

@@ -1,3 +1,4 @@
 -- Laws of a program and of its array.
 pub mod Rules
 pub mod Frames
+pub mod Locations

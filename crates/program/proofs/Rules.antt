@@ -2,14 +2,14 @@
 use mathlib.Core.Path.{_≡_, refl}
 use mathlib.Core.Bool.{Bool, true, false, _||_, or-false}
 use mathlib.Core.List.{List, [], _∷_, _++_}
-use Rattle.program.specs.Program.{Action, Rule, someAction}
+use Rattle.program.specs.Program.{Target, Rule, someTarget}
 
 -- one rule more
-pub some-append : (p : Action → Bool) (rs : List Rule) (r : Rule) → someAction p (rs ++ (r ∷ [])) ≡ someAction p rs || p (r .action)
-unfolding someAction
-some-append p [] r = or-false (p (r .action))
-some-append p (q ∷ rs) r = go (some-append p rs r) (p (q .action))
+pub some-append : (p : Target → Bool) (rs : List Rule) (r : Rule) → someTarget p (rs ++ (r ∷ [])) ≡ someTarget p rs || p (r .target)
+unfolding someTarget
+some-append p [] r = or-false (p (r .target))
+some-append p (q ∷ rs) r = go (some-append p rs r) (p (q .target))
   where
-    go : someAction p (rs ++ (r ∷ [])) ≡ someAction p rs || p (r .action) → (x : Bool) → x || someAction p (rs ++ (r ∷ [])) ≡ x || someAction p rs || p (r .action)
+    go : someTarget p (rs ++ (r ∷ [])) ≡ someTarget p rs || p (r .target) → (x : Bool) → x || someTarget p (rs ++ (r ∷ [])) ≡ x || someTarget p rs || p (r .target)
     go ih true = refl
     go ih false = ih

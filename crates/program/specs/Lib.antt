@@ -2,4 +2,5 @@
 pub mod Program
 pub mod Passed
 pub mod Stored
+pub mod Location
 pub mod Kept

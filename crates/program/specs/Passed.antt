@@ -11,7 +11,9 @@ use Rattle.register.specs.declared.Sizes.{Sizes}
 use Rattle.chain.specs.Word.{isReference, hasField, Passes}
 use Rattle.program.specs.declared.setting.Setting.{Setting}
 use Rattle.program.specs.declared.setting.Setting.the-variants.{Single, Looped}
-use Rattle.program.specs.Program.{Term, reading, constant, Test, always, when, Action, set, sum, difference, least, total, Rule, Step, Program, stepPlan, someAction, isLeast, isTotal}
+use Rattle.program.specs.declared.rule.Sort.{Sort}
+use Rattle.program.specs.declared.rule.Sort.the-variants.{Total}
+use Rattle.program.specs.Program.{Expression, reading, constant, operation, Test, always, when, Target, own, remote, Rule, Step, Program, stepPlan, fieldOf, someTarget, isLeast, isTotal}
 use Rattle.laws.specs.Lists.{Each}
 
 -- "Its kind is that of the outermost letter, `u` being a reference"
@@ -20,52 +22,45 @@ isReferenceWord [] = true
 isReferenceWord (f ∷ []) = isReference f
 isReferenceWord (f ∷ g ∷ w) = isReferenceWord (g ∷ w)
 
-unfoldable pub isReferenceTerm : Term → Bool
-isReferenceTerm (reading w) = isReferenceWord w
-isReferenceTerm (constant z) = false
+unfoldable pub isReferenceExpression : Expression → Bool
+isReferenceExpression (reading w) = isReferenceWord w
+isReferenceExpression (constant z) = false
+isReferenceExpression (operation op x y) = false
 
-abbrev pub TermPasses : Sizes → Term → Type 0
-TermPasses s (reading w) = Passes s w
-TermPasses s (constant z) = inRange z ≡ true
+-- "a number is a measure; `+`, `-` and `+=` take measures only"
+abbrev pub ExpressionPasses : Sizes → Expression → Type 0
+ExpressionPasses s (reading w) = Passes s w
+ExpressionPasses s (constant z) = inRange z ≡ true
+ExpressionPasses s (operation op x y) =
+    (ExpressionPasses s x × (isReferenceExpression x ≡ false)) × (ExpressionPasses s y × (isReferenceExpression y ≡ false))
 
+-- "Both sides of a rule or test have the same kind"
 abbrev pub TestPasses : Sizes → Test → Type 0
 TestPasses s always = Unit {0}
-TestPasses s (when x c y) = TermPasses s x × TermPasses s y × (isReferenceTerm x ≡ isReferenceTerm y)
+TestPasses s (when x c y) = ExpressionPasses s x × ExpressionPasses s y × (isReferenceExpression x ≡ isReferenceExpression y)
 
--- a field of the register and a term of its kind
-pub record Alike (s : Sizes) (f : ℕ) (x : Term) : Type 0 where
-  pub field : hasField s f ≡ true
-  pub passes : TermPasses s x
-  pub alike : isReference f ≡ isReferenceTerm x
-
--- a measure field and a term that is a measure
-pub record Measured (s : Sizes) (f : ℕ) (x : Term) : Type 0 where
-  pub field : hasField s f ≡ true
-  pub passes : TermPasses s x
-  pub measure : isReference f ≡ false
-  pub measured : isReferenceTerm x ≡ false
-
--- C: a word of reference kind
-pub record Target (s : Sizes) (c : List ℕ) : Type 0 where
+-- C, "a chain of reference kind", and that the field of a `+=` is a measure
+pub record RemotePasses (s : Sizes) (k : Sort) (f : ℕ) (c : List ℕ) : Type 0 where
   pub passes : Passes s c
   pub reference : isReferenceWord c ≡ true
+  pub measure : k ≡ Total → isReference f ≡ false
 
-abbrev pub ActionPasses : Sizes → Action → Type 0
-ActionPasses s (set f x) = Alike s f x
-ActionPasses s (sum f x y) = Measured s f x × Measured s f y
-ActionPasses s (difference f x y) = Measured s f x × Measured s f y
-ActionPasses s (least f c x) = Target s c × Alike s f x
-ActionPasses s (total f c x) = Target s c × Measured s f x
+abbrev pub TargetPasses : Sizes → Target → Type 0
+TargetPasses s (own f) = Unit {0}
+TargetPasses s (remote k f c) = RemotePasses s k f c
 
 pub record RulePasses (s : Sizes) (r : Rule) : Type 0 where
   pub test : TestPasses s (r .test)
-  pub action : ActionPasses s (r .action)
+  pub field : hasField s (fieldOf (r .target)) ≡ true
+  pub target : TargetPasses s (r .target)
+  pub expression : ExpressionPasses s (r .expression)
+  pub alike : isReference (fieldOf (r .target)) ≡ isReferenceExpression (r .expression)
 
 -- the rules of a step: "32 rules a step", "one field takes one sort of remote write"
 pub record RulesPass (s : Sizes) (rs : List Rule) : Type 0 where
   pub each : Each (RulePasses s) rs
   pub few : length rs ≤ 32
-  pub one-sort : (f : ℕ) → someAction (isLeast f) rs ≡ true → someAction (isTotal f) rs ≡ false
+  pub one-sort : (f : ℕ) → someTarget (isLeast f) rs ≡ true → someTarget (isTotal f) rs ≡ false
 
 -- "a loop on field F"
 abbrev pub SettingPasses : Sizes → Setting → Type 0

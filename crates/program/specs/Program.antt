@@ -6,31 +6,33 @@ use lib.IntN.{ℤ}
 use lib.Dec.{eqb}
 use lib.ListN.{length}
 use Rattle.plan_theory.specs.Plan.{Fact, plan}
+use Rattle.program.specs.declared.rule.Operator.{Operator}
 use Rattle.program.specs.declared.rule.Comparison.{Comparison}
+use Rattle.program.specs.declared.rule.Sort.{Sort}
+use Rattle.program.specs.declared.rule.Sort.the-variants.{Least, Total}
 use Rattle.program.specs.declared.setting.Setting.{Setting}
 
--- "A term X or Y is a chain or a number": a chain by its hop word
-pub data Term : Type 0 where
-  reading : List ℕ → Term
-  constant : ℤ → Term
+-- "A term X or Y is a chain or a number": a chain by its hop word; a sum or difference is an operation on two
+pub data Expression : Type 0 where
+  reading : List ℕ → Expression
+  constant : ℤ → Expression
+  operation : Operator → Expression → Expression → Expression
 
 -- "Before any of them may stand `if X < Y: `"
 pub data Test : Type 0 where
   always : Test
-  when : Term → Comparison → Term → Test
+  when : Expression → Comparison → Expression → Test
 
--- `F[u] := X`, `F[u] := X + Y`, `F[u] := X - Y`, `remote F[C] <?= X`, `remote F[C] += X`: F by its field, C by its hop word
-pub data Action : Type 0 where
-  set : ℕ → Term → Action
-  sum : ℕ → Term → Term → Action
-  difference : ℕ → Term → Term → Action
-  least : ℕ → List ℕ → Term → Action
-  total : ℕ → List ℕ → Term → Action
+-- where a rule writes: field F of its own record, `F[u] :=`, or, by a remote write, of the record at C, `remote F[C]`
+pub data Target : Type 0 where
+  own : ℕ → Target
+  remote : Sort → ℕ → List ℕ → Target
 
--- a rule with its test
+-- a rule: its test, where it writes, and what
 pub record Rule : Type 0 where
   pub test : Test
-  pub action : Action
+  pub target : Target
+  pub expression : Expression
 
 -- a step: its rules from the top, and where it stands
 pub record Step : Type 0 where
@@ -41,23 +43,21 @@ abbrev pub Program : Type 0
 Program = List Step
 
 -- "in a rule the chains from left to right, C standing for the remote target"
-unfoldable pub termReadings : Term → List (List ℕ)
-termReadings (reading w) = w ∷ []
-termReadings (constant z) = []
+unfoldable pub expressionReadings : Expression → List (List ℕ)
+expressionReadings (reading w) = w ∷ []
+expressionReadings (constant z) = []
+expressionReadings (operation op x y) = expressionReadings x ++ expressionReadings y
 
 unfoldable pub testReadings : Test → List (List ℕ)
 testReadings always = []
-testReadings (when x c y) = termReadings x ++ termReadings y
+testReadings (when x c y) = expressionReadings x ++ expressionReadings y
 
-unfoldable pub actionReadings : Action → List (List ℕ)
-actionReadings (set f x) = termReadings x
-actionReadings (sum f x y) = termReadings x ++ termReadings y
-actionReadings (difference f x y) = termReadings x ++ termReadings y
-actionReadings (least f c x) = c ∷ termReadings x
-actionReadings (total f c x) = c ∷ termReadings x
+unfoldable pub targetReadings : Target → List (List ℕ)
+targetReadings (own f) = []
+targetReadings (remote k f c) = c ∷ []
 
 unfoldable pub ruleReadings : Rule → List (List ℕ)
-ruleReadings r = testReadings (r .test) ++ actionReadings (r .action)
+ruleReadings r = testReadings (r .test) ++ (targetReadings (r .target) ++ expressionReadings (r .expression))
 
 -- "A step's plan walks its rules from the top"
 unfoldable pub readings : List Rule → List (List ℕ)
@@ -73,45 +73,34 @@ mostLines [] = 0
 mostLines (x ∷ xs) = max (length (stepPlan (x .rules))) (mostLines xs)
 
 -- the field that a rule writes
-unfoldable pub fieldOf : Action → ℕ
-fieldOf (set f x) = f
-fieldOf (sum f x y) = f
-fieldOf (difference f x y) = f
-fieldOf (least f c x) = f
-fieldOf (total f c x) = f
+unfoldable pub fieldOf : Target → ℕ
+fieldOf (own f) = f
+fieldOf (remote k f c) = f
 
 -- whether that is field f
-unfoldable pub writes : ℕ → Action → Bool
-writes f a = eqb f (fieldOf a)
-
--- whether a rule is a remote one, and whether a step holds one: then "a remote exchange follows"
-unfoldable pub isRemote : Action → Bool
-isRemote (set f x) = false
-isRemote (sum f x y) = false
-isRemote (difference f x y) = false
-isRemote (least f c x) = true
-isRemote (total f c x) = true
-
-unfoldable pub hasRemote : List Rule → Bool
-hasRemote [] = false
-hasRemote (r ∷ rs) = isRemote (r .action) || hasRemote rs
+unfoldable pub writes : ℕ → Target → Bool
+writes f t = eqb f (fieldOf t)
 
 -- whether a rule is a remote write to field f: by `<?=`, by `+=`
-unfoldable pub isLeast : ℕ → Action → Bool
-isLeast f (set g x) = false
-isLeast f (sum g x y) = false
-isLeast f (difference g x y) = false
-isLeast f (least g c x) = eqb f g
-isLeast f (total g c x) = false
+unfoldable pub isLeast : ℕ → Target → Bool
+isLeast f (own g) = false
+isLeast f (remote Least g c) = eqb f g
+isLeast f (remote Total g c) = false
 
-unfoldable pub isTotal : ℕ → Action → Bool
-isTotal f (set g x) = false
-isTotal f (sum g x y) = false
-isTotal f (difference g x y) = false
-isTotal f (least g c x) = false
-isTotal f (total g c x) = eqb f g
+unfoldable pub isTotal : ℕ → Target → Bool
+isTotal f (own g) = false
+isTotal f (remote Least g c) = false
+isTotal f (remote Total g c) = eqb f g
 
--- whether p holds of one of these rules
-unfoldable pub someAction : (Action → Bool) → List Rule → Bool
-someAction p [] = false
-someAction p (r ∷ rs) = p (r .action) || someAction p rs
+-- whether p holds of where one of these rules writes
+unfoldable pub someTarget : (Target → Bool) → List Rule → Bool
+someTarget p [] = false
+someTarget p (r ∷ rs) = p (r .target) || someTarget p rs
+
+-- whether a rule is a remote one, and whether a step holds one: then "a remote exchange follows"
+unfoldable pub isRemote : Target → Bool
+isRemote (own f) = false
+isRemote (remote k f c) = true
+
+unfoldable pub hasRemote : List Rule → Bool
+hasRemote rs = someTarget isRemote rs

@@ -8,12 +8,13 @@ use Rattle.program.specs.declared.term.Term.the-variants.{Chain, Number}
 use Rattle.program.specs.declared.rule.Test.{Test}
 use Rattle.program.specs.declared.rule.Test.the-variants.{Always, When}
 use Rattle.program.specs.declared.rule.Rule.{Rule}
-use Rattle.program.specs.declared.rule.Rule.the-variants.{Set, Sum, Difference, Least, Total}
+use Rattle.program.specs.declared.rule.Rule.the-variants.{Set, Combine, Remote}
 use Rattle.program.specs.declared.rule.Slot.{Slot}
+use Rattle.program.specs.declared.location.Located.{Located}
 use Rattle.program.specs.Program as P
 
--- the rule of the program that a place of the array holds
-unfoldable pub termOf : Term → P.Term
+-- a term, a test, where a rule writes and what, as the program has them
+unfoldable pub termOf : Term → P.Expression
 termOf (Chain n) = P.reading (unpack n)
 termOf (Number z) = P.constant z
 
@@ -21,16 +22,19 @@ unfoldable pub testOf : Test → P.Test
 testOf Always = P.always
 testOf (When x c y) = P.when (termOf x) c (termOf y)
 
-unfoldable pub actionOf : Rule → P.Action
-actionOf (Set f x) = P.set f (termOf x)
-actionOf (Sum f x y) = P.sum f (termOf x) (termOf y)
-actionOf (Difference f x y) = P.difference f (termOf x) (termOf y)
-actionOf (Least f c x) = P.least f (unpack c) (termOf x)
-actionOf (Total f c x) = P.total f (unpack c) (termOf x)
+unfoldable pub targetOf : Rule → P.Target
+targetOf (Set f x) = P.own f
+targetOf (Combine f op x y) = P.own f
+targetOf (Remote k f c x) = P.remote k f (unpack c)
+
+unfoldable pub expressionOf : Rule → P.Expression
+expressionOf (Set f x) = termOf x
+expressionOf (Combine f op x y) = P.operation op (termOf x) (termOf y)
+expressionOf (Remote k f c x) = termOf x
 
 unfoldable pub ruleOf : Slot → P.Rule
-ruleOf x = record { test = testOf (x .test); action = actionOf (x .rule) }
+ruleOf x = record { test = testOf (x .test); target = targetOf (x .rule); expression = expressionOf (x .rule) }
 
 -- the first n rules of a step's 32 places
-unfoldable pub rulesIn : ℕ → List Slot → List P.Rule
-rulesIn n places = map ruleOf (take n places)
+unfoldable pub rulesIn : ℕ → List Located → List P.Rule
+rulesIn n places = map (λ x. ruleOf (x .slot)) (take n places)

@@ -1,13 +1,23 @@
 // Rules and tests, as a program holds them.
 use crate::term::Term;
 
-// `F[u] := X`, `F[u] := X + Y`, `F[u] := X - Y`, `remote F[C] <?= X`, `remote F[C] += X`: F by its field, C packed.
+// `+`, `-`
+pub enum Operator {
+    Plus,
+    Minus,
+}
+
+// `<?=`, `+=`
+pub enum Sort {
+    Least,
+    Total,
+}
+
+// `F[u] := X`; `F[u] := X + Y` or `F[u] := X - Y`; `remote F[C] <?= X` or `remote F[C] += X`: F by its field, C packed.
 pub enum Rule {
     Set(u64, Term),
-    Sum(u64, Term, Term),
-    Difference(u64, Term, Term),
-    Least(u64, u64, Term),
-    Total(u64, u64, Term),
+    Combine(u64, Operator, Term, Term),
+    Remote(Sort, u64, u64, Term),
 }
 
 // `<`, `==`, `!=`
@@ -23,7 +33,7 @@ pub enum Test {
     When(Term, Comparison, Term),
 }
 
-// One place of a program.
+// A rule with its test.
 pub struct Slot {
     pub test: Test,
     pub rule: Rule,

@@ -7,7 +7,7 @@ use native.Mathlib.Numerals.{add-one}
 use lib.IntN.{ℤ}
 use Rattle.register.specs.declared.Sizes.{Sizes}
 use Rattle.register.specs.declared.cells.Cell.{Cell}
-use Rattle.chain.specs.Word.{cell}
+use Rattle.chain.specs.Word.{readCell}
 use Rattle.program.specs.declared.setting.Setting.{Setting}
 use Rattle.program.specs.declared.setting.Setting.the-variants.{Single, Looped}
 use Rattle.machine.specs.Run.{begins}
@@ -22,7 +22,8 @@ module _ {s : Sizes} {g : Setting} {cells : List Cell} {at : ℕ} {values : List
 
   -- the first step of a loop keeps the column
   pub entered-first : {f : ℕ} {begin last : Bool} {values′ : List ℤ} {marks′ : List ℕ} → g ≡ Looped f begin last → begin ≡ true
-      → StoredFrom at (s .records) (λ u. cell s cells u f) values marks values′ marks′ → (step ≡ cond (begins g) step first) × Entered s g cells at values marks values′ marks′
+      → StoredFrom at (s .records) (λ u. readCell s cells u f) values marks values′ marks′
+      → (step ≡ cond (begins g) step first) × Entered s g cells at values marks values′ marks′
   entered-first e b k = rw (e, b) (refl, record { in-pass = λ before h. column-stored _ _ _ _ k; behind = behind-stored k })
 
   -- outside a loop, or before its last step, the step behind is next

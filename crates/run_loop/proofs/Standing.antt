@@ -6,8 +6,9 @@ use mathlib.Core.List.{List}
 use lib.IntN.{ℤ}
 use Rattle.register.specs.declared.Sizes.{Sizes}
 use Rattle.register.specs.declared.cells.Cell.{Cell}
-use Rattle.chain.specs.Word.{cell}
-use Rattle.machine.specs.Run.{sameCell}
+use Rattle.chain.specs.declared.reading.Reading.{Reading}
+use Rattle.chain.specs.Word.{readCell}
+use Rattle.machine.specs.Run.{sameReading}
 use Rattle.machine.proofs.Columns.{sameAt}
 use Rattle.scratch.specs.Places.{placeAt, StoredFrom}
 use Rattle.scratch.proofs.Placed.{kept-same}
@@ -18,17 +19,17 @@ pub behind-same : {s : Sizes} {at : ℕ} {values : List ℤ} {marks : List ℕ} 
 behind-same = record { values-length = refl; marks-length = refl; kept = λ j h. kept-same }
 
 -- .. or the column is
-pub behind-stored : {s : Sizes} {at : ℕ} {c : ℕ → Cell} {values values′ : List ℤ} {marks marks′ : List ℕ} → StoredFrom at (s .records) c values marks values′ marks′
-    → Behind s at values marks values′ marks′
+pub behind-stored : {s : Sizes} {at : ℕ} {x : ℕ → Reading} {values values′ : List ℤ} {marks marks′ : List ℕ}
+    → StoredFrom at (s .records) x values marks values′ marks′ → Behind s at values marks values′ marks′
 behind-stored k = record { values-length = k .values-length; marks-length = k .marks-length; kept = k .behind }
 
 module _ (s : Sizes) (f : ℕ) (cells : List Cell) (at : ℕ) where
   -- a column that is stored stands at its places
-  pub column-stored : {values values′ : List ℤ} {marks marks′ : List ℕ} → StoredFrom at (s .records) (λ u. cell s cells u f) values marks values′ marks′
+  pub column-stored : {values values′ : List ℤ} {marks marks′ : List ℕ} → StoredFrom at (s .records) (λ u. readCell s cells u f) values marks values′ marks′
       → Column s f cells at values′ marks′
   column-stored k = record { column = record { fits = k .fits }; place-is = k .place-is }
 
-  -- the cell that is kept for a record and its cell now, compared
-  pub same-told : {values : List ℤ} {marks : List ℕ} {c d : Cell} {r : Bool} (after : List Cell) (u : ℕ) → u < s .records
-      → c ≡ placeAt values marks (at + u) → d ≡ cell s after u f → r ≡ sameCell c d → Column s f cells at values marks → sameAt s f cells after u ≡ r
-  same-told after u h ec ed er k = sym (er ∙ ap₂ sameCell (ec ∙ k .place-is u h) ed)
+  -- what is kept for a record and what is read of its cell now, compared
+  pub same-told : {values : List ℤ} {marks : List ℕ} {x y : Reading} {r : Bool} (after : List Cell) (u : ℕ) → u < s .records
+      → x ≡ placeAt values marks (at + u) → y ≡ readCell s after u f → r ≡ sameReading x y → Column s f cells at values marks → sameAt s f cells after u ≡ r
+  same-told after u h ex ey er k = sym (er ∙ ap₂ sameReading (ex ∙ k .place-is u h) ey)

@@ -9,7 +9,7 @@ use mir.Syntax.{w32}
 use mir.Val.{SFits}
 use Rattle.register.specs.declared.Sizes.{Sizes}
 use Rattle.register.specs.declared.cells.Cell.{Cell}
-use Rattle.chain.specs.Word.{cell}
+use Rattle.chain.specs.Word.{readCell}
 use Rattle.program.specs.declared.setting.Setting.{Setting}
 use Rattle.program.specs.declared.setting.Setting.the-variants.{Single, Looped}
 use Rattle.machine.specs.Run.{sameColumn, begins, goesOn}
@@ -27,7 +27,7 @@ pub record HasColumn (s : Sizes) (at : ℕ) (values : List ℤ) : Type 0 where
 -- field f of these cells stands from `at` on
 pub record Column (s : Sizes) (f : ℕ) (cells : List Cell) (at : ℕ) (values : List ℤ) (marks : List ℕ) : Type 0 where
   pub column : HasColumn s at values
-  pub place-is : (u : ℕ) → u < s .records → placeAt values marks (at + u) ≡ cell s cells u f
+  pub place-is : (u : ℕ) → u < s .records → placeAt values marks (at + u) ≡ readCell s cells u f
 
 -- the answer whether field f of these cells is as it was kept
 pub record SameAs (s : Sizes) (f : ℕ) (after : List Cell) (at : ℕ) (values : List ℤ) (marks : List ℕ) (r : Bool) : Type 0 where

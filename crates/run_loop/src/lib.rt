@@ -9,28 +9,28 @@ ghost use Rattle.register.specs.File.{cellCount, cellsOfFile};
 ghost use Rattle.register.specs.Shape.{Limits, Parts};
 ghost use Rattle.chain.specs.Word.{hasField};
 ghost use Rattle.program.specs.Passed.{SettingPasses};
-ghost use Rattle.machine.specs.Run.{sameCell as sameCellOf, begins};
+ghost use Rattle.machine.specs.Run.{sameReading as sameReadingOf, begins};
 ghost use Rattle.run_loop.specs.Column.{Space, HasColumn, SameAs, HasPass, Entered, NextIs};
 use chain::follow;
+use chain::reading::Reading;
 use program::setting::Setting;
 use register::Sizes;
 use register::cells;
-use register::cells::Cell;
 use scratch;
 use scratch::column;
 
 // "The same, values and marks".
-fn same_cell(x: Cell, y: Cell) -> bool
-    ensures { λ r. ⌜ r ≡ sameCellOf x y ⌝ }
+fn same_reading(x: Reading, y: Reading) -> bool
+    ensures { λ r. ⌜ r ≡ sameReadingOf x y ⌝ }
 {
     match x {
-        Cell::Missing => match y {
-            Cell::Missing => true,
-            Cell::Value(_) => false,
+        Reading::Missing => match y {
+            Reading::Missing => true,
+            Reading::Value(_) => false,
         },
-        Cell::Value(a) => match y {
-            Cell::Missing => false,
-            Cell::Value(b) => integers::equal(a, b),
+        Reading::Value(a) => match y {
+            Reading::Missing => false,
+            Reading::Value(b) => integers::equal(a, b),
         },
     }
 }
@@ -49,10 +49,10 @@ fn is_same(
     ensures { λ r. ⌜ SameAs sizes field (cellsOf (now (cells .entry)) (now (filled .entry))) at (now (values .entry)) (now (marks .entry)) r ⌝ }
 {
     for u in 0..sizes.records {
-        let before = scratch::cell_at(values, marks, at + u);
-        if !same_cell(
+        let before = scratch::read_at(values, marks, at + u);
+        if !same_reading(
             before,
-            follow::cell_of(cells, filled, sizes, u, field as usize),
+            follow::read_cell(cells, filled, sizes, u, field as usize),
         ) {
             return false;
         }
@@ -72,7 +72,8 @@ pub fn enter(
     first: usize,
 ) -> usize
     requires { ⌜ Limits sizes × (length (now file) ≡ 12 + 5 * cellCount sizes) × SettingPasses sizes setting × Space sizes at (now values) (now marks) ⌝ }
-    ensures { λ r. ⌜ (r ≡ cond (begins setting) step first) × Entered sizes setting (cellsOfFile sizes (now (file .entry))) at (now (values .entry)) (now (marks .entry)) (now (values .exit)) (now (marks .exit)) ⌝ }
+    ensures { λ r. ⌜ (r ≡ cond (begins setting) step first)
+        × Entered sizes setting (cellsOfFile sizes (now (file .entry))) at (now (values .entry)) (now (marks .entry)) (now (values .exit)) (now (marks .exit)) ⌝ }
 {
     match setting {
         Setting::Single => first,
@@ -99,7 +100,8 @@ pub fn next(
     step: usize,
     first: usize,
 ) -> usize
-    requires { ⌜ Limits sizes × (length (now file) ≡ 12 + 5 * cellCount sizes) × SettingPasses sizes setting × Space sizes at (now values) (now marks) × HasPass sizes setting at (now values) × (step < 32) ⌝ }
+    requires { ⌜ Limits sizes × (length (now file) ≡ 12 + 5 * cellCount sizes) × SettingPasses sizes setting × Space sizes at (now values) (now marks)
+        × HasPass sizes setting at (now values) × (step < 32) ⌝ }
     ensures { λ r. ⌜ NextIs sizes setting (cellsOfFile sizes (now (file .entry))) at (now (values .entry)) (now (marks .entry)) step first r ⌝ }
 {
     match setting {

@@ -5,52 +5,49 @@ use mathlib.Core.Bool.{Bool, true, false, cond}
 use mathlib.Core.List.{List, [], _∷_}
 use native.Mathlib.Omega.{arith}
 use lib.ListN.{length, length-append}
-use Rattle.register.specs.declared.cells.Cell.{Cell}
-use Rattle.register.specs.declared.cells.Cell.the-variants.{Missing, Value}
-use Rattle.program.specs.Program.{Action, set, sum, difference, least, total, Rule}
-use Rattle.machine.specs.declared.message.Sort.{Sort}
-use Rattle.machine.specs.Value.{both, holds}
-use Rattle.machine.specs.Remote.{sentTo, actionMessages, ruleMessages, messages, recordMessages}
+use Rattle.chain.specs.declared.reading.Reading.{Reading}
+use Rattle.chain.specs.declared.reading.Reading.the-variants.{Missing, Value}
+use Rattle.program.specs.declared.rule.Sort.{Sort}
+use Rattle.program.specs.Program.{Target, own, remote, Rule}
+use Rattle.machine.specs.Value.{both, value, holds}
+use Rattle.machine.specs.Remote.{sentTo, sentBy, ruleMessages, messages, recordMessages}
 use Rattle.machine_messages.specs.declared.Machine.{Machine}
 use Rattle.machine_messages.specs.declared.Machine.the-variants.{Direct, Messages}
 use Rattle.gather.specs.Counted.{countsAfter}
 use Rattle.gather.specs.declared.counts.Counts.{Counts}
 
-sent-few : (k : Sort) (f : ℕ) (c x : Cell) → length (sentTo k f c x) ≤ 1
+sent-few : (k : Sort) (f : ℕ) (c x : Reading) → length (sentTo k f c x) ≤ 1
 unfolding sentTo both
 sent-few k f Missing x = omega arith
 sent-few k f (Value v) Missing = omega arith
 sent-few k f (Value v) (Value a) = omega arith
 
-action-few : (read : List ℕ → Cell) (a : Action) → length (actionMessages read a) ≤ 1
-unfolding actionMessages
-action-few read (set f x) = omega arith
-action-few read (sum f x y) = omega arith
-action-few read (difference f x y) = omega arith
-action-few read (least f c x) = sent-few _ f _ _
-action-few read (total f c x) = sent-few _ f _ _
+target-few : (read : List ℕ → Reading) (t : Target) (x : Reading) → length (sentBy read t x) ≤ 1
+unfolding sentBy
+target-few read (own f) x = omega arith
+target-few read (remote k f c) x = sent-few k f (read c) x
 
-rule-few : (read : List ℕ → Cell) (r : Rule) → length (ruleMessages read r) ≤ 1
+rule-few : (read : List ℕ → Reading) (r : Rule) → length (ruleMessages read r) ≤ 1
 unfolding ruleMessages
 rule-few read r = go (holds read (r .test))
   where
-    go : (b : Bool) → length (cond b (actionMessages read (r .action)) []) ≤ 1
-    go true = action-few read (r .action)
+    go : (b : Bool) → length (cond b (sentBy read (r .target) (value read (r .expression))) []) ≤ 1
+    go true = target-few read (r .target) (value read (r .expression))
     go false = omega arith
 
-messages-few : (read : List ℕ → Cell) (rs : List Rule) → length (messages read rs) ≤ length rs
+messages-few : (read : List ℕ → Reading) (rs : List Rule) → length (messages read rs) ≤ length rs
 unfolding messages
 messages-few read [] = omega arith
 messages-few read (r ∷ rs) = rw (length-append (ruleMessages read r) (messages read rs)) (omega (arith, rule-few read r, messages-few read rs))
 
-records-few : (read : ℕ → List ℕ → Cell) (rs : List Rule) (n : ℕ) → length rs ≤ 32 → length (recordMessages read rs n) ≤ 32 * n
+records-few : (read : ℕ → List ℕ → Reading) (rs : List Rule) (n : ℕ) → length rs ≤ 32 → length (recordMessages read rs n) ≤ 32 * n
 unfolding recordMessages
 records-few read rs zero h = omega arith
 records-few read rs (suc n) h =
     rw (length-append (recordMessages read rs n) (messages (read n) rs)) (omega (arith, records-few read rs n h, messages-few (read n) rs))
 
 -- the messages of at most 4,096 records
-pub writes-few : (read : ℕ → List ℕ → Cell) (rs : List Rule) (n m : ℕ) → length rs ≤ 32 → n ≤ 4096 → m ≡ length (recordMessages read rs n) → m ≤ 131072
+pub writes-few : (read : ℕ → List ℕ → Reading) (rs : List Rule) (n m : ℕ) → length rs ≤ 32 → n ≤ 4096 → m ≡ length (recordMessages read rs n) → m ≤ 131072
 writes-few read rs n m h l e = omega (arith, records-few read rs n h)
 
 -- what so many steps can count

@@ -1,6 +1,6 @@
 -- Laws for the proofs of the functions.
 pub mod Arrays
-pub mod Locating
+pub mod Finding
 pub mod Counting
 pub mod Bounds
 pub mod Standing

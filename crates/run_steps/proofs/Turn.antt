@@ -2,7 +2,7 @@
 use Prim.Native.Nat.{ℕ, zero, suc, _+_, _*_, _≤_, _<_}
 use mathlib.Core.Path.{_≡_, sym, ap, subst, _∙_}
 use mathlib.Core.Bool.{false}
-use mathlib.Core.List.{List, [], _∷_, _++_}
+use mathlib.Core.List.{List, [], _∷_, _++_, map}
 use native.Mathlib.Omega.{arith}
 use native.Mathlib.Nat.{mul-le-mul-right}
 use lib.IntN.{ℤ, pos}
@@ -14,43 +14,40 @@ use Rattle.register.specs.declared.cells.Cell.{Cell}
 use Rattle.register.specs.declared.cells.Cell.the-variants.{Missing}
 use Rattle.plan_lines.specs.Held.{facts}
 use Rattle.plan_lines.proofs.Appending.{holds-count}
-use Rattle.program.specs.declared.rule.Slot.{Slot}
+use Rattle.program.specs.declared.location.Located.{Located}
 use Rattle.program.specs.Program.{Rule, Step, Program, stepPlan, hasRemote, mostLines}
 use Rattle.program.specs.Passed.{SettingPasses, StepPasses, ProgramPasses}
-use Rattle.program.specs.Stored.{rulesIn}
+use Rattle.program.specs.Stored.{ruleOf, rulesIn}
 use Rattle.program.specs.declared.frame.Frame.{Frame}
 use Rattle.program.specs.Kept.{programOf, Complete}
 use Rattle.program.specs.declared.Program as R
 use Rattle.machine.specs.Remote.{recordMessages}
-use Rattle.machine.specs.Alike.{RulesAlike}
 use Rattle.machine.specs.Run.{direct}
 use Rattle.machine.specs.Step.{stepCells}
-use Rattle.machine.proofs.Alike.{stepCells-alike, offendsAt-alike, stops-alike, recordMessages-alike}
 use Rattle.machine.proofs.Running.{running-passes}
 use Rattle.machine.proofs.Untouched.{step-untouched}
 use Rattle.machine_messages.specs.declared.Machine.{Machine}
 use Rattle.scratch.specs.Places.{Kept}
-use Rattle.scratch.proofs.Placed.{kept-again, placeAt-kept}
+use Rattle.scratch.proofs.Placed.{kept-again, storedAt-kept}
 use Rattle.gather_follow.specs.Filled.{Filled}
-use Rattle.step_locate.specs.Locate.{locatedSlot, LocatedTo, SlotShort}
-use Rattle.step_locate.specs.Lines.{LinesHold}
-use Rattle.step_locate.proofs.Lines.{filled-lines, lines-below}
-use Rattle.step_locate.proofs.Slots.{slots-alike, slots-ready}
 use Rattle.step_cells.specs.Work.{Room, Holds, Same}
-use Rattle.step_rules.specs.Ready.{reads, AllReady, LocalDone, LocalStops}
+use Rattle.step_rules.specs.Ready.{AllReady, LocalDone, LocalStops}
 use Rattle.step_rules.specs.Delivered.{Delivered}
 use Rattle.step_commit.specs.Committed.{isWritten, AllCommitted, CommitStops}
 use Rattle.step_rules.specs.Stepped.{GoesThrough, StopsAt}
 use Rattle.step_cells.proofs.Working.{same-then}
-use Rattle.step_rules.proofs.Stepping.{AllDone, all-done, local-stops, goes-through, commit-stops}
+use Rattle.step_rules.proofs.Stepping.{AllDone, all-done, local-stops, goes-through, total-stops}
+use Rattle.step_commit.proofs.Committing.{stop-out-of-range, committed-in-range, committed-file}
+use Rattle.machine.proofs.Folding.{stepCells-length}
 use Rattle.run_loop.specs.Column.{Entered}
 use Rattle.gather_exchanges.specs.Lines.{Planned}
 use Rattle.gather.specs.Gathered.{GatheredBy}
 use Rattle.gather.specs.Counted.{countsAfter}
 use Rattle.run_steps.specs.Answer.{countsOf}
 use Rattle.gather.specs.declared.counts.Counts.{Counts}
-use Rattle.run_steps.proofs.Arrays.{noFrame, StepAt, step-at, slotsAt, slots-length, slot-at}
-use Rattle.run_steps.proofs.Locating.{short-at, located-next, all-short, located-remote}
+use Rattle.step_terms.specs.Found.{followed}
+use Rattle.run_steps.proofs.Arrays.{noFrame, StepAt, step-at, slotsAt, slots-length, slot-at, taken-next}
+use Rattle.run_steps.proofs.Finding.{LinesHold, filled-lines, all-ready}
 use Rattle.run_steps.proofs.Counting.{counts-step}
 use Rattle.run_steps.proofs.Bounds.{Few, few-more, writes-few}
 use Rattle.run_steps.proofs.Standing.{noStep, Behind, Stands, here, comes}
@@ -61,27 +58,6 @@ unfolding mostLines
 lines-most [] i d h = absurd (omega arith)
 lines-most (x ∷ xs) zero d h = omega arith
 lines-most (x ∷ xs) (suc i) d h = omega (arith, lines-most xs i d (omega arith))
-
--- a step goes through and stops the same for rules that come to the same
-module _ (s : Sizes) (read read′ : ℕ → List ℕ → Cell) (rs rs′ : List Rule) (alike : (u : ℕ) → u < s .records → RulesAlike (read u) (read′ u) rs rs′) where
-  through-alike : {file file′ : List ℕ} {base : ℕ} {values : List ℤ} {marks : List ℕ} {n : ℕ} → GoesThrough s read rs file file′ base values marks n → GoesThrough s read′ rs′ file file′ base values marks n
-  through-alike {file} t =
-      let cells = stepCells-alike s read read′ rs rs′ alike (cellsOfFile s file) in
-      record {
-        file-is = t .file-is ∙ ap (fileOf s) cells;
-        holds = rw cells at (t .holds);
-        sent-is = t .sent-is ∙ ap length (recordMessages-alike s read read′ rs rs′ (s .records) alike);
-        stops-not = sym (stops-alike s read read′ rs rs′ alike (cellsOfFile s file)) ∙ t .stops-not;
-      }
-
-  stops-the-same : {file file′ : List ℕ} {u c : ℕ} → StopsAt s read rs file file′ u c → StopsAt s read′ rs′ file file′ u c
-  stops-the-same {file} {u = u} {c = c} t =
-      record {
-        row = t .row;
-        col = t .col;
-        offends-there = sym (offendsAt-alike s read read′ rs rs′ alike (cellsOfFile s file) u c (t .row)) ∙ t .offends-there;
-        length-is = t .length-is;
-      }
 
 -- what stands below `base` is kept
 kept-below : {base j : ℕ} {values values′ : List ℤ} {marks marks′ : List ℕ} → j < base → Same base values marks values′ marks′ → Kept j values marks values′ marks′
@@ -140,35 +116,34 @@ module _ {m : Machine} {s : Sizes} {p : R.Program} {budget : ℕ} {file : List �
       let count : frame .plan .count ≤ p .lines = omega (arith, holds-count (at-step .frame .holds), lines-most (programOf p) step noStep inside, a .complete .lines-are) in
       mul-le-mul-right (s .records) count
 
-  -- its rules, as they are located one by one
-  pub slot-short : (j : ℕ) (d : Slot) → j < frame .rules → SlotShort (getD (p .slots) (32 * step + j) d)
-  slot-short j d b =
+  -- its rules, as they are taken out one by one
+  pub slot-taken : (places : List Located) (j : ℕ) (d : Located) {r : Located} → j < frame .rules → length places ≡ 32 → r ≡ getD (p .slots) (32 * step + j) d
+      → take j places ≡ take j (slotsAt p step) → take (j + 1) (set places j r) ≡ take (j + 1) (slotsAt p step)
+  slot-taken places j d b n h so-far =
       let few-rules = at-step .frame .few in
-      subst SlotShort (slot-at p step (a .complete) few j d (omega (arith, few-rules)))
-      (short-at (frame .rules) (slotsAt p step) j d (omega (arith, few-rules, slots-length p step (a .complete) few)) b (all-short {s = s} (frame .rules) (slotsAt p step) (rw (← at-step .rules-are) (step-passes .rules))))
+      taken-next j (slotsAt p step) places d (omega (arith, few-rules, slots-length p step (a .complete) few)) (omega (arith, few-rules))
+      (h ∙ sym (slot-at p step (a .complete) few j d (omega (arith, few-rules)))) so-far
 
-  pub slot-located : (places : List Slot) (j : ℕ) (d : Slot) {r : Slot} → j < frame .rules → length places ≡ 32 → r ≡ locatedSlot (facts (frame .plan)) (getD (p .slots) (32 * step + j) d)
-      → LocatedTo (facts (frame .plan)) j (slotsAt p step) places → LocatedTo (facts (frame .plan)) (j + 1) (slotsAt p step) (set places j r)
-  slot-located places j d b n h so-far =
-      let few-rules = at-step .frame .few in
-      located-next (facts (frame .plan)) j (slotsAt p step) places d (omega (arith, few-rules, slots-length p step (a .complete) few)) (omega (arith, few-rules))
-      (h ∙ ap (locatedSlot (facts (frame .plan))) (sym (slot-at p step (a .complete) few j d (omega (arith, few-rules))))) so-far
-
-  -- all of them located, the pass entered and the readings gathered
-  pub record Prepared (places : List Slot) (values₁ : List ℤ) (marks₁ : List ℕ) (values₂ : List ℤ) (marks₂ : List ℕ) (r : Counts) : Type 0 where
-    pub is-located : LocatedTo (facts (frame .plan)) (frame .rules) (slotsAt p step) places
+  -- all of them taken out, the pass entered and the readings gathered
+  pub record Prepared (places : List Located) (values₁ : List ℤ) (marks₁ : List ℕ) (values₂ : List ℤ) (marks₂ : List ℕ) (r : Counts) : Type 0 where
+    pub is-taken : take (frame .rules) places ≡ take (frame .rules) (slotsAt p step)
     pub entered : Entered s (frame .setting) cells at values marks values₁ marks₁
-    pub gathered : GatheredBy m s cells (facts (frame .plan)) values₁ marks₁ values₂ marks₂ r
+    pub gathered : GatheredBy m s cells (facts (frame .plan)) (frame .wanted) values₁ marks₁ values₂ marks₂ r
 
   -- then the step can be run
-  module _ {places : List Slot} {values₁ values₂ : List ℤ} {marks₁ marks₂ : List ℕ} {r : Counts} (b : Prepared places values₁ marks₁ values₂ marks₂ r) where
+  module _ {places : List Located} {values₁ values₂ : List ℤ} {marks₁ marks₂ : List ℕ} {r : Counts} (b : Prepared places values₁ marks₁ values₂ marks₂ r) where
     abbrev rs : List Rule
     rs = here t inside .rules
 
-    located-here : LocatedTo (stepPlan rs) (frame .rules) (slotsAt p step) places
-    located-here = rw (at-step .frame .holds .facts-are) at (b .is-located)
+    -- the rules taken out are the step's
+    abbrev ls : List Rule
+    ls = rulesIn (frame .rules) places
 
-    filled : Filled s cells (stepPlan rs) (length (stepPlan rs)) values₁ marks₁ values₂ marks₂
+    rules-taken : ls ≡ rs
+    unfolding rulesIn
+    rules-taken = ap (map (λ (x : Located). ruleOf (x .slot))) (b .is-taken) ∙ sym (at-step .rules-are)
+
+    filled : Filled s cells (stepPlan rs) (frame .wanted) (length (stepPlan rs)) values₁ marks₁ values₂ marks₂
     filled = rw (at-step .frame .holds .facts-are) at (b .gathered .filled)
 
     lines-before : length (stepPlan rs) * s .records ≤ at
@@ -185,11 +160,9 @@ module _ {m : Machine} {s : Sizes} {p : R.Program} {budget : ℕ} {file : List �
     lines-few =
         omega (arith, rw (at-step .frame .holds .facts-are) at (b .gathered .few-messages), mul-le-mul-right (s .records) (step-passes .fits), t .register .valid .limits .records≤)
 
-    -- the lines hold what the direct machine reads
-    lines : LinesHold s (stepPlan rs) (direct s rs cells) (take base values₂) (take base marks₂)
-    lines =
-        lines-below s (stepPlan rs) base (omega (arith, lines-before)) (omega (arith, room-values)) (omega (arith, room-marks))
-        (filled-lines s (stepPlan rs) rs filled (omega (arith, lines-before, room-values, filled .values-length)) (omega (arith, lines-before, room-marks, filled .marks-length)))
+    -- the lines that are read hold what is had by following
+    lines : LinesHold s (stepPlan rs) (frame .wanted) cells (take base values₂) (take base marks₂)
+    lines = filled-lines s (stepPlan rs) (frame .wanted) base (omega (arith, lines-before)) (omega (arith, room-values)) (omega (arith, room-marks)) filled
 
     pub step-room : Room base (cellCount s) values₂ marks₂
     step-room =
@@ -204,52 +177,59 @@ module _ {m : Machine} {s : Sizes} {p : R.Program} {budget : ℕ} {file : List �
         record {
           place-is = λ j h.
               let kept = kept-again (b .entered .behind .kept (base + j) (omega arith)) (filled .behind (base + j) (omega (arith, lines-before))) in
-              placeAt-kept kept ∙ t .working .place-is j h;
+              storedAt-kept kept ∙ t .working .place-is j h;
         }
 
     pub step-ready : AllReady s cells (take base values₂) (take base marks₂) (take (frame .rules) places)
     step-ready =
-        slots-ready s (frame .rules) (slotsAt p step) places (rw (← at-step .rules-are) (step-passes .rules)) (rw (at-step .rules-are) at located-here) cells (take base values₂) (take base marks₂)
-        (rw (at-step .rules-are) at lines) (t .register .valid)
+        rw (b .is-taken)
+        (all-ready s (frame .rules) (slotsAt p step) (rw (← at-step .rules-are) (step-passes .rules)) (frame .wanted)
+        (rw (at-step .frame .holds .facts-are, at-step .rules-are) at (at-step .located)) (rw (at-step .rules-are) at lines) (t .register .valid))
 
-    pub step-sends : frame .remote ≡ hasRemote (rulesIn (frame .rules) places)
-    step-sends = at-step .frame .remote-is ∙ ap hasRemote (at-step .rules-are) ∙ sym (located-remote _ (frame .rules) (slotsAt p step) places (b .is-located))
+    pub step-sends : frame .remote ≡ hasRemote ls
+    step-sends = at-step .frame .remote-is ∙ ap hasRemote (sym rules-taken)
 
-    -- and does what the direct machine does
-    abbrev ls : List Rule
-    ls = rulesIn (frame .rules) places
-
-    located-alike : (u : ℕ) → u < s .records → RulesAlike (reads s cells base values₂ marks₂ u) (direct s rs cells u) ls rs
-    located-alike =
-        subst (λ (xs : List Rule). (u : ℕ) → u < s .records → RulesAlike (reads s cells base values₂ marks₂ u) (direct s xs cells u) ls xs) (sym (at-step .rules-are))
-        (slots-alike s (frame .rules) (slotsAt p step) places (rw (← at-step .rules-are) (step-passes .rules)) (rw (at-step .rules-are) at located-here) cells (take base values₂) (take base marks₂) (rw (at-step .rules-are) at lines))
-
-    pub local-turn : {u c : ℕ} → LocalStops s cells base ls values₂ marks₂ u c → StopsAt s (direct s rs cells) rs out out u c
-    local-turn h = stops-the-same s _ (direct s rs cells) ls rs located-alike (local-stops s out ls base values₂ marks₂ h)
+    pub local-turn : {u c : ℕ} → LocalStops s cells ls u c → StopsAt s (direct s rs cells) rs out out u c
+    unfolding direct
+    local-turn h = local-stops s out rs (rw rules-taken at h)
 
     -- its rules are done, local and remote
-    module _ {values₃ values₄ : List ℤ} {marks₃ marks₄ : List ℕ} {sent : ℕ} (local : Same base values₂ marks₂ values₃ marks₃ × LocalDone s cells base ls (s .records) values₂ marks₂ values₃ marks₃)
+    module _ {values₃ values₄ : List ℤ} {marks₃ marks₄ : List ℕ} {sent : ℕ}
+        (local : Same base values₂ marks₂ values₃ marks₃ × LocalDone s cells base ls (s .records) values₂ marks₂ values₃ marks₃)
         (delivered : Delivered s cells base ls values₃ marks₃ values₄ marks₄ sent) where
-      all : AllDone s cells base ls values₂ marks₂ values₄ marks₄ sent
-      all = all-done s cells ls (t .register .valid .count) step-working (local .0) (local .1) delivered
+      -- the cells behind the step
+      abbrev after : List Cell
+      after = stepCells s (direct s rs cells) rs cells
+
+      all : AllDone s cells base rs values₄ marks₄ sent
+      all = all-done s cells rs (t .register .valid .count) step-working (rw rules-taken at (local .1)) (rw rules-taken at delivered)
+
+      after-count : length after ≡ cellCount s
+      after-count = stepCells-length s (direct s rs cells) rs cells ∙ t .register .valid .count
+
+      after-held : Holds base after values₄ marks₄
+      unfolding direct
+      after-held = all .holds
 
       pub turn-same : Same base values₂ marks₂ values₄ marks₄
       turn-same = same-then (local .0) (delivered .same)
 
       -- no other column than those of the step's fields has changed
       untouched : (u c : ℕ) → u < s .records → c < width s → isWritten s (frame .fields) c ≡ false
-          → getD (stepCells s (reads s cells base values₂ marks₂) ls cells) (cellIndex s u c) Missing ≡ getD cells (cellIndex s u c) Missing
+          → getD after (cellIndex s u c) Missing ≡ getD cells (cellIndex s u c) Missing
       untouched u c row col w =
-          ap (λ (l : List Cell). getD l (cellIndex s u c) Missing) (stepCells-alike s _ (direct s rs cells) ls rs located-alike cells)
-          ∙ step-untouched s (t .register .valid .limits) (direct s rs cells) rs cells (step-passes .rules .each) u c col (sym (at-step .frame .fields-are _) ∙ w)
+          step-untouched s (t .register .valid .limits) (direct s rs cells) rs cells (step-passes .rules .each) u c col (sym (at-step .frame .fields-are _) ∙ w)
 
-      pub turn-through : {out′ : List ℕ} → AllCommitted s base (frame .fields) values₄ marks₄ out out′ → GoesThrough s (direct s rs cells) rs out out′ base values₄ marks₄ sent
+      pub turn-through : {out′ : List ℕ} → AllCommitted s base (frame .fields) values₄ marks₄ out out′
+          → GoesThrough s (direct s rs cells) rs out out′ base values₄ marks₄ sent
+      unfolding direct
       turn-through {out′} c =
-          through-alike s _ (direct s rs cells) ls rs located-alike (goes-through s out out′ ls base values₂ values₄ marks₂ marks₄ sent (t .register) all untouched c)
+          goes-through s out rs out′ all (committed-in-range s after after-count base after-held (t .register) untouched c)
+          (committed-file s after after-count base after-held (t .register) untouched c)
 
       pub turn-stops : {out′ : List ℕ} {u c : ℕ} → CommitStops s base values₄ marks₄ out out′ u c → StopsAt s (direct s rs cells) rs out out′ u c
-      turn-stops {out′} c =
-          stops-the-same s _ (direct s rs cells) ls rs located-alike (commit-stops s out out′ ls base values₂ values₄ marks₂ marks₄ sent (t .register) all c)
+      unfolding direct
+      turn-stops {out′} c = total-stops s out rs out′ (c .row) (c .col) (stop-out-of-range s after after-count base after-held c) (c .length-is)
 
       -- the column of the loop stands behind the lines and below the working cells
       pub column-kept : (u : ℕ) → u < s .records → Kept (at + u) values₁ marks₁ values₄ marks₄

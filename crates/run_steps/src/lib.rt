@@ -15,9 +15,8 @@ use program::Program;
 use register::Sizes;
 use run_loop;
 use step_cells;
+use step_cells::stop::Stop;
 use step_commit;
-use step_commit::Stop;
-use step_locate;
 use step_rules::local;
 use step_rules::remote;
 
@@ -60,7 +59,7 @@ fn out_of_range(finished: u16, counts: Counts, row: usize, column: usize) -> Run
 }
 
 // The steps, over working cells that hold the register's. The function holds the program's arrays and takes a step's rules out
-// without a call, their chains located in the step's plan.
+// without a call.
 fn run_steps(
     out: &mut [u8],
     values: &mut [i64],
@@ -91,8 +90,7 @@ fn run_steps(
         let setting = frame.setting;
         let used = frame.rules;
         for k in 0..used {
-            let slot = slots[32 * step + k];
-            rules[k] = step_locate::locate(&frame.plan.keys, frame.plan.count, slot);
+            rules[k] = slots[32 * step + k];
         }
         first = run_loop::enter(out, values, marks, sizes, at, setting, step, first);
         let gathered = gather::gather(
@@ -105,6 +103,7 @@ fn run_steps(
             &frame.plan.rounds,
             &frame.plan.backs,
             &frame.plan.reads,
+            &frame.wanted,
             frame.plan.count,
         );
         let mut stop = Stop::Nowhere;

@@ -1,2 +1,2 @@
--- Cells in the places of the scratch buffers.
+-- Readings and cells in the places of the scratch buffers.
 pub mod Places

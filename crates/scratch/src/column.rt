@@ -5,7 +5,7 @@ ghost use Prim.Native.Nat.{_+_, _≤_};
 ghost use lib.ListN.{length};
 ghost use Rattle.register.specs.Cells.{cellsOf};
 ghost use Rattle.register.specs.Shape.{Parts};
-ghost use Rattle.chain.specs.Word.{hasField, cell};
+ghost use Rattle.chain.specs.Word.{hasField, readCell};
 ghost use Rattle.scratch.specs.Places.{StoredFrom};
 use chain::follow;
 use register::Sizes;
@@ -21,7 +21,8 @@ pub fn copy_column(
     field: usize,
 )
     requires { ⌜ Parts sizes (now cells) (now filled) × (hasField sizes field ≡ true) × (at + sizes .records ≤ length (now values)) × (at + sizes .records ≤ length (now marks)) ⌝ }
-    ensures { λ _. ⌜ StoredFrom at (sizes .records) (λ u. cell sizes (cellsOf (now (cells .entry)) (now (filled .entry))) u field) (now (values .entry)) (now (marks .entry)) (now (values .exit)) (now (marks .exit)) ⌝ }
+    ensures { λ _. ⌜ StoredFrom at (sizes .records) (λ u. readCell sizes (cellsOf (now (cells .entry)) (now (filled .entry))) u field)
+        (now (values .entry)) (now (marks .entry)) (now (values .exit)) (now (marks .exit)) ⌝ }
 {
     let column = follow::column(sizes, field);
     for u in 0..sizes.records {

@@ -9,17 +9,20 @@ ghost use mir.Syntax.{w32};
 ghost use mir.Val.{SFits};
 ghost use Rattle.integers.specs.Bytes.{valueAt};
 ghost use Rattle.register.specs.Cells.{valueOf, markOf};
-ghost use Rattle.scratch.specs.Places.{placeAt};
+ghost use Rattle.chain.specs.Word.{readingValue};
+ghost use Rattle.scratch.specs.Places.{placeAt, readingMark};
+use chain::reading::Reading;
 use register::cells::Cell;
 
-pub fn cell_at(values: &[i64], marks: &[u8], j: usize) -> Cell
+// What is read at place j.
+pub fn read_at(values: &[i64], marks: &[u8], j: usize) -> Reading
     requires { ⌜ (j < length (now values)) × (j < length (now marks)) × SFits w32 (getD (now values) j (pos 0)) ⌝ }
     ensures { λ r. ⌜ r ≡ placeAt (now (values .entry)) (now (marks .entry)) j ⌝ }
 {
     if marks[j] == 0 {
-        return Cell::Missing;
+        return Reading::Missing;
     }
-    Cell::Value(integers::narrow(values[j]))
+    Reading::Value(integers::narrow(values[j]))
 }
 
 // Stores a value and a mark at place j.
@@ -60,5 +63,16 @@ pub fn put_cell(values: &mut [i64], marks: &mut [u8], j: usize, cell: Cell)
     match cell {
         Cell::Missing => put(values, marks, j, 0, 0),
         Cell::Value(value) => put(values, marks, j, integers::widen(value), 1),
+    }
+}
+
+// A missing reading has value 0 and mark 0.
+pub fn put_reading(values: &mut [i64], marks: &mut [u8], j: usize, reading: Reading)
+    requires { ⌜ (j < length (now values)) × (j < length (now marks)) ⌝ }
+    ensures { λ _. ⌜ (now (values .exit) ≡ set (now (values .entry)) j (readingValue reading)) × (now (marks .exit) ≡ set (now (marks .entry)) j (readingMark reading)) × SFits w32 (readingValue reading) ⌝ }
+{
+    match reading {
+        Reading::Missing => put(values, marks, j, 0, 0),
+        Reading::Value(value) => put(values, marks, j, integers::widen(value), 1),
     }
 }

@@ -17,43 +17,43 @@ use Rattle.register.specs.Cells.{valueOf, cellOf}
 use Rattle.register.specs.declared.cells.Cell.{Cell}
 use Rattle.register.specs.declared.cells.Cell.the-variants.{Missing, Value}
 use Rattle.machine.specs.Remote.{smaller, increased, merged}
-use Rattle.machine.specs.declared.message.Sort.{Sort}
-use Rattle.machine.specs.declared.message.Sort.the-variants.{Least, Total}
+use Rattle.program.specs.declared.rule.Sort.{Sort}
+use Rattle.program.specs.declared.rule.Sort.the-variants.{Least, Total}
 use Rattle.laws.proofs.Bools.{cond-both}
-use Rattle.scratch.specs.Places.{placeAt}
-use Rattle.scratch.proofs.Placed.{placeAt-missing, placeAt-value}
+use Rattle.scratch.specs.Places.{storedAt}
+use Rattle.scratch.proofs.Placed.{storedAt-missing, storedAt-value}
 use Rattle.step_cells.specs.Work.{Put}
 use Rattle.step_cells.proofs.Working.{put-kept}
 
 module _ (values : List ℤ) (marks : List ℕ) (j : ℕ) (a : ℤ) where
   -- a missing cell
   module _ (none : getD marks j 0 ≡ 0) where
-    pub least-missing : merged Least (placeAt values marks j) a ≡ Value a
+    pub least-missing : merged Least (storedAt values marks j) a ≡ Value a
     unfolding merged smaller
-    least-missing = rw (← placeAt-missing values marks j none)
+    least-missing = rw (← storedAt-missing values marks j none)
 
-    pub total-missing : Put j (merged Total (placeAt values marks j) a) values marks values marks
+    pub total-missing : Put j (merged Total (storedAt values marks j) a) values marks values marks
     unfolding merged increased
-    total-missing = put-kept (rw (← placeAt-missing values marks j none))
+    total-missing = put-kept (rw (← storedAt-missing values marks j none))
 
   -- a cell that has a value
   module _ (some : getD marks j 0 ≢ 0) where
-    pub least-smaller : ltZ a (getD values j (pos 0)) ≡ true → merged Least (placeAt values marks j) a ≡ Value a
+    pub least-smaller : ltZ a (getD values j (pos 0)) ≡ true → merged Least (storedAt values marks j) a ≡ Value a
     unfolding merged smaller
-    least-smaller h = rw (← placeAt-value values marks j some) (simp h)
+    least-smaller h = rw (← storedAt-value values marks j some) (simp h)
 
-    pub least-kept : ltZ a (getD values j (pos 0)) ≡ false → Put j (merged Least (placeAt values marks j) a) values marks values marks
+    pub least-kept : ltZ a (getD values j (pos 0)) ≡ false → Put j (merged Least (storedAt values marks j) a) values marks values marks
     unfolding merged smaller
-    least-kept h = put-kept (rw (← placeAt-value values marks j some) (simp h))
+    least-kept h = put-kept (rw (← storedAt-value values marks j some) (simp h))
 
-    pub total-added : (z : ℤ) → z ≡ getD values j (pos 0) +ℤ a → Put j (merged Total (placeAt values marks j) a) values marks (set values j z) marks
+    pub total-added : (z : ℤ) → z ≡ getD values j (pos 0) +ℤ a → Put j (merged Total (storedAt values marks j) a) values marks (set values j z) marks
     unfolding merged increased cellOf
     total-added z e = record {
       value = getD values j (pos 0) +ℤ a;
       mark = getD marks j 0;
       values-are = rw e;
       marks-are = sym (set-getD marks j 0);
-      cell-is = rw (← placeAt-value values marks j some) (simp (ne-eqb _ _ some));
+      cell-is = rw (← storedAt-value values marks j some) (simp (ne-eqb _ _ some));
     }
 
 -- a value grows by one amount at most

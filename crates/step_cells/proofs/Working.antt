@@ -16,15 +16,15 @@ use Rattle.register.specs.Cells.{valueOf, markOf, cellOf, cellAt}
 use Rattle.register.specs.declared.cells.Cell.{Cell}
 use Rattle.register.specs.declared.cells.Cell.the-variants.{Missing}
 use Rattle.register.proofs.Arrays.{cellOf-kept}
-use Rattle.scratch.specs.Places.{placeAt}
+use Rattle.scratch.specs.Places.{storedAt}
 use Rattle.step_cells.specs.Work.{Room, Holds, Same, Put, Small}
 
 -- nothing is stored
 pub same-refl : {base : ℕ} {values : List ℤ} {marks : List ℕ} → Same base values marks values marks
 same-refl = record { values-length = refl; marks-length = refl; values-same = refl; marks-same = refl }
 
-pub same-then : {base : ℕ} {values values′ values″ : List ℤ} {marks marks′ marks″ : List ℕ} → Same base values marks values′ marks′ → Same base values′ marks′ values″ marks″
-    → Same base values marks values″ marks″
+pub same-then : {base : ℕ} {values values′ values″ : List ℤ} {marks marks′ marks″ : List ℕ}
+    → Same base values marks values′ marks′ → Same base values′ marks′ values″ marks″ → Same base values marks values″ marks″
 same-then a b = record {
   values-length = b .values-length ∙ a .values-length;
   marks-length = b .marks-length ∙ a .marks-length;
@@ -32,7 +32,8 @@ same-then a b = record {
   marks-same = b .marks-same ∙ a .marks-same;
 }
 
-pub room-same : {base k : ℕ} {values values′ : List ℤ} {marks marks′ : List ℕ} → Same base values marks values′ marks′ → Room base k values marks → Room base k values′ marks′
+pub room-same : {base k : ℕ} {values values′ : List ℤ} {marks marks′ : List ℕ} → Same base values marks values′ marks′
+    → Room base k values marks → Room base k values′ marks′
 room-same a r = record {
   base≤ = r .base≤;
   values-room = rw (a .values-length) (r .values-room);
@@ -40,8 +41,8 @@ room-same a r = record {
 }
 
 -- the cell writer stores a cell
-abbrev pub put-stored : {j : ℕ} {c : Cell} {values values′ : List ℤ} {marks marks′ : List ℕ} → values′ ≡ set values j (valueOf c) → marks′ ≡ set marks j (markOf c)
-    → Put j c values marks values′ marks′
+abbrev pub put-stored : {j : ℕ} {c : Cell} {values values′ : List ℤ} {marks marks′ : List ℕ}
+    → values′ ≡ set values j (valueOf c) → marks′ ≡ set marks j (markOf c) → Put j c values marks values′ marks′
 put-stored {c} v m = record {
   value = valueOf c;
   mark = markOf c;
@@ -51,8 +52,8 @@ put-stored {c} v m = record {
 }
 
 -- a cell of the register is copied
-pub put-copied : (cells filled : List ℕ) (k : ℕ) {j : ℕ} {values values′ : List ℤ} {marks marks′ : List ℕ} → values′ ≡ set values j (valueAt cells (4 * k)) → marks′ ≡ set marks j (getD filled k 0)
-    → Put j (cellAt cells filled k) values marks values′ marks′
+pub put-copied : (cells filled : List ℕ) (k : ℕ) {j : ℕ} {values values′ : List ℤ} {marks marks′ : List ℕ}
+    → values′ ≡ set values j (valueAt cells (4 * k)) → marks′ ≡ set marks j (getD filled k 0) → Put j (cellAt cells filled k) values marks values′ marks′
 unfolding cellAt
 put-copied cells filled k v m = record {
   value = valueAt cells (4 * k);
@@ -63,8 +64,8 @@ put-copied cells filled k v m = record {
 }
 
 -- a place keeps its cell
-pub put-kept : {j : ℕ} {c : Cell} {values : List ℤ} {marks : List ℕ} → placeAt values marks j ≡ c → Put j c values marks values marks
-unfolding placeAt
+pub put-kept : {j : ℕ} {c : Cell} {values : List ℤ} {marks : List ℕ} → storedAt values marks j ≡ c → Put j c values marks values marks
+unfolding storedAt
 put-kept {j} {values} {marks} e = record {
   value = getD values j (pos 0);
   mark = getD marks j 0;
@@ -84,16 +85,16 @@ module _ (base j : ℕ) {c : Cell} {values values′ : List ℤ} {marks marks′
   }
 
   -- the place itself, and any other
-  pub put-there : base + j < length values → base + j < length marks → placeAt values′ marks′ (base + j) ≡ c
-  unfolding placeAt
+  pub put-there : base + j < length values → base + j < length marks → storedAt values′ marks′ (base + j) ≡ c
+  unfolding storedAt
   put-there hv hm =
       ap₂ cellOf
       (ap (λ (l : List ℤ). getD l (base + j) (pos 0)) (p .values-are) ∙ getD-set-same values (base + j) (p .value) (pos 0) hv)
       (ap (λ (l : List ℕ). getD l (base + j) 0) (p .marks-are) ∙ getD-set-same marks (base + j) (p .mark) 0 hm)
       ∙ p .cell-is
 
-  pub put-other : (i : ℕ) → i ≢ base + j → placeAt values′ marks′ i ≡ placeAt values marks i
-  unfolding placeAt
+  pub put-other : (i : ℕ) → i ≢ base + j → storedAt values′ marks′ i ≡ storedAt values marks i
+  unfolding storedAt
   put-other i h =
       ap₂ cellOf
       (ap (λ (l : List ℤ). getD l i (pos 0)) (p .values-are) ∙ getD-set-other values (base + j) i (p .value) (pos 0) h)
@@ -103,9 +104,9 @@ module _ (base j : ℕ) {c : Cell} {values values′ : List ℤ} {marks marks′
   pub holds-put : {k : ℕ} {d : List Cell} → Room base k values marks → j < k → length d ≡ k → Holds base d values marks → Holds base (set d j c) values′ marks′
   holds-put {k} {d} r h l e = record { place-is = λ i i<. at i (ℕ-discrete i j) (rw (length-set d j c) at i<) }
     where
-      at : (i : ℕ) → Dec (i ≡ j) → i < length d → placeAt values′ marks′ (base + i) ≡ getD (set d j c) i Missing
+      at : (i : ℕ) → Dec (i ≡ j) → i < length d → storedAt values′ marks′ (base + i) ≡ getD (set d j c) i Missing
       at i (yes q) i< =
-          ap (λ (n : ℕ). placeAt values′ marks′ (base + n)) q
+          ap (λ (n : ℕ). storedAt values′ marks′ (base + n)) q
           ∙ put-there (omega (arith, r .values-room)) (omega (arith, r .marks-room))
           ∙ sym (getD-set-same d j c Missing (omega arith))
           ∙ ap (λ (n : ℕ). getD (set d j c) n Missing) (sym q)
@@ -118,11 +119,11 @@ module _ (base j : ℕ) {c : Cell} {values values′ : List ℤ} {marks marks′
   pub small-put : {b b′ k : ℕ} → Room base k values marks → j < k → mag (valueOf c) < b′ → b ≤ b′ → Small b base k values marks → Small b′ base k values′ marks′
   small-put {b} {b′} {k} r h v l e = record { below = λ i i<. at i (ℕ-discrete i j) i< }
     where
-      at : (i : ℕ) → Dec (i ≡ j) → i < k → mag (valueOf (placeAt values′ marks′ (base + i))) < b′
+      at : (i : ℕ) → Dec (i ≡ j) → i < k → mag (valueOf (storedAt values′ marks′ (base + i))) < b′
       at i (yes q) i< = rw (q, put-there (omega (arith, r .values-room)) (omega (arith, r .marks-room))) v
       at i (no q) i< = rw (put-other (base + i) (λ e. q (omega arith))) (omega (arith, e .below i i<))
 
 -- cells of 32 bits
-pub small-held : {base k : ℕ} {d : List Cell} {values : List ℤ} {marks : List ℕ} → length d ≡ k → ((j : ℕ) → SFits w32 (valueOf (getD d j Missing))) → Holds base d values marks
-    → Small 2147483648 base k values marks
+pub small-held : {base k : ℕ} {d : List Cell} {values : List ℤ} {marks : List ℕ} → length d ≡ k
+    → ((j : ℕ) → SFits w32 (valueOf (getD d j Missing))) → Holds base d values marks → Small 2147483648 base k values marks
 small-held l fits h = record { below = λ j j<. rw (h .place-is j (omega arith)) (fits j .sfits) }

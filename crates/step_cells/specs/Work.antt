@@ -8,7 +8,7 @@ use lib.Signed.{mag}
 use Rattle.register.specs.Cells.{valueOf, cellOf}
 use Rattle.register.specs.declared.cells.Cell.{Cell}
 use Rattle.register.specs.declared.cells.Cell.the-variants.{Missing}
-use Rattle.scratch.specs.Places.{placeAt}
+use Rattle.scratch.specs.Places.{storedAt}
 
 -- the buffers have room for k cells from `base` on; before them stand at most 64 lines of 4,096 places and a column
 pub record Room (base k : ℕ) (values : List ℤ) (marks : List ℕ) : Type 0 where
@@ -18,7 +18,7 @@ pub record Room (base k : ℕ) (values : List ℤ) (marks : List ℕ) : Type 0 w
 
 -- the buffers hold these cells from `base` on
 pub record Holds (base : ℕ) (cells : List Cell) (values : List ℤ) (marks : List ℕ) : Type 0 where
-  pub place-is : (j : ℕ) → j < length cells → placeAt values marks (base + j) ≡ getD cells j Missing
+  pub place-is : (j : ℕ) → j < length cells → storedAt values marks (base + j) ≡ getD cells j Missing
 
 -- the buffers keep their lengths and what stands below `base`
 pub record Same (base : ℕ) (values : List ℤ) (marks : List ℕ) (values′ : List ℤ) (marks′ : List ℕ) : Type 0 where
@@ -37,4 +37,4 @@ pub record Put (j : ℕ) (c : Cell) (values : List ℤ) (marks : List ℕ) (valu
 
 -- the values of the k working cells are below b; a missing cell counts as 0
 pub record Small (b base k : ℕ) (values : List ℤ) (marks : List ℕ) : Type 0 where
-  pub below : (j : ℕ) → j < k → mag (valueOf (placeAt values marks (base + j))) < b
+  pub below : (j : ℕ) → j < k → mag (valueOf (storedAt values marks (base + j))) < b

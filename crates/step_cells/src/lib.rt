@@ -1,4 +1,6 @@
 // The working cells: a part of the scratch buffers from place `base` on, behind the places of the plan's lines.
+pub mod stop;
+
 ghost use Prim.Native.Nat.{_+_, _*_, _≤_, _<_};
 ghost use mathlib.Core.Path.{_≡_};
 ghost use mathlib.Core.Bool.{true};
@@ -8,12 +10,12 @@ ghost use Rattle.register.specs.Cells.{valueOf};
 ghost use Rattle.register.specs.File.{cellCount, cellIndex, cellsOfFile};
 ghost use Rattle.register.specs.Shape.{Limits};
 ghost use Rattle.chain.specs.Word.{hasField, column as columnOf};
-ghost use Rattle.scratch.specs.Places.{placeAt};
+ghost use Rattle.scratch.specs.Places.{storedAt};
 ghost use Rattle.machine.specs.Remote.{merged};
-ghost use Rattle.machine.specs.declared.message.Sort.the-variants.{Least, Total};
+ghost use Rattle.program.specs.declared.rule.Sort.the-variants.{Least, Total};
 ghost use Rattle.step_cells.specs.Work.{Room, Holds, Put, Same};
 use chain::follow;
-use machine::message::Sort;
+use program::rule::Sort;
 use register::Sizes;
 use register::cells;
 use register::cells::Cell;
@@ -22,7 +24,8 @@ use scratch;
 // They begin as the cells of the register in `out`.
 pub fn begin(out: &[u8], values: &mut [i64], marks: &mut [u8], sizes: Sizes, base: usize)
     requires { ⌜ Limits sizes × (length (now out) ≡ 12 + 5 * cellCount sizes) × Room base (cellCount sizes) (now values) (now marks) ⌝ }
-    ensures { λ _. ⌜ Holds base (cellsOfFile sizes (now (out .entry))) (now (values .exit)) (now (marks .exit)) × Same base (now (values .entry)) (now (marks .entry)) (now (values .exit)) (now (marks .exit)) ⌝ }
+    ensures { λ _. ⌜ Holds base (cellsOfFile sizes (now (out .entry))) (now (values .exit)) (now (marks .exit)) ⌝ }
+    ensures { λ _. ⌜ Same base (now (values .entry)) (now (marks .entry)) (now (values .exit)) (now (marks .exit)) ⌝ }
 {
     let cells = cells::values_part(out, sizes);
     let filled = cells::marks_part(out, sizes);
@@ -42,7 +45,7 @@ pub fn place(sizes: Sizes, base: usize, u: usize, field: u64) -> usize
 // `<?=` keeps the smaller, and fills a missing cell.
 fn keep_least(values: &mut [i64], marks: &mut [u8], j: usize, amount: i32)
     requires { ⌜ (j < length (now values)) × (j < length (now marks)) ⌝ }
-    ensures { λ _. ⌜ Put j (merged Least (placeAt (now (values .entry)) (now (marks .entry)) j) amount) (now (values .entry)) (now (marks .entry)) (now (values .exit)) (now (marks .exit)) ⌝ }
+    ensures { λ _. ⌜ Put j (merged Least (storedAt (now (values .entry)) (now (marks .entry)) j) amount) (now (values .entry)) (now (marks .entry)) (now (values .exit)) (now (marks .exit)) ⌝ }
 {
     if marks[j] != 0 {
         if !integers::is_below(amount, values[j]) {
@@ -54,8 +57,8 @@ fn keep_least(values: &mut [i64], marks: &mut [u8], j: usize, amount: i32)
 
 // `+=` adds to a cell that has a value; a missing cell stays missing.
 fn add_total(values: &mut [i64], marks: &mut [u8], j: usize, amount: i32)
-    requires { ⌜ (j < length (now values)) × (j < length (now marks)) × (mag (valueOf (placeAt (now values) (now marks) j)) < 4611686018427387904) ⌝ }
-    ensures { λ _. ⌜ Put j (merged Total (placeAt (now (values .entry)) (now (marks .entry)) j) amount) (now (values .entry)) (now (marks .entry)) (now (values .exit)) (now (marks .exit)) ⌝ }
+    requires { ⌜ (j < length (now values)) × (j < length (now marks)) × (mag (valueOf (storedAt (now values) (now marks) j)) < 4611686018427387904) ⌝ }
+    ensures { λ _. ⌜ Put j (merged Total (storedAt (now (values .entry)) (now (marks .entry)) j) amount) (now (values .entry)) (now (marks .entry)) (now (values .exit)) (now (marks .exit)) ⌝ }
 {
     if marks[j] == 0 {
         return;
@@ -65,8 +68,8 @@ fn add_total(values: &mut [i64], marks: &mut [u8], j: usize, amount: i32)
 
 // One remote write.
 pub fn deliver(values: &mut [i64], marks: &mut [u8], j: usize, sort: Sort, amount: i32)
-    requires { ⌜ (j < length (now values)) × (j < length (now marks)) × (mag (valueOf (placeAt (now values) (now marks) j)) < 4611686018427387904) ⌝ }
-    ensures { λ _. ⌜ Put j (merged sort (placeAt (now (values .entry)) (now (marks .entry)) j) amount) (now (values .entry)) (now (marks .entry)) (now (values .exit)) (now (marks .exit)) ⌝ }
+    requires { ⌜ (j < length (now values)) × (j < length (now marks)) × (mag (valueOf (storedAt (now values) (now marks) j)) < 4611686018427387904) ⌝ }
+    ensures { λ _. ⌜ Put j (merged sort (storedAt (now (values .entry)) (now (marks .entry)) j) amount) (now (values .entry)) (now (marks .entry)) (now (values .exit)) (now (marks .exit)) ⌝ }
 {
     match sort {
         Sort::Least => keep_least(values, marks, j, amount),

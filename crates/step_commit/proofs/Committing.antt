@@ -15,16 +15,18 @@ use Rattle.integers.specs.Range.{inRange, sumOf}
 use Rattle.integers.specs.declared.Sum.{Sum}
 use Rattle.integers.specs.declared.Sum.the-variants.{InRange, OutOfRange}
 use Rattle.laws.proofs.Bools.{true-false}
-use Rattle.register.specs.File.{width, cellCount, cellIndex, fileOf, putCell}
+use Rattle.register.specs.File.{width, cellCount, cellIndex, fileOf, cellsOfFile, putCell}
+use Rattle.register.specs.Shape.{Register}
 use Rattle.register.specs.declared.Sizes.{Sizes}
 use Rattle.register.specs.declared.cells.Cell.{Cell}
 use Rattle.register.specs.declared.cells.Cell.the-variants.{Missing}
 use Rattle.register.proofs.Arrays.{putCell-file}
 use Rattle.register.proofs.Bounds.{cellIndex-below, place-row, place-column, place-is}
-use Rattle.laws.proofs.Cases.{lt-or-le}
+use Rattle.laws.proofs.Cases.{true-or-false, lt-or-le}
 use Rattle.step_cells.specs.Work.{Holds}
 use Rattle.machine.specs.Value.{cellInRange}
-use Rattle.step_commit.specs.Committed.{OneCommitted, working, putColumn, isWritten, putColumns, OneColumn, AllCommitted}
+use Rattle.machine.proofs.Keeping.{fits-in-range}
+use Rattle.step_commit.specs.Committed.{OneCommitted, working, putColumn, isWritten, putColumns, OneColumn, AllCommitted, CommitStops}
 
 -- what the answer for a total tells
 abbrev Told : ℤ → Sum → Type 0
@@ -157,12 +159,14 @@ module _ (s : Sizes) (d : List Cell) where
     agrees-columns {file} fields (suc k) l a = go (agrees-columns fields k (omega arith) a) (isWritten s fields k) refl
       where
         go : Agrees (λ u c. (isWritten s fields c ≡ false) ⊎ (c < k)) (putColumns s w fields k file) → (t : Bool) → isWritten s fields k ≡ t
-            → Agrees (λ u c. (isWritten s fields c ≡ false) ⊎ (c < suc k)) (cond t (putColumn s w k (s .records) (putColumns s w fields k file)) (putColumns s w fields k file))
+            → Agrees (λ u c. (isWritten s fields c ≡ false) ⊎ (c < suc k))
+            (cond t (putColumn s w k (s .records) (putColumns s w fields k file)) (putColumns s w fields k file))
         go before true e =
             agrees-as (λ u c r b. ⊎-elim (λ p. inl (inl p)) (λ (i : c < suc k). ⊎-elim (λ h. inl (inr h)) (λ q. inr (q, r)) (below-or-last c k i)))
             (agrees-column k (omega arith) (s .records) (omega arith) before)
         go before false e =
-            agrees-as (λ u c r b. ⊎-elim (λ p. inl p) (λ (i : c < suc k). ⊎-elim (λ h. inr h) (λ q. inl (ap (isWritten s fields) q ∙ e)) (below-or-last c k i))) before
+            agrees-as (λ u c r b. ⊎-elim (λ p. inl p) (λ (i : c < suc k).
+            ⊎-elim (λ h. inr h) (λ q. inl (ap (isWritten s fields) q ∙ e)) (below-or-last c k i))) before
 
   -- then the file is that of d
   agrees-all : {file : List ℕ} → length d ≡ cellCount s → Agrees (λ u c. c < width s) file → file ≡ fileOf s d
@@ -172,10 +176,11 @@ module _ (s : Sizes) (d : List Cell) where
       (ext-getD Missing (a .cells) d (a .count ∙ sym l)
       (λ j b.
       let h : j < cellCount s = omega (arith, a .count) in
-      subst (λ (i : ℕ). getD (a .cells) i Missing ≡ getD d i Missing) (place-is s j h) (a .agree (j / width s) (j % width s) (place-row s j h) (place-column s j h) (place-column s j h))))
+      subst (λ (i : ℕ). getD (a .cells) i Missing ≡ getD d i Missing) (place-is s j h)
+      (a .agree (j / width s) (j % width s) (place-row s j h) (place-column s j h) (place-column s j h))))
 
 -- the working cells d in the columns that are written, and in the others the cells that d has there too
-pub columns-file : (s : Sizes) (fields : List Bool) (base : ℕ) (values : List ℤ) (marks file : List ℕ) (cells d : List Cell)
+columns-file : (s : Sizes) (fields : List Bool) (base : ℕ) (values : List ℤ) (marks file : List ℕ) (cells d : List Cell)
     → length cells ≡ cellCount s → length d ≡ cellCount s → file ≡ fileOf s cells → Holds base d values marks
     → ((u c : ℕ) → u < s .records → c < width s → isWritten s fields c ≡ false → getD cells (cellIndex s u c) Missing ≡ getD d (cellIndex s u c) Missing)
     → putColumns s (working base values marks) fields (width s) file ≡ fileOf s d
@@ -184,3 +189,33 @@ columns-file s fields base values marks file cells d k l e h same =
     (agrees-as s d (λ u c r b i. inr i)
     (agrees-columns s d (working base values marks) (λ j b. h .place-is j (omega (arith, l))) fields (width s) (omega arith)
     (record { cells = cells; count = k; agree = same; file-is = e })))
+
+-- the working cells hold the cells d of a register
+module _ (s : Sizes) (d : List Cell) (count : length d ≡ cellCount s) (base : ℕ) {values : List ℤ} {marks : List ℕ} (held : Holds base d values marks) where
+  working-is : (u c : ℕ) → u < s .records → c < width s → working base values marks (cellIndex s u c) ≡ getD d (cellIndex s u c) Missing
+  working-is u c row col = held .place-is (cellIndex s u c) (omega (arith, cellIndex-below s u c row col))
+
+  -- they are not committed: one of d is out of range
+  pub stop-out-of-range : {file file′ : List ℕ} {u c : ℕ} → CommitStops s base values marks file file′ u c
+      → cellInRange (getD d (cellIndex s u c) Missing) ≡ false
+  stop-out-of-range {u = u} {c} t = ap cellInRange (sym (working-is u c (t .row) (t .col))) ∙ t .out-of-range
+
+  -- they are committed in the columns that are written, and in the others d has the cells that the file had
+  module _ {fields : List Bool} {file file′ : List ℕ} (register : Register s file)
+      (untouched : (u c : ℕ) → u < s .records → c < width s → isWritten s fields c ≡ false
+      → getD d (cellIndex s u c) Missing ≡ getD (cellsOfFile s file) (cellIndex s u c) Missing)
+      (t : AllCommitted s base fields values marks file file′) where
+    -- then all of d are in range
+    pub committed-in-range : (u c : ℕ) → u < s .records → c < width s → cellInRange (getD d (cellIndex s u c) Missing) ≡ true
+    committed-in-range u c row col =
+        ⊎-elim
+        (λ (w : isWritten s fields c ≡ true). ap cellInRange (sym (working-is u c row col)) ∙ t .in-range u c row col w)
+        (λ (w : isWritten s fields c ≡ false). ap cellInRange (untouched u c row col w) ∙ fits-in-range _ (register .valid .values (cellIndex s u c)))
+        (true-or-false (isWritten s fields c))
+
+    -- and the file is that of d
+    pub committed-file : file′ ≡ fileOf s d
+    committed-file =
+        t .file-is
+        ∙ columns-file s fields base values marks file (cellsOfFile s file) d (register .valid .count) count (register .file-is) held
+        (λ u c row col w. sym (untouched u c row col w))

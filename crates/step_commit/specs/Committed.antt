@@ -10,13 +10,13 @@ use Rattle.register.specs.declared.Sizes.{Sizes}
 use Rattle.register.specs.declared.cells.Cell.{Cell}
 use Rattle.chain.specs.Word.{fieldAt}
 use Rattle.machine.specs.Value.{cellInRange}
-use Rattle.scratch.specs.Places.{placeAt}
-use Rattle.step_commit.specs.declared.Stop.{Stop}
-use Rattle.step_commit.specs.declared.Stop.the-variants.{Nowhere, At}
+use Rattle.scratch.specs.Places.{storedAt}
+use Rattle.step_cells.specs.declared.stop.Stop.{Stop}
+use Rattle.step_cells.specs.declared.stop.Stop.the-variants.{Nowhere, At}
 
 -- the working cell of place j
 abbrev pub working : ℕ → List ℤ → List ℕ → ℕ → Cell
-working base values marks j = placeAt values marks (base + j)
+working base values marks j = storedAt values marks (base + j)
 
 -- cell j, or that it is out of range
 abbrev pub OneCommitted : Sizes → ℕ → ℕ → List ℤ → List ℕ → List ℕ → List ℕ → Bool → Type 0

@@ -11,12 +11,7 @@ use integers::Sum;
 use register::Sizes;
 use register::cells;
 use register::cells::Cell;
-
-// A step goes through, or stops at a record and column where a sum or total is out of range.
-pub enum Stop {
-    Nowhere,
-    At(usize, usize),
-}
+use step_cells::stop::Stop;
 
 // Cell j; whether it is in range.
 fn commit_cell(

@@ -1,106 +1,130 @@
 -- The answers of the code: a sum, and what a rule stores and sends.
 use Prim.Native.Nat.{ℕ, _<_}
-use mathlib.Core.Path.{_≡_, refl, sym, ap, _∙_}
+use mathlib.Core.Path.{_≡_, refl, sym, ap, ap₂, _∙_}
 use mathlib.Core.Bool.{Bool, true, false, cond, not, _&&_}
 use mathlib.Core.List.{List, []}
 use borrow.Author.Tests.{not-true, not-false}
 use lib.IntN.{ℤ}
 use lib.Signed.{mag}
 use mir.Syntax.{w32}
-use mir.Val.{toZ, ofZ}
+use mir.Val.{toZ, ofZ, SFits}
+use mir.Facts.{toZ-ofZ}
 use Rattle.integers.specs.Range.{inRange, sumOf}
 use Rattle.integers.specs.declared.Sum.{Sum}
 use Rattle.integers.specs.declared.Sum.the-variants.{InRange, OutOfRange}
 use Rattle.laws.proofs.Bools.{true-false, cond-both}
-use Rattle.register.specs.declared.cells.Cell.{Cell}
-use Rattle.register.specs.declared.cells.Cell.the-variants.{Missing, Value}
+use Rattle.chain.specs.declared.reading.Reading.{Reading}
+use Rattle.chain.specs.declared.reading.Reading.the-variants.{Missing, Value}
+use Rattle.program.specs.declared.term.Term.{Term}
+use Rattle.program.specs.declared.term.Term.the-variants.{Chain, Number}
+use Rattle.program.specs.declared.rule.Operator.{Operator}
 use Rattle.program.specs.declared.rule.Rule.{Rule}
+use Rattle.program.specs.declared.rule.Rule.the-variants.{Set, Combine, Remote}
 use Rattle.program.specs.declared.rule.Slot.{Slot}
-use Rattle.program.specs.Program as P
-use Rattle.program.specs.Program.{Action, isRemote, fieldOf}
-use Rattle.program.specs.Stored.{testOf, actionOf, ruleOf}
-use Rattle.machine.specs.Value.{holds, cellInRange}
-use Rattle.machine.specs.Local.{sumCell, formed, stored, offends}
-use Rattle.machine.specs.Remote.{actionMessages, ruleMessages}
+use Rattle.program.specs.Program.{operation, isRemote, fieldOf}
+use Rattle.program.specs.Stored.{termOf, testOf, targetOf, expressionOf, ruleOf}
+use Rattle.machine.specs.Value.{operate, combined, value, readingInRange, overflows, holds}
+use Rattle.machine.specs.Local.{storedCell, storedTo, stored, offends}
+use Rattle.machine.specs.Remote.{sentBy, ruleMessages}
 use Rattle.machine.proofs.Folding.{ruleMessages-local}
-use Rattle.step_effects.specs.Answers.{cellWrite, sumAnswer, sumWrite, writeStored, writeOf}
+use Rattle.step_effects.specs.Answers.{cellWrite, readingWrite, sumAnswer, sumWrite, writeStored, writeOf}
 use Rattle.step_effects.specs.declared.stored.Write.{Write}
 use Rattle.step_effects.specs.declared.stored.Write.the-variants as W
 use Rattle.step_terms.proofs.Sides.{both-first, both-second, both-values}
 
 -- the answer for a sum is that for a sum of any size
 pub sum-answer : (f : ℕ) (z : ℤ) → sumAnswer f (sumOf z) ≡ sumWrite f (Value z)
-unfolding sumOf sumAnswer sumWrite cellInRange cellWrite
+unfolding sumOf sumAnswer sumWrite readingInRange cellWrite storedCell
 sum-answer f z = go (inRange z)
   where
     go : (t : Bool) → sumAnswer f (cond t (InRange z) OutOfRange) ≡ cond t (W.Store f z) (W.OutOfRange f)
     go true = refl
     go false = refl
 
--- a sum of two cells, one of which may be missing
-module _ (op : ℤ → ℤ → ℤ) (f : ℕ) where
-  pub sum-first : {x : Cell} (y : Cell) → x ≡ Missing → W.Clear f ≡ sumWrite f (sumCell op x y)
-  unfolding sumCell sumWrite cellInRange cellWrite
-  sum-first y e = ap (sumWrite f) (both-first Missing (λ a b. Value (op a b)) y e)
+-- an operation on two values as the code holds them, for the operator that it matched
+pub operate-kept : {k l : Operator} {a b : ℤ} {s : Sum} → SFits w32 a → SFits w32 b → k ≡ l → s ≡ sumOf (operate l (toZ w32 (ofZ w32 a)) (toZ w32 (ofZ w32 b)))
+    → s ≡ sumOf (operate k a b)
+operate-kept {l} ha hb e q = q ∙ ap sumOf (ap₂ (operate l) (toZ-ofZ ha) (toZ-ofZ hb)) ∙ rw e
 
-  pub sum-second : (x : Cell) {y : Cell} → y ≡ Missing → W.Clear f ≡ sumWrite f (sumCell op x y)
-  unfolding sumCell sumWrite cellInRange cellWrite
-  sum-second x e = ap (sumWrite f) (both-second Missing (λ a b. Value (op a b)) x e)
+-- an operation on two readings, one of which may be missing
+module _ (op : Operator) (f : ℕ) where
+  pub sum-first : {x : Reading} (y : Reading) → x ≡ Missing → W.Clear f ≡ sumWrite f (combined op x y)
+  unfolding combined sumWrite readingInRange cellWrite storedCell
+  sum-first y e = ap (sumWrite f) (both-first Missing (λ a b. Value (operate op a b)) y e)
 
-  pub sum-written : {x y : Cell} {a b : ℤ} {s : Sum} → x ≡ Value a → y ≡ Value b → mag a < 2147483648 → mag b < 2147483648 → s ≡ sumOf (op (toZ w32 (ofZ w32 a)) (toZ w32 (ofZ w32 b)))
-      → sumAnswer f s ≡ sumWrite f (sumCell op x y)
-  unfolding sumCell
-  sum-written p q ha hb k = ap (sumAnswer f) k ∙ sum-answer f _ ∙ ap (sumWrite f) (both-values Missing (λ a b. Value (op a b)) p q ha hb)
+  pub sum-second : (x : Reading) {y : Reading} → y ≡ Missing → W.Clear f ≡ sumWrite f (combined op x y)
+  unfolding combined sumWrite readingInRange cellWrite storedCell
+  sum-second x e = ap (sumWrite f) (both-second Missing (λ a b. Value (operate op a b)) x e)
 
--- what a rule with this action stores where its test holds
-unfoldable pub done : (List ℕ → Cell) → Action → Write
-done read a = cond (cellInRange (formed read a)) (writeStored (stored read a)) (W.OutOfRange (fieldOf a))
+  pub sum-written : {x y : Reading} {a b : ℤ} {s : Sum} → x ≡ Value a → y ≡ Value b → mag a < 2147483648 → mag b < 2147483648
+      → s ≡ sumOf (operate op (toZ w32 (ofZ w32 a)) (toZ w32 (ofZ w32 b))) → sumAnswer f s ≡ sumWrite f (combined op x y)
+  unfolding combined
+  sum-written p q ha hb k = ap (sumAnswer f) k ∙ sum-answer f _ ∙ ap (sumWrite f) (both-values Missing (λ a b. Value (operate op a b)) p q ha hb)
 
--- what a rule stores, by its test
-write-is : (read : List ℕ → Cell) (r : P.Rule) → writeOf read r ≡ cond (holds read (r .test)) (done read (r .action)) W.Nothing
-unfolding writeOf offends done
-write-is read r = go (holds read (r .test)) (cellInRange (formed read (r .action))) _ _ _
-  where
-    go : (t i : Bool) (v w n : Write) → cond (t && not i) v (cond t w n) ≡ cond t (cond i w v) n
-    go true true v w n = refl
-    go true false v w n = refl
-    go false i v w n = refl
+-- what one record, which reads this, makes of a rule
+module _ (read : List ℕ → Reading) where
+  -- what a rule stores where its test holds
+  unfoldable pub done : Rule → Write
+  done r =
+      cond (overflows read (expressionOf r)) (W.OutOfRange (fieldOf (targetOf r)))
+      (writeStored (storedTo (targetOf r) (value read (expressionOf r))))
 
--- a remote write forms no sum and stores nothing
-remote-done : (read : List ℕ → Cell) (a : Action) → isRemote a ≡ true → done read a ≡ W.Nothing
-unfolding isRemote done formed stored writeStored cellInRange
-remote-done read (P.set f x) e = true-false e refl
-remote-done read (P.sum f x y) e = true-false e refl
-remote-done read (P.difference f x y) e = true-false e refl
-remote-done read (P.least f c x) e = refl
-remote-done read (P.total f c x) e = refl
+  -- a term forms no sum
+  term-formed : (x : Term) → overflows read (termOf x) ≡ false
+  unfolding overflows termOf
+  term-formed (Chain c) = refl
+  term-formed (Number z) = refl
 
--- a rule of the other sort
-module _ (read : List ℕ → Cell) (x : Slot) {t : Bool} (e : t ≡ isRemote (actionOf (x .rule))) where
-  pub write-remote : t ≡ true → W.Nothing ≡ writeOf read (ruleOf x)
-  unfolding ruleOf
-  write-remote h =
-      sym (write-is read (ruleOf x) ∙ cond-both (λ w. w ≡ W.Nothing) (holds read (testOf (x .test))) _ _ (remote-done read (actionOf (x .rule)) (sym e ∙ h)) refl)
+  pub set-done : (f : ℕ) (x : Term) → readingWrite f (value read (termOf x)) ≡ done (Set f x)
+  unfolding done expressionOf targetOf storedTo writeStored
+  set-done f x = simp (term-formed x)
 
-  pub send-local : not t ≡ true → [] ≡ ruleMessages read (ruleOf x)
-  unfolding ruleOf
-  send-local h = sym (ruleMessages-local read (ruleOf x) (sym e ∙ not-true t h))
+  pub combine-done : (f : ℕ) (op : Operator) (x y : Term) → sumWrite f (value read (operation op (termOf x) (termOf y))) ≡ done (Combine f op x y)
+  unfolding done expressionOf targetOf fieldOf storedTo writeStored overflows value sumWrite
+  combine-done f op x y = simp (term-formed x, term-formed y) (go (readingInRange (combined op (value read (termOf x)) (value read (termOf y)))) _ _)
+    where
+      go : (i : Bool) (v w : Write) → cond i w v ≡ cond (not i) v w
+      go true v w = refl
+      go false v w = refl
 
--- a rule, by what the code found for its test
-module _ (read : List ℕ → Cell) (x : Slot) {t : Bool} (ran : t ≡ holds read (testOf (x .test))) where
-  pub write-nothing : not t ≡ true → W.Nothing ≡ writeOf read (ruleOf x)
-  unfolding ruleOf
-  write-nothing h = sym (write-is read (ruleOf x) ∙ simp (sym ran ∙ not-true t h))
+  -- a remote write stores nothing
+  remote-done : (r : Rule) → isRemote (targetOf r) ≡ true → done r ≡ W.Nothing
+  unfolding isRemote done expressionOf targetOf storedTo writeStored
+  remote-done (Set f x) e = true-false e refl
+  remote-done (Combine f op x y) e = true-false e refl
+  remote-done (Remote k f c x) e = simp (term-formed x)
 
-  pub send-nothing : not t ≡ true → [] ≡ ruleMessages read (ruleOf x)
-  unfolding ruleMessages ruleOf
-  send-nothing h = simp (sym ran ∙ not-true t h)
+  module _ (x : Slot) where
+    -- what a rule stores, by its test
+    write-is : writeOf read (ruleOf x) ≡ cond (holds read (testOf (x .test))) (done (x .rule)) W.Nothing
+    unfolding writeOf ruleOf stored offends done
+    write-is = go (holds read (testOf (x .test))) (overflows read (expressionOf (x .rule))) _ _ _
+      where
+        go : (t o : Bool) (v w n : Write) → cond (t && o) v (cond t w n) ≡ cond t (cond o v w) n
+        go true o v w n = refl
+        go false o v w n = refl
 
-  module _ (h : not t ≡ false) {r : Rule} (is : x .rule ≡ r) where
-    pub write-done : done read (actionOf r) ≡ writeOf read (ruleOf x)
+    -- a rule of the other sort
+    pub write-remote : isRemote (targetOf (x .rule)) ≡ true → W.Nothing ≡ writeOf read (ruleOf x)
+    write-remote e = sym (write-is ∙ cond-both (λ w. w ≡ W.Nothing) (holds read (testOf (x .test))) _ _ (remote-done (x .rule) e) refl)
+
+    pub send-local : isRemote (targetOf (x .rule)) ≡ false → [] ≡ ruleMessages read (ruleOf x)
     unfolding ruleOf
-    write-done = sym (write-is read (ruleOf x) ∙ simp (sym ran ∙ not-false t h) (ap (λ (r : Rule). done read (actionOf r)) is))
+    send-local e = sym (ruleMessages-local read (ruleOf x) e)
 
-    pub send-done : actionMessages read (actionOf r) ≡ ruleMessages read (ruleOf x)
-    unfolding ruleMessages ruleOf
-    send-done = sym (simp (sym ran ∙ not-false t h) (ap (λ (r : Rule). actionMessages read (actionOf r)) is))
+    -- a rule, by what the code found for its test
+    module _ {t : Bool} (ran : t ≡ holds read (testOf (x .test))) where
+      pub write-nothing : not t ≡ true → W.Nothing ≡ writeOf read (ruleOf x)
+      write-nothing h = sym (write-is ∙ simp (sym ran ∙ not-true t h))
+
+      pub send-nothing : not t ≡ true → [] ≡ ruleMessages read (ruleOf x)
+      unfolding ruleMessages ruleOf
+      send-nothing h = simp (sym ran ∙ not-true t h)
+
+      module _ (h : not t ≡ false) {r : Rule} (is : x .rule ≡ r) where
+        pub write-done : done r ≡ writeOf read (ruleOf x)
+        write-done = sym (write-is ∙ simp (sym ran ∙ not-false t h) (ap done is))
+
+        pub send-done : sentBy read (targetOf r) (value read (expressionOf r)) ≡ ruleMessages read (ruleOf x)
+        unfolding ruleMessages ruleOf
+        send-done = sym (simp (sym ran ∙ not-false t h) (ap (λ (r : Rule). sentBy read (targetOf r) (value read (expressionOf r))) is))

@@ -4,18 +4,16 @@ pub mod stored;
 
 ghost use mathlib.Core.Path.{_≡_};
 ghost use Rattle.program.specs.Program.{isRemote};
-ghost use Rattle.program.specs.Stored.{actionOf};
+ghost use Rattle.program.specs.Stored.{targetOf};
 use program::rule::Rule;
 
 // Whether a rule is a remote write.
 fn is_remote(rule: Rule) -> bool
-    ensures { λ r. ⌜ r ≡ isRemote (actionOf rule) ⌝ }
+    ensures { λ r. ⌜ r ≡ isRemote (targetOf rule) ⌝ }
 {
     match rule {
         Rule::Set(_, _) => false,
-        Rule::Sum(_, _, _) => false,
-        Rule::Difference(_, _, _) => false,
-        Rule::Least(_, _, _) => true,
-        Rule::Total(_, _, _) => true,
+        Rule::Combine(_, _, _, _) => false,
+        Rule::Remote(_, _, _, _) => true,
     }
 }

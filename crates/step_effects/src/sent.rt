@@ -4,18 +4,20 @@ ghost use Prim.Native.Nat.{_<_};
 ghost use Rattle.register.specs.Cells.{cellsOf};
 ghost use Rattle.register.specs.Shape.{Parts};
 ghost use Rattle.chain.specs.Word.{unpack};
-ghost use Rattle.program.specs.Stored.{ruleOf, actionOf, termOf};
-ghost use Rattle.machine.specs.Value.{termValue};
+ghost use Rattle.program.specs.declared.rule.Rule.the-variants.{Remote};
+ghost use Rattle.program.specs.Stored.{ruleOf, targetOf, termOf};
+ghost use Rattle.machine.specs.Value.{value};
 ghost use Rattle.machine.specs.Remote.{sentTo, ruleMessages};
-ghost use Rattle.step_terms.specs.Located.{located, ChainReaches, TermReaches, SlotReaches, Names, Points};
+ghost use Rattle.step_terms.specs.Found.{readsOf, RuleFound, RuleReads, Names, Points};
 ghost use Rattle.step_effects.specs.Answers.{messagesIn};
+use chain::reading::Reading;
 use machine::message::Message;
-use machine::message::Sort;
+use program::location::Located;
+use program::location::Places;
 use program::rule::Rule;
-use program::rule::Slot;
+use program::rule::Sort;
 use program::term::Term;
 use register::Sizes;
-use register::cells::Cell;
 use step_terms::term;
 
 // A rule sends nothing, or one message.
@@ -36,14 +38,19 @@ fn send(
     field: u64,
     target: u64,
     x: Term,
+    at: Places,
 ) -> Sent
-    requires { ⌜ Parts sizes (now cells) (now filled) × (u < sizes .records) × ChainReaches sizes (now values) (now marks) u target × TermReaches sizes (now values) (now marks) u x × Names (located sizes (cellsOf (now cells) (now filled)) (now values) (now marks) u (unpack target)) ⌝ }
-    ensures { λ r. ⌜ messagesIn r ≡ sentTo sort field (located sizes (cellsOf (now (cells .entry)) (now (filled .entry))) (now (values .entry)) (now (marks .entry)) u (unpack target)) (termValue (located sizes (cellsOf (now (cells .entry)) (now (filled .entry))) (now (values .entry)) (now (marks .entry)) u) (termOf x)) ⌝ }
+    requires { ⌜ Parts sizes (now cells) (now filled) × (u < sizes .records) × RuleFound sizes (cellsOf (now cells) (now filled)) (now values) (now marks) u at (Remote sort field target x) ⌝ }
+    requires { ⌜ Names (readsOf sizes (now cells) (now filled) u (unpack target)) ⌝ }
+    ensures { λ r. let read = readsOf sizes (now (cells .entry)) (now (filled .entry)) u in ⌜ messagesIn r ≡ sentTo sort field (read (unpack target)) (value read (termOf x)) ⌝ }
 {
-    let Cell::Value(to) = term::chain_value(cells, filled, values, marks, sizes, u, target) else {
+    let first = at.first;
+    let Reading::Value(to) = term::found_at(cells, filled, values, marks, sizes, u, first) else {
         return Sent::Nothing;
     };
-    let Cell::Value(amount) = term::term_value(cells, filled, values, marks, sizes, u, x) else {
+    let second = at.second;
+    let Reading::Value(amount) = term::term_value(cells, filled, values, marks, sizes, u, x, second)
+    else {
         return Sent::Nothing;
     };
     Sent::One(Message {
@@ -62,50 +69,33 @@ pub fn message_of(
     marks: &[u8],
     sizes: Sizes,
     u: usize,
-    slot: Slot,
+    located: Located,
 ) -> Sent
-    requires { ⌜ Parts sizes (now cells) (now filled) × (u < sizes .records) × SlotReaches sizes (now values) (now marks) u slot × Points (located sizes (cellsOf (now cells) (now filled)) (now values) (now marks) u) (actionOf (slot .rule)) ⌝ }
-    ensures { λ r. ⌜ messagesIn r ≡ ruleMessages (located sizes (cellsOf (now (cells .entry)) (now (filled .entry))) (now (values .entry)) (now (marks .entry)) u) (ruleOf slot) ⌝ }
+    requires { ⌜ Parts sizes (now cells) (now filled) × (u < sizes .records) × RuleReads sizes (cellsOf (now cells) (now filled)) (now values) (now marks) u located ⌝ }
+    requires { ⌜ Points (readsOf sizes (now cells) (now filled) u) (targetOf (located .slot .rule)) ⌝ }
+    ensures { λ r. ⌜ messagesIn r ≡ ruleMessages (readsOf sizes (now (cells .entry)) (now (filled .entry)) u) (ruleOf (located .slot)) ⌝ }
 {
+    let slot = located.slot;
     let rule = slot.rule;
-    if !crate::is_remote(rule) {
+    let Rule::Remote(sort, field, target, x) = rule else {
         return Sent::Nothing;
-    }
+    };
     let test = slot.test;
-    if !term::holds(cells, filled, values, marks, sizes, u, test) {
+    let at = located.at;
+    if !term::holds(cells, filled, values, marks, sizes, u, test, at.test) {
         return Sent::Nothing;
     }
-    match rule {
-        Rule::Set(_, _) => Sent::Nothing,
-        Rule::Sum(_, _, _) => Sent::Nothing,
-        Rule::Difference(_, _, _) => Sent::Nothing,
-        Rule::Least(field, target, x) => {
-            send(
-                cells,
-                filled,
-                values,
-                marks,
-                sizes,
-                u,
-                Sort::Least,
-                field,
-                target,
-                x,
-            )
-        }
-        Rule::Total(field, target, x) => {
-            send(
-                cells,
-                filled,
-                values,
-                marks,
-                sizes,
-                u,
-                Sort::Total,
-                field,
-                target,
-                x,
-            )
-        }
-    }
+    send(
+        cells,
+        filled,
+        values,
+        marks,
+        sizes,
+        u,
+        sort,
+        field,
+        target,
+        x,
+        at.rule,
+    )
 }

@@ -1,20 +1,23 @@
 // What a rule stores in its own record, or that its sum leaves the range.
 ghost use mathlib.Core.Path.{_≡_};
 ghost use Prim.Native.Nat.{_<_};
-ghost use lib.IntN.{_+ℤ_, _-ℤ_};
 ghost use Rattle.register.specs.Cells.{cellsOf};
 ghost use Rattle.register.specs.Shape.{Parts};
+ghost use Rattle.integers.specs.Range.{sumOf};
+ghost use Rattle.program.specs.declared.rule.Rule.the-variants.{Combine};
+ghost use Rattle.program.specs.Program.{operation};
 ghost use Rattle.program.specs.Stored.{ruleOf, termOf};
-ghost use Rattle.machine.specs.Value.{termValue};
-ghost use Rattle.machine.specs.Local.{sumCell};
-ghost use Rattle.step_terms.specs.Located.{located, TermReaches, SlotReaches};
-ghost use Rattle.step_effects.specs.Answers.{cellWrite, sumAnswer, sumWrite, writeOf};
+ghost use Rattle.machine.specs.Value.{operate as operateOn, value};
+ghost use Rattle.step_terms.specs.Found.{readsOf, RuleFound, RuleReads};
+ghost use Rattle.step_effects.specs.Answers.{readingWrite, sumAnswer, sumWrite, writeOf};
+use chain::reading::Reading;
 use integers::Sum;
+use program::location::Located;
+use program::location::Places;
+use program::rule::Operator;
 use program::rule::Rule;
-use program::rule::Slot;
 use program::term::Term;
 use register::Sizes;
-use register::cells::Cell;
 use step_terms::term;
 
 // A rule stores nothing in its own record, makes a field missing or stores a value in it; or its sum for the field leaves the
@@ -26,12 +29,12 @@ pub enum Write {
     OutOfRange(u64),
 }
 
-fn write_cell(field: u64, cell: Cell) -> Write
-    ensures { λ r. ⌜ r ≡ cellWrite field cell ⌝ }
+fn write_reading(field: u64, reading: Reading) -> Write
+    ensures { λ r. ⌜ r ≡ readingWrite field reading ⌝ }
 {
-    match cell {
-        Cell::Missing => Write::Clear(field),
-        Cell::Value(value) => Write::Store(field, value),
+    match reading {
+        Reading::Missing => Write::Clear(field),
+        Reading::Value(value) => Write::Store(field, value),
     }
 }
 
@@ -44,32 +47,17 @@ fn write_sum(field: u64, sum: Sum) -> Write
     }
 }
 
-// The sum of two terms at record u, for a field.
-fn add(
-    cells: &[u8],
-    filled: &[u8],
-    values: &[i64],
-    marks: &[u8],
-    sizes: Sizes,
-    u: usize,
-    field: u64,
-    x: Term,
-    y: Term,
-) -> Write
-    requires { ⌜ Parts sizes (now cells) (now filled) × (u < sizes .records) × TermReaches sizes (now values) (now marks) u x × TermReaches sizes (now values) (now marks) u y ⌝ }
-    ensures { λ r. ⌜ r ≡ sumWrite field (sumCell _+ℤ_ (termValue (located sizes (cellsOf (now (cells .entry)) (now (filled .entry))) (now (values .entry)) (now (marks .entry)) u) (termOf x)) (termValue (located sizes (cellsOf (now (cells .entry)) (now (filled .entry))) (now (values .entry)) (now (marks .entry)) u) (termOf y))) ⌝ }
+fn operate(operator: Operator, a: i32, b: i32) -> Sum
+    ensures { λ r. ⌜ r ≡ sumOf (operateOn operator a b) ⌝ }
 {
-    let Cell::Value(a) = term::term_value(cells, filled, values, marks, sizes, u, x) else {
-        return Write::Clear(field);
-    };
-    let Cell::Value(b) = term::term_value(cells, filled, values, marks, sizes, u, y) else {
-        return Write::Clear(field);
-    };
-    write_sum(field, integers::add(a, b))
+    match operator {
+        Operator::Plus => integers::add(a, b),
+        Operator::Minus => integers::subtract(a, b),
+    }
 }
 
-// Their difference.
-fn subtract(
+// An operation on two terms at record u, for a field.
+fn combine(
     cells: &[u8],
     filled: &[u8],
     values: &[i64],
@@ -77,19 +65,25 @@ fn subtract(
     sizes: Sizes,
     u: usize,
     field: u64,
+    operator: Operator,
     x: Term,
     y: Term,
+    at: Places,
 ) -> Write
-    requires { ⌜ Parts sizes (now cells) (now filled) × (u < sizes .records) × TermReaches sizes (now values) (now marks) u x × TermReaches sizes (now values) (now marks) u y ⌝ }
-    ensures { λ r. ⌜ r ≡ sumWrite field (sumCell _-ℤ_ (termValue (located sizes (cellsOf (now (cells .entry)) (now (filled .entry))) (now (values .entry)) (now (marks .entry)) u) (termOf x)) (termValue (located sizes (cellsOf (now (cells .entry)) (now (filled .entry))) (now (values .entry)) (now (marks .entry)) u) (termOf y))) ⌝ }
+    requires { ⌜ Parts sizes (now cells) (now filled) × (u < sizes .records) × RuleFound sizes (cellsOf (now cells) (now filled)) (now values) (now marks) u at (Combine field operator x y) ⌝ }
+    ensures { λ r. ⌜ r ≡ sumWrite field (value (readsOf sizes (now (cells .entry)) (now (filled .entry)) u) (operation operator (termOf x) (termOf y))) ⌝ }
 {
-    let Cell::Value(a) = term::term_value(cells, filled, values, marks, sizes, u, x) else {
+    let first = at.first;
+    let Reading::Value(a) = term::term_value(cells, filled, values, marks, sizes, u, x, first)
+    else {
         return Write::Clear(field);
     };
-    let Cell::Value(b) = term::term_value(cells, filled, values, marks, sizes, u, y) else {
+    let second = at.second;
+    let Reading::Value(b) = term::term_value(cells, filled, values, marks, sizes, u, y, second)
+    else {
         return Write::Clear(field);
     };
-    write_sum(field, integers::subtract(a, b))
+    write_sum(field, operate(operator, a, b))
 }
 
 // What a rule stores in record u.
@@ -100,26 +94,31 @@ pub fn local_write(
     marks: &[u8],
     sizes: Sizes,
     u: usize,
-    slot: Slot,
+    located: Located,
 ) -> Write
-    requires { ⌜ Parts sizes (now cells) (now filled) × (u < sizes .records) × SlotReaches sizes (now values) (now marks) u slot ⌝ }
-    ensures { λ r. ⌜ r ≡ writeOf (located sizes (cellsOf (now (cells .entry)) (now (filled .entry))) (now (values .entry)) (now (marks .entry)) u) (ruleOf slot) ⌝ }
+    requires { ⌜ Parts sizes (now cells) (now filled) × (u < sizes .records) × RuleReads sizes (cellsOf (now cells) (now filled)) (now values) (now marks) u located ⌝ }
+    ensures { λ r. ⌜ r ≡ writeOf (readsOf sizes (now (cells .entry)) (now (filled .entry)) u) (ruleOf (located .slot)) ⌝ }
 {
+    let slot = located.slot;
     let rule = slot.rule;
     if crate::is_remote(rule) {
         return Write::Nothing;
     }
     let test = slot.test;
-    if !term::holds(cells, filled, values, marks, sizes, u, test) {
+    let at = located.at;
+    if !term::holds(cells, filled, values, marks, sizes, u, test, at.test) {
         return Write::Nothing;
     }
+    let at = at.rule;
     match rule {
-        Rule::Set(field, x) => write_cell(
-            field,
-            term::term_value(cells, filled, values, marks, sizes, u, x),
-        ),
-        Rule::Sum(field, x, y) => add(cells, filled, values, marks, sizes, u, field, x, y),
-        Rule::Difference(field, x, y) => subtract(
+        Rule::Set(field, x) => {
+            let first = at.first;
+            write_reading(
+                field,
+                term::term_value(cells, filled, values, marks, sizes, u, x, first),
+            )
+        }
+        Rule::Combine(field, operator, x, y) => combine(
             cells,
             filled,
             values,
@@ -127,10 +126,11 @@ pub fn local_write(
             sizes,
             u,
             field,
+            operator,
             x,
             y,
+            at,
         ),
-        Rule::Least(_, _, _) => Write::Nothing,
-        Rule::Total(_, _, _) => Write::Nothing,
+        Rule::Remote(_, _, _, _) => Write::Nothing,
     }
 }

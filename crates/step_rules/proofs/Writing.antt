@@ -10,32 +10,32 @@ use Rattle.register.specs.File.{cellIndex}
 use Rattle.register.specs.declared.Sizes.{Sizes}
 use Rattle.register.specs.declared.cells.Cell.{Cell}
 use Rattle.register.specs.declared.cells.Cell.the-variants.{Missing, Value}
+use Rattle.chain.specs.declared.reading.Reading.{Reading}
 use Rattle.chain.specs.Word.{column}
-use Rattle.program.specs.Program as P
-use Rattle.program.specs.Program.{Rule, Action, fieldOf}
+use Rattle.program.specs.Program.{Target, own, remote, Rule, fieldOf}
 use Rattle.machine.specs.Value.{holds}
-use Rattle.machine.specs.Local.{stored, store, offends, localRule}
+use Rattle.machine.specs.Local.{storedTo, stored, store, offends, localRule}
 use Rattle.step_effects.specs.Answers.{cellWrite, writeStored, writeOf}
 use Rattle.step_effects.specs.declared.stored.Write.{Write}
 use Rattle.step_effects.specs.declared.stored.Write.the-variants.{Nothing, Clear, Store, OutOfRange}
 
 -- the rule stores nothing
-pub record Idles (read : List ℕ → Cell) (r : Rule) : Type 0 where
+pub record Idles (read : List ℕ → Reading) (r : Rule) : Type 0 where
   pub in-range : offends read r ≡ false
   pub cells-are : (s : Sizes) (u : ℕ) (d : List Cell) → localRule s read u r d ≡ d
 
 -- it stores c in field f
-pub record Stores (read : List ℕ → Cell) (r : Rule) (f : ℕ) (c : Cell) : Type 0 where
+pub record Stores (read : List ℕ → Reading) (r : Rule) (f : ℕ) (c : Cell) : Type 0 where
   pub in-range : offends read r ≡ false
-  pub field-is : f ≡ fieldOf (r .action)
+  pub field-is : f ≡ fieldOf (r .target)
   pub cells-are : (s : Sizes) (u : ℕ) (d : List Cell) → localRule s read u r d ≡ set d (cellIndex s u (column s f)) c
 
 -- its sum for field f is out of range
-pub record Offends (read : List ℕ → Cell) (r : Rule) (f : ℕ) : Type 0 where
+pub record Offends (read : List ℕ → Reading) (r : Rule) (f : ℕ) : Type 0 where
   pub out-of-range : offends read r ≡ true
-  pub field-is : f ≡ fieldOf (r .action)
+  pub field-is : f ≡ fieldOf (r .target)
 
-abbrev pub Tells : (List ℕ → Cell) → Rule → Write → Type 0
+abbrev pub Tells : (List ℕ → Reading) → Rule → Write → Type 0
 Tells read r Nothing = Idles read r
 Tells read r (Clear f) = Stores read r f Missing
 Tells read r (Store f z) = Stores read r f (Value z)
@@ -46,38 +46,36 @@ unfoldable fieldIn : Option (ℕ × Cell) → ℕ
 fieldIn none = 0
 fieldIn (some (f, c)) = f
 
-stored-field : (read : List ℕ → Cell) (a : Action) {f : ℕ} {c : Cell} → stored read a ≡ some (f, c) → f ≡ fieldOf a
-unfolding stored fieldOf fieldIn
-stored-field read (P.set g x) e = sym (ap fieldIn e)
-stored-field read (P.sum g x y) e = sym (ap fieldIn e)
-stored-field read (P.difference g x y) e = sym (ap fieldIn e)
-stored-field read (P.least g x y) e = absurd (let z : _≡_ {A = ℕ} 0 1 = cc in omega arith)
-stored-field read (P.total g x y) e = absurd (let z : _≡_ {A = ℕ} 0 1 = cc in omega arith)
+stored-field : (t : Target) (x : Reading) {f : ℕ} {c : Cell} → storedTo t x ≡ some (f, c) → f ≡ fieldOf t
+unfolding storedTo fieldOf fieldIn
+stored-field (own g) x e = sym (ap fieldIn e)
+stored-field (remote k g w) x e = absurd (let z : _≡_ {A = ℕ} 0 1 = cc in omega arith)
 
-module _ (read : List ℕ → Cell) (r : Rule) where
+module _ (read : List ℕ → Reading) (r : Rule) where
   -- the cases of a rule
   idle : holds read (r .test) ≡ false → (s : Sizes) (u : ℕ) (d : List Cell) → localRule s read u r d ≡ d
   unfolding localRule
   idle h s u d = simp h
 
-  done : holds read (r .test) ≡ true → (x : Option (ℕ × Cell)) → stored read (r .action) ≡ x → (s : Sizes) (u : ℕ) (d : List Cell) → localRule s read u r d ≡ store s u x d
+  done : holds read (r .test) ≡ true → (x : Option (ℕ × Cell)) → stored read r ≡ x
+      → (s : Sizes) (u : ℕ) (d : List Cell) → localRule s read u r d ≡ store s u x d
   unfolding localRule
   done h x k s u d = simp (h, k)
 
-  tells : (o h : Bool) (x : Option (ℕ × Cell)) → offends read r ≡ o → holds read (r .test) ≡ h → stored read (r .action) ≡ x
-      → Tells read r (cond o (OutOfRange (fieldOf (r .action))) (cond h (writeStored x) Nothing))
-  unfolding writeStored cellWrite store
+  tells : (o h : Bool) (x : Option (ℕ × Cell)) → offends read r ≡ o → holds read (r .test) ≡ h → stored read r ≡ x
+      → Tells read r (cond o (OutOfRange (fieldOf (r .target))) (cond h (writeStored x) Nothing))
+  unfolding writeStored cellWrite stored store
   tells true h x p q k = record { out-of-range = p; field-is = refl }
   tells false false x p q k = record { in-range = p; cells-are = idle q }
   tells false true none p q k = record { in-range = p; cells-are = done q none k }
   tells false true (some (f, Missing)) p q k =
-      record { in-range = p; field-is = stored-field read (r .action) k; cells-are = done q (some (f, Missing)) k }
+      record { in-range = p; field-is = stored-field (r .target) _ k; cells-are = done q (some (f, Missing)) k }
   tells false true (some (f, Value z)) p q k =
-      record { in-range = p; field-is = stored-field read (r .action) k; cells-are = done q (some (f, Value z)) k }
+      record { in-range = p; field-is = stored-field (r .target) _ k; cells-are = done q (some (f, Value z)) k }
 
   pub write-tells : Tells read r (writeOf read r)
   unfolding writeOf
-  write-tells = tells (offends read r) (holds read (r .test)) (stored read (r .action)) refl refl refl
+  write-tells = tells (offends read r) (holds read (r .test)) (stored read r) refl refl refl
 
   pub told : {w : Write} → writeOf read r ≡ w → Tells read r w
   told e = subst (Tells read r) e write-tells

@@ -11,12 +11,12 @@ ghost use Rattle.program.specs.Stored.{ruleOf};
 ghost use Rattle.step_cells.specs.Work.{Room, Put};
 ghost use Rattle.step_rules.specs.Ready.{Ready, LocalRule};
 use chain::follow;
-use program::rule::Slot;
+use program::location::Located;
 use register::Sizes;
 use register::cells;
 use scratch;
 use step_cells;
-use step_commit::Stop;
+use step_cells::stop::Stop;
 use step_effects::stored;
 use step_effects::stored::Write;
 
@@ -46,10 +46,11 @@ pub fn apply_rule(
     sizes: Sizes,
     base: usize,
     u: usize,
-    slot: Slot,
+    rule: Located,
 ) -> Stop
-    requires { ⌜ Limits sizes × (length (now out) ≡ 12 + 5 * cellCount sizes) × (u < sizes .records) × Room base (cellCount sizes) (now values) (now marks) × Ready sizes (cellsOfFile sizes (now out)) (take base (now values)) (take base (now marks)) slot ⌝ }
-    ensures { λ r. ⌜ LocalRule sizes (cellsOfFile sizes (now (out .entry))) base u (ruleOf slot) (now (values .entry)) (now (marks .entry)) (now (values .exit)) (now (marks .exit)) r ⌝ }
+    requires { ⌜ Limits sizes × (length (now out) ≡ 12 + 5 * cellCount sizes) × (u < sizes .records) × Room base (cellCount sizes) (now values) (now marks) ⌝ }
+    requires { ⌜ Ready sizes (cellsOfFile sizes (now out)) (take base (now values)) (take base (now marks)) rule ⌝ }
+    ensures { λ r. ⌜ LocalRule sizes (cellsOfFile sizes (now (out .entry))) base u (ruleOf (rule .slot)) (now (values .entry)) (now (marks .entry)) (now (values .exit)) (now (marks .exit)) r ⌝ }
 {
     match stored::local_write(
         cells::values_part(out, sizes),
@@ -58,7 +59,7 @@ pub fn apply_rule(
         &marks[..base],
         sizes,
         u,
-        slot,
+        rule,
     ) {
         Write::Nothing => Stop::Nowhere,
         Write::Clear(field) => {

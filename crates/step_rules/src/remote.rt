@@ -5,11 +5,11 @@ ghost use lib.ListN.{length, take};
 ghost use Rattle.register.specs.Cells.{cellsOf};
 ghost use Rattle.register.specs.File.{cellCount, cellsOfFile};
 ghost use Rattle.register.specs.Shape.{Limits, Parts};
-ghost use Rattle.program.specs.Stored.{ruleOf, rulesIn};
+ghost use Rattle.program.specs.Stored.{rulesIn};
 ghost use Rattle.step_cells.specs.Work.{Room, Small};
 ghost use Rattle.step_rules.specs.Ready.{Ready, AllReady};
 ghost use Rattle.step_rules.specs.Delivered.{RuleDelivered, Delivered};
-use program::rule::Slot;
+use program::location::Located;
 use register::Sizes;
 use register::cells;
 use step_cells;
@@ -25,10 +25,12 @@ fn apply_rule(
     sizes: Sizes,
     base: usize,
     u: usize,
-    slot: Slot,
+    rule: Located,
 ) -> usize
-    requires { ⌜ Parts sizes (now cells) (now filled) × (u < sizes .records) × Room base (length (now filled)) (now values) (now marks) × Ready sizes (cellsOf (now cells) (now filled)) (take base (now values)) (take base (now marks)) slot × Small 4611686018427387904 base (length (now filled)) (now values) (now marks) ⌝ }
-    ensures { λ r. ⌜ RuleDelivered sizes (cellsOf (now (cells .entry)) (now (filled .entry))) base u (ruleOf slot) (now (values .entry)) (now (marks .entry)) (now (values .exit)) (now (marks .exit)) r ⌝ }
+    requires { ⌜ Parts sizes (now cells) (now filled) × (u < sizes .records) × Room base (length (now filled)) (now values) (now marks) ⌝ }
+    requires { ⌜ Ready sizes (cellsOf (now cells) (now filled)) (take base (now values)) (take base (now marks)) rule ⌝ }
+    requires { ⌜ Small 4611686018427387904 base (length (now filled)) (now values) (now marks) ⌝ }
+    ensures { λ r. ⌜ RuleDelivered sizes (cellsOf (now (cells .entry)) (now (filled .entry))) base u rule (now (values .entry)) (now (marks .entry)) (now (values .exit)) (now (marks .exit)) r ⌝ }
 {
     match sent::message_of(
         cells,
@@ -37,7 +39,7 @@ fn apply_rule(
         &marks[..base],
         sizes,
         u,
-        slot,
+        rule,
     ) {
         Sent::Nothing => 0,
         Sent::One(message) => {
@@ -56,18 +58,20 @@ pub fn apply(
     marks: &mut [u8],
     sizes: Sizes,
     base: usize,
-    slots: [Slot; 32],
-    rules: usize,
+    rules: [Located; 32],
+    count: usize,
 ) -> usize
-    requires { ⌜ Limits sizes × (length (now out) ≡ 12 + 5 * cellCount sizes) × Room base (cellCount sizes) (now values) (now marks) × (rules ≤ 32) × (length slots ≡ 32) × AllReady sizes (cellsOfFile sizes (now out)) (take base (now values)) (take base (now marks)) (take rules slots) × Small 2147483648 base (cellCount sizes) (now values) (now marks) ⌝ }
-    ensures { λ r. ⌜ Delivered sizes (cellsOfFile sizes (now (out .entry))) base (rulesIn rules slots) (now (values .entry)) (now (marks .entry)) (now (values .exit)) (now (marks .exit)) r ⌝ }
+    requires { ⌜ Limits sizes × (length (now out) ≡ 12 + 5 * cellCount sizes) × Room base (cellCount sizes) (now values) (now marks) × (count ≤ 32) × (length rules ≡ 32) ⌝ }
+    requires { ⌜ AllReady sizes (cellsOfFile sizes (now out)) (take base (now values)) (take base (now marks)) (take count rules) ⌝ }
+    requires { ⌜ Small 2147483648 base (cellCount sizes) (now values) (now marks) ⌝ }
+    ensures { λ r. ⌜ Delivered sizes (cellsOfFile sizes (now (out .entry))) base (rulesIn count rules) (now (values .entry)) (now (marks .entry)) (now (values .exit)) (now (marks .exit)) r ⌝ }
 {
     let cells = cells::values_part(out, sizes);
     let filled = cells::marks_part(out, sizes);
     let mut sent = 0;
     for u in 0..sizes.records {
-        for k in 0..rules {
-            sent += apply_rule(cells, filled, values, marks, sizes, base, u, slots[k]);
+        for k in 0..count {
+            sent += apply_rule(cells, filled, values, marks, sizes, base, u, rules[k]);
         }
     }
     sent

@@ -1,41 +1,41 @@
-// The values of chains and terms at a record, and whether a test holds there. Chains are located: see specs/Located.
+// What a record finds at a location, the value of a term there, and whether a test holds.
 ghost use mathlib.Core.Path.{_≡_};
 ghost use Prim.Native.Nat.{_<_};
 ghost use Rattle.register.specs.Cells.{cellsOf};
 ghost use Rattle.register.specs.Shape.{Parts};
-ghost use Rattle.chain.specs.Word.{unpack};
 ghost use Rattle.program.specs.Stored.{termOf, testOf};
-ghost use Rattle.machine.specs.Value.{termValue, compare as compareOf, holds as holdsIn, compareCells};
-ghost use Rattle.step_terms.specs.Located.{located, ChainReaches, TermReaches, TestReaches};
+ghost use Rattle.machine.specs.Value.{value, compare as compareOf, holds as holdsIn, compareReadings};
+ghost use Rattle.step_terms.specs.Found.{foundAt, Reaches, readsOf, TermFound, TestFound};
 use chain::follow;
+use chain::reading::Reading;
+use program::location::Location;
+use program::location::Places;
 use program::rule::Comparison;
 use program::rule::Test;
 use program::term::Term;
 use register::Sizes;
-use register::cells::Cell;
 use scratch;
 
-// What record u reads for a chain: its own number, its own cell, or the place of a plan line.
-pub fn chain_value(
+// What record u finds: its own number, its own cell, or what a plan line holds for it.
+pub fn found_at(
     cells: &[u8],
     filled: &[u8],
     values: &[i64],
     marks: &[u8],
     sizes: Sizes,
     u: usize,
-    chain: u64,
-) -> Cell
-    requires { ⌜ Parts sizes (now cells) (now filled) × (u < sizes .records) × ChainReaches sizes (now values) (now marks) u chain ⌝ }
-    ensures { λ r. ⌜ r ≡ located sizes (cellsOf (now (cells .entry)) (now (filled .entry))) (now (values .entry)) (now (marks .entry)) u (unpack chain) ⌝ }
+    at: Location,
+) -> Reading
+    requires { ⌜ Parts sizes (now cells) (now filled) × (u < sizes .records) × Reaches sizes (now values) (now marks) u at ⌝ }
+    ensures { λ r. ⌜ r ≡ foundAt sizes (cellsOf (now (cells .entry)) (now (filled .entry))) (now (values .entry)) (now (marks .entry)) u at ⌝ }
 {
-    if chain == 0 {
-        return Cell::Value(integers::of_index(u));
+    match at {
+        Location::Own => Reading::Value(integers::of_index(u)),
+        Location::Cell(field) => follow::read_cell(cells, filled, sizes, u, field as usize),
+        Location::Line(line) => {
+            scratch::read_at(values, marks, line as usize * sizes.records + u)
+        }
     }
-    if chain <= 16 {
-        return follow::cell_of(cells, filled, sizes, u, (chain - 1) as usize);
-    }
-    let line = (chain - 17) as usize;
-    scratch::cell_at(values, marks, line * sizes.records + u)
 }
 
 pub fn term_value(
@@ -46,13 +46,14 @@ pub fn term_value(
     sizes: Sizes,
     u: usize,
     term: Term,
-) -> Cell
-    requires { ⌜ Parts sizes (now cells) (now filled) × (u < sizes .records) × TermReaches sizes (now values) (now marks) u term ⌝ }
-    ensures { λ r. ⌜ r ≡ termValue (located sizes (cellsOf (now (cells .entry)) (now (filled .entry))) (now (values .entry)) (now (marks .entry)) u) (termOf term) ⌝ }
+    at: Location,
+) -> Reading
+    requires { ⌜ Parts sizes (now cells) (now filled) × (u < sizes .records) × TermFound sizes (cellsOf (now cells) (now filled)) (now values) (now marks) u at term ⌝ }
+    ensures { λ r. ⌜ r ≡ value (readsOf sizes (now (cells .entry)) (now (filled .entry)) u) (termOf term) ⌝ }
 {
     match term {
-        Term::Chain(chain) => { chain_value(cells, filled, values, marks, sizes, u, chain) }
-        Term::Number(value) => Cell::Value(value),
+        Term::Chain(_) => found_at(cells, filled, values, marks, sizes, u, at),
+        Term::Number(value) => Reading::Value(value),
     }
 }
 
@@ -67,13 +68,13 @@ fn compare(comparison: Comparison, a: i32, b: i32) -> bool
 }
 
 // Two sides: an unfilled one never holds.
-fn compare_cells(x: Cell, comparison: Comparison, y: Cell) -> bool
-    ensures { λ r. ⌜ r ≡ compareCells comparison x y ⌝ }
+fn compare_readings(x: Reading, comparison: Comparison, y: Reading) -> bool
+    ensures { λ r. ⌜ r ≡ compareReadings comparison x y ⌝ }
 {
-    let Cell::Value(a) = x else {
+    let Reading::Value(a) = x else {
         return false;
     };
-    let Cell::Value(b) = y else {
+    let Reading::Value(b) = y else {
         return false;
     };
     compare(comparison, a, b)
@@ -87,16 +88,19 @@ pub fn holds(
     sizes: Sizes,
     u: usize,
     test: Test,
+    at: Places,
 ) -> bool
-    requires { ⌜ Parts sizes (now cells) (now filled) × (u < sizes .records) × TestReaches sizes (now values) (now marks) u test ⌝ }
-    ensures { λ r. ⌜ r ≡ holdsIn (located sizes (cellsOf (now (cells .entry)) (now (filled .entry))) (now (values .entry)) (now (marks .entry)) u) (testOf test) ⌝ }
+    requires { ⌜ Parts sizes (now cells) (now filled) × (u < sizes .records) × TestFound sizes (cellsOf (now cells) (now filled)) (now values) (now marks) u at test ⌝ }
+    ensures { λ r. ⌜ r ≡ holdsIn (readsOf sizes (now (cells .entry)) (now (filled .entry)) u) (testOf test) ⌝ }
 {
     match test {
         Test::Always => true,
         Test::When(x, comparison, y) => {
-            let left = term_value(cells, filled, values, marks, sizes, u, x);
-            let right = term_value(cells, filled, values, marks, sizes, u, y);
-            compare_cells(left, comparison, right)
+            let first = at.first;
+            let second = at.second;
+            let left = term_value(cells, filled, values, marks, sizes, u, x, first);
+            let right = term_value(cells, filled, values, marks, sizes, u, y, second);
+            compare_readings(left, comparison, right)
         }
     }
 }

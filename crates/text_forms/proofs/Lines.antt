@@ -12,12 +12,16 @@ use Rattle.laws.specs.Lists.{every}
 use Rattle.chain_text.proofs.Forms.{spelled, printed-form}
 use Rattle.text_forms.specs.Numeral.{digits, isDigit}
 use Rattle.text_forms.specs.Bytes.{bytes}
-use Rattle.text_forms.specs.Written.{Term, Condition, always, when, Action, set, sum, difference, least, total, Line, step, end, done, loop, rule}
+use Rattle.text_forms.specs.Written.{Term, Condition, always, when, Action, set, combine, remote, Line, step, end, done, loop, rule}
 use Rattle.program.specs.declared.rule.Comparison.{Comparison}
 use Rattle.program.specs.declared.rule.Comparison.the-variants.{Less, Equal, Unequal}
+use Rattle.program.specs.declared.rule.Operator.{Operator}
+use Rattle.program.specs.declared.rule.Operator.the-variants.{Plus, Minus}
+use Rattle.program.specs.declared.rule.Sort.{Sort}
+use Rattle.program.specs.declared.rule.Sort.the-variants.{Least, Total}
 use Rattle.text_forms.specs.Token.{Token, capital, then, word, or, finished}
 use Rattle.text_forms.specs.Term.{printedTerm, ProperTerm, termForm}
-use Rattle.text_forms.specs.Line.{made, comparisonText, printedAction, printedLine, ProperAction, Proper, assigned, localForm, sent, remoteForm, actionForm, ruleOf, compared, testedForm, lineForm}
+use Rattle.text_forms.specs.Line.{made, comparisonText, operatorText, sortText, printedAction, printedLine, ProperAction, Proper, assigned, localForm, sent, remoteForm, actionForm, ruleOf, compared, testedForm, lineForm}
 use Rattle.text_forms.proofs.Tokens.{All, all-some, then-all, or-all, finished-all, word-all, capital-is, capital-read, capital-word}
 use Rattle.text_forms.proofs.Terms.{term-spelled, printed-term}
 
@@ -50,8 +54,8 @@ local-spelled t =
     or-all P _ _
     (finished-all P (set f x) r₂ (λ n. record { text = front ∙ rw (n, append-nil); proper = (c .1, w .proper) }))
     (or-all P _ _
-    (made-all P (sum f x) (bytes " + ") r₂ (λ y e₃ p. record { text = front ∙ rw e₃; proper = (c .1, w .proper, p) }))
-    (made-all P (difference f x) (bytes " - ") r₂ (λ y e₃ p. record { text = front ∙ rw e₃; proper = (c .1, w .proper, p) }))))))
+    (made-all P (combine f Plus x) (operatorText Plus) r₂ (λ y e₃ p. record { text = front ∙ rw e₃; proper = (c .1, w .proper, p) }))
+    (made-all P (combine f Minus x) (operatorText Minus) r₂ (λ y e₃ p. record { text = front ∙ rw e₃; proper = (c .1, w .proper, p) }))))))
 
 -- a remote rule behind `remote `
 remote-spelled : (r : List ℕ) (f : C.Form) → C.form r ≡ f → All (SpelledAction (bytes "remote " ++ r)) (remoteForm f)
@@ -63,8 +67,8 @@ remote-spelled r (C.formed (f ∷ c) s) e =
     let w = spelled r (f ∷ c) s e in
     let front : bytes "remote " ++ r ≡ bytes "remote " ++ (printed (f ∷ c) ++ s) = ap (λ (l : List ℕ). bytes "remote " ++ l) (w .text) in
     or-all P _ _
-    (made-all P (least f c) (bytes " <?= ") s (λ x e₁ p. record { text = front ∙ rw e₁; proper = (w .capitals, p) }))
-    (made-all P (total f c) (bytes " += ") s (λ x e₁ p. record { text = front ∙ rw e₁; proper = (w .capitals, p) }))
+    (made-all P (remote Least f c) (sortText Least) s (λ x e₁ p. record { text = front ∙ rw e₁; proper = (w .capitals, p) }))
+    (made-all P (remote Total f c) (sortText Total) s (λ x e₁ p. record { text = front ∙ rw e₁; proper = (w .capitals, p) }))
 
 action-spelled : (t : List ℕ) → All (SpelledAction t) (actionForm t)
 unfolding actionForm
@@ -148,10 +152,10 @@ target-read f c r h = rw (printed-form (f ∷ c) r h)
 action-read : (a : Action) → ProperAction a → actionForm (printedAction a) ≡ some a
 unfolding printedAction assigned sent or finished word digits isDigit
 action-read (set f x) p = ap (λ (l : List ℕ). actionForm (f ∷ (bytes "[u] := " ++ l))) (sym (append-nil (printedTerm x))) ∙ assign-read f x [] (p .0) (p .1) refl
-action-read (sum f x y) p = assign-read f x (bytes " + " ++ printedTerm y) (p .0) (p .1) refl ∙ rw (last-read (sum f x) y (p .2))
-action-read (difference f x y) p = assign-read f x (bytes " - " ++ printedTerm y) (p .0) (p .1) refl ∙ rw (last-read (difference f x) y (p .2))
-action-read (least f c x) p = target-read f c (bytes " <?= " ++ printedTerm x) (p .0) ∙ rw (last-read (least f c) x (p .1))
-action-read (total f c x) p = target-read f c (bytes " += " ++ printedTerm x) (p .0) ∙ rw (last-read (total f c) x (p .1))
+action-read (combine f Plus x y) p = assign-read f x (operatorText Plus ++ printedTerm y) (p .0) (p .1) refl ∙ rw (last-read (combine f Plus x) y (p .2))
+action-read (combine f Minus x y) p = assign-read f x (operatorText Minus ++ printedTerm y) (p .0) (p .1) refl ∙ rw (last-read (combine f Minus x) y (p .2))
+action-read (remote Least f c x) p = target-read f c (sortText Least ++ printedTerm x) (p .0) ∙ rw (last-read (remote Least f c) x (p .1))
+action-read (remote Total f c x) p = target-read f c (sortText Total ++ printedTerm x) (p .0) ∙ rw (last-read (remote Total f c) x (p .1))
 
 -- a test is read
 module _ (x y : Term) (a : Action) (px : ProperTerm x) (py : ProperTerm y) (pa : ProperAction a) where
@@ -182,10 +186,8 @@ capital-line f t h =
 rule-line : (a : Action) → ProperAction a → lineForm (printedAction a) ≡ ruleOf always (actionForm (printedAction a))
 unfolding printedAction lineForm or word
 rule-line (set f x) p = capital-line f _ (p .0)
-rule-line (sum f x y) p = capital-line f _ (p .0)
-rule-line (difference f x y) p = capital-line f _ (p .0)
-rule-line (least f c x) p = refl
-rule-line (total f c x) p = refl
+rule-line (combine f op x y) p = capital-line f _ (p .0)
+rule-line (remote k f c x) p = refl
 
 -- and the printed text of a proper line has that line's form
 pub printed-line : (l : Line) → Proper l → lineForm (printedLine l) ≡ some l

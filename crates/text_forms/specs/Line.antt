@@ -8,9 +8,13 @@ use Rattle.chain_text.specs.Text as C
 use Rattle.chain_text.specs.Text.{isCapital, printed}
 use Rattle.laws.specs.Lists.{every}
 use Rattle.text_forms.specs.Bytes.{bytes}
-use Rattle.text_forms.specs.Written.{Term, Condition, always, when, Action, set, sum, difference, least, total, Line, step, end, done, loop, rule}
+use Rattle.text_forms.specs.Written.{Term, Condition, always, when, Action, set, combine, remote, Line, step, end, done, loop, rule}
 use Rattle.program.specs.declared.rule.Comparison.{Comparison}
 use Rattle.program.specs.declared.rule.Comparison.the-variants.{Less, Equal, Unequal}
+use Rattle.program.specs.declared.rule.Operator.{Operator}
+use Rattle.program.specs.declared.rule.Operator.the-variants.{Plus, Minus}
+use Rattle.program.specs.declared.rule.Sort.{Sort}
+use Rattle.program.specs.declared.rule.Sort.the-variants.{Least, Total}
 use Rattle.text_forms.specs.Token.{capital, then, word, or, finished}
 use Rattle.text_forms.specs.Term.{printedTerm, ProperTerm, termForm}
 
@@ -20,13 +24,21 @@ comparisonText Less = bytes " < "
 comparisonText Equal = bytes " == "
 comparisonText Unequal = bytes " != "
 
+-- an operator with its spaces
+abbrev pub operatorText : Operator → List ℕ
+operatorText Plus = bytes " + "
+operatorText Minus = bytes " - "
+
+-- a sort of remote write with its spaces
+abbrev pub sortText : Sort → List ℕ
+sortText Least = bytes " <?= "
+sortText Total = bytes " += "
+
 -- `F[u] := X`, `F[u] := X + Y`, `F[u] := X - Y`, `remote F[C] <?= X`, `remote F[C] += X`
 unfoldable pub printedAction : Action → List ℕ
 printedAction (set f x) = f ∷ (bytes "[u] := " ++ printedTerm x)
-printedAction (sum f x y) = f ∷ (bytes "[u] := " ++ (printedTerm x ++ (bytes " + " ++ printedTerm y)))
-printedAction (difference f x y) = f ∷ (bytes "[u] := " ++ (printedTerm x ++ (bytes " - " ++ printedTerm y)))
-printedAction (least f c x) = bytes "remote " ++ (printed (f ∷ c) ++ (bytes " <?= " ++ printedTerm x))
-printedAction (total f c x) = bytes "remote " ++ (printed (f ∷ c) ++ (bytes " += " ++ printedTerm x))
+printedAction (combine f op x y) = f ∷ (bytes "[u] := " ++ (printedTerm x ++ (operatorText op ++ printedTerm y)))
+printedAction (remote k f c x) = bytes "remote " ++ (printed (f ∷ c) ++ (sortText k ++ printedTerm x))
 
 -- the table of lines; "Before any of them may stand `if X < Y: `, with `<`, `==` or `!=`"
 unfoldable pub printedLine : Line → List ℕ
@@ -40,10 +52,8 @@ printedLine (rule (when x c y) a) = bytes "if " ++ (printedTerm x ++ (comparison
 -- what 7 asks of a rule without its test: letters are capitals, numbers are written as they may be
 abbrev pub ProperAction : Action → Type 0
 ProperAction (set f x) = (isCapital f ≡ true) × ProperTerm x
-ProperAction (sum f x y) = (isCapital f ≡ true) × ProperTerm x × ProperTerm y
-ProperAction (difference f x y) = (isCapital f ≡ true) × ProperTerm x × ProperTerm y
-ProperAction (least f c x) = (every isCapital (f ∷ c) ≡ true) × ProperTerm x
-ProperAction (total f c x) = (every isCapital (f ∷ c) ≡ true) × ProperTerm x
+ProperAction (combine f op x y) = (isCapital f ≡ true) × ProperTerm x × ProperTerm y
+ProperAction (remote k f c x) = (every isCapital (f ∷ c) ≡ true) × ProperTerm x
 
 -- what 7 asks of a test
 abbrev pub ProperCondition : Condition → Type 0
@@ -62,17 +72,25 @@ Proper (rule c a) = ProperCondition c × ProperAction a
 abbrev pub made : {A : Type 0} → (Term → A) → List ℕ → List ℕ → Option A
 made make w t = word w t (λ r. then (termForm r) (λ y. finished (make y)))
 
+-- behind `F[u] := X`, with this operator
+abbrev pub combinedForm : ℕ → Term → Operator → List ℕ → Option Action
+combinedForm f x op t = made (combine f op x) (operatorText op) t
+
 -- behind `F[u] := X`
 unfoldable pub assigned : ℕ → Term → List ℕ → Option Action
-assigned f x t = or (finished (set f x) t) (or (made (sum f x) (bytes " + ") t) (made (difference f x) (bytes " - ") t))
+assigned f x t = or (finished (set f x) t) (or (combinedForm f x Plus t) (combinedForm f x Minus t))
 
 -- `F[u] := ..`: F is any capital, and `[u]` stands as it is
 unfoldable pub localForm : List ℕ → Option Action
 localForm t = then (capital t) (λ f r. word (bytes "[u] := ") r (λ r. then (termForm r) (assigned f)))
 
+-- behind `remote F[C]`, with this sort
+abbrev pub sentForm : ℕ → List ℕ → Sort → List ℕ → Option Action
+sentForm f c k t = made (remote k f c) (sortText k) t
+
 -- behind `remote F[C]`
 unfoldable pub sent : ℕ → List ℕ → List ℕ → Option Action
-sent f c t = or (made (least f c) (bytes " <?= ") t) (made (total f c) (bytes " += ") t)
+sent f c t = or (sentForm f c Least t) (sentForm f c Total t)
 
 -- behind `remote `: `F[C]` is the text of a chain whose outermost letter is F
 unfoldable pub remoteForm : C.Form → Option Action

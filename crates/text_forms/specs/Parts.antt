@@ -9,7 +9,8 @@ use Rattle.register.specs.declared.Sizes.{Sizes}
 use Rattle.laws.specs.Lists.{every}
 use Rattle.chain_text.specs.Text.{names, isReferenceLetter, innerReferences}
 use Rattle.text_forms.specs.Numeral.{numberValue}
-use Rattle.text_forms.specs.Written.{Term, chain, number, Condition, always, when, Action, set, sum, difference, least, total, Line, step, end, done, loop, rule}
+use Rattle.program.specs.declared.rule.Sort.the-variants.{Least, Total}
+use Rattle.text_forms.specs.Written.{Term, chain, number, Condition, always, when, Action, set, combine, remote, Line, step, end, done, loop, rule}
 
 -- the terms of a test from left to right
 unfoldable pub conditionTerms : Condition → List Term
@@ -19,10 +20,8 @@ conditionTerms (when x c y) = x ∷ y ∷ []
 -- the terms of a rule without its test, C standing for the remote target
 unfoldable pub actionTerms : Action → List Term
 actionTerms (set f x) = x ∷ []
-actionTerms (sum f x y) = x ∷ y ∷ []
-actionTerms (difference f x y) = x ∷ y ∷ []
-actionTerms (least f c x) = chain c ∷ x ∷ []
-actionTerms (total f c x) = chain c ∷ x ∷ []
+actionTerms (combine f op x y) = x ∷ y ∷ []
+actionTerms (remote k f c x) = chain c ∷ x ∷ []
 
 -- the terms of a line from left to right
 unfoldable pub terms : Line → List Term
@@ -40,10 +39,8 @@ everyTerm p (x ∷ xs) = p x && everyTerm p xs
 -- F, the field that a rule writes
 unfoldable pub target : Action → ℕ
 target (set f x) = f
-target (sum f x y) = f
-target (difference f x y) = f
-target (least f c x) = f
-target (total f c x) = f
+target (combine f op x y) = f
+target (remote k f c x) = f
 
 -- whether every capital of a term names a field of the register
 unfoldable pub termNamed : Sizes → Term → Bool
@@ -90,10 +87,9 @@ areMeasures f x = not (isReferenceLetter f) && not (isReferenceTerm x)
 -- "`+`, `-` and `+=` take measures only"; "C a chain of reference kind"
 unfoldable pub actionKinds : Action → Bool
 actionKinds (set f x) = same (isReferenceLetter f) (isReferenceTerm x)
-actionKinds (sum f x y) = areMeasures f x && areMeasures f y
-actionKinds (difference f x y) = areMeasures f x && areMeasures f y
-actionKinds (least f c x) = isReferenceTerm (chain c) && same (isReferenceLetter f) (isReferenceTerm x)
-actionKinds (total f c x) = isReferenceTerm (chain c) && areMeasures f x
+actionKinds (combine f op x y) = areMeasures f x && areMeasures f y
+actionKinds (remote Least f c x) = isReferenceTerm (chain c) && same (isReferenceLetter f) (isReferenceTerm x)
+actionKinds (remote Total f c x) = isReferenceTerm (chain c) && areMeasures f x
 
 -- whether the kinds of a line's sides agree
 unfoldable pub kindsAgree : Line → Bool

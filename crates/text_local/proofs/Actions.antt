@@ -14,16 +14,19 @@ use Rattle.text_forms.specs.Written as W
 use Rattle.text_forms.specs.Token.{Token, token, other, capital, then, word, or, finished, begins}
 use Rattle.text_forms.specs.Bytes.{bytes}
 use Rattle.text_forms.specs.Term.{termForm}
-use Rattle.text_forms.specs.Line.{made, assigned, localForm}
+use Rattle.text_forms.specs.Line.{made, combinedForm, assigned, localForm}
 use Rattle.text_forms.specs.Parts.{same, target, actionKinds, areMeasures, actionTerms, everyTerm, termNamed, termKinded, termShort, termInRange}
 use Rattle.text_terms.specs.Read.{partsOf, termChecks}
-use Rattle.text_local.specs.ActionRead.{letterRead, lastTerm, lastRead, combined, minusForm, sumForm, bothChecks, termsChecks, ruleChecks, actionChecks, measured, ruleOfAction, actionRead}
+use Rattle.text_local.specs.ActionRead.{letterRead, lastTerm, lastRead, bothChecks, termsChecks, ruleChecks, actionChecks, measured, ruleOfAction, actionRead}
 use Rattle.text_local.specs.declared.action.Letter.the-variants.{Capital, NoForm as NoLetter}
 use Rattle.text_local.specs.declared.action.LastRead.{LastRead}
 use Rattle.text_local.specs.declared.action.LastRead.the-variants.{Term, NoForm as NoTerm}
 use Rattle.text_local.specs.declared.action.ActionRead.the-variants.{Action, NoForm}
+use Rattle.program.specs.declared.rule.Operator.{Operator}
+use Rattle.program.specs.declared.rule.Operator.the-variants.{Plus, Minus}
 use Rattle.program.specs.declared.rule.Rule.{Rule}
-use Rattle.program.specs.declared.rule.Rule.the-variants.{Set}
+use Rattle.program.specs.declared.rule.Rule.the-variants.{Set, Combine}
+use Rattle.text_terms.specs.declared.term.Checks.{Checks}
 use Rattle.text_terms.specs.declared.term.TermParts.{TermParts}
 use Rattle.text_forms.proofs.Tokens.{word-begins, capital-is}
 use Rattle.text_tokens.proofs.Words.{Taken}
@@ -201,36 +204,42 @@ checks-two s x y = rw (and-one (termNamed s y), and-one (termKinded y), and-one 
 
 -- the answers for the rules, by the parts of their terms
 module _ (s : Sizes) (f : ℕ) (p : TermParts) (x : W.Term) (e : p ≡ partsOf s x) where
-  pub set-read : Action (Set (fieldOf f) (p .term)) (ruleChecks (names s f) (same (isReferenceLetter f) (p .reference)) (p .checks)) ≡ actionRead s (some (W.set f x))
+  pub set-read : Action (Set (fieldOf f) (p .term)) (ruleChecks (names s f) (same (isReferenceLetter f) (p .reference)) (p .checks))
+      ≡ actionRead s (some (W.set f x))
   unfolding actionRead ruleOfAction actionChecks target actionKinds actionTerms partsOf
   set-read = rw (e, checks-one s x)
 
-  module _ (q : TermParts) (y : W.Term) (h : q ≡ partsOf s y) where
-    pub combined-read : (minus : Bool) {r : Rule} → let a = combined minus f x y in r ≡ ruleOfAction a
-        → Action r (ruleChecks (names s f) (measured f (p .reference) && measured f (q .reference)) (bothChecks (p .checks) (q .checks))) ≡ actionRead s (some a)
-    unfolding actionRead actionChecks target actionKinds areMeasures measured actionTerms partsOf
-    combined-read true k = rw (k, e, h, checks-two s x y)
-    combined-read false k = rw (k, e, h, checks-two s x y)
+  pub combined-read : (op : Operator) (q : TermParts) (y : W.Term) → q ≡ partsOf s y
+      → Action (Combine (fieldOf f) op (p .term) (q .term))
+      (ruleChecks (names s f) (measured f (p .reference) && measured f (q .reference)) (bothChecks (p .checks) (q .checks)))
+      ≡ actionRead s (some (W.combine f op x y))
+  unfolding actionRead ruleOfAction actionChecks target actionKinds areMeasures measured actionTerms partsOf
+  combined-read op q y h = rw (e, h, checks-two s x y)
 
--- the answers behind `F[u] := X`, by what the reader of the last term finds
-module _ (s : Sizes) (f : ℕ) (x : W.Term) (t : List ℕ) where
-  pub minus-none : lastRead s (lastTerm (bytes " - ") t) ≡ NoTerm → actionRead s (minusForm f x t) ≡ NoForm
-  unfolding actionRead
-  minus-none e = ap (actionRead s) (made-none s (bytes " - ") t (combined true f x) e)
+no-action : {A : Type 0} {r : Rule} {k : Checks} → NoForm ≡ Action r k → A
+no-action e = absurd (let z : _≡_ {A = ℕ} 0 1 = cc in omega arith)
 
-  pub minus-some : {p : TermParts} (l : Last s (bytes " - ") t p) → minusForm f x t ≡ some (combined true f x (l .written))
-  minus-some l = made-some s (bytes " - ") t (combined true f x) l
+-- the answer for the first of two forms, or for the second where there is no first
+module _ (s : Sizes) (o y : Option W.Action) where
+  pub or-refused : actionRead s o ≡ NoForm → actionRead s (or o y) ≡ actionRead s y
+  unfolding actionRead or
+  or-refused e = go o e
+    where
+      go : (o : Option W.Action) → actionRead s o ≡ NoForm → actionRead s (or o y) ≡ actionRead s y
+      go none e = refl
+      go (some a) e = no-action (sym e)
 
-  pub sum-none : lastRead s (lastTerm (bytes " + ") t) ≡ NoTerm → sumForm f x t ≡ minusForm f x t
-  unfolding or
-  sum-none e = rw (made-none s (bytes " + ") t (combined false f x) e)
+  pub or-found : {r : Rule} {k : Checks} → actionRead s o ≡ Action r k → actionRead s (or o y) ≡ Action r k
+  unfolding actionRead or
+  or-found {r} {k} e = go o e
+    where
+      go : (o : Option W.Action) → actionRead s o ≡ Action r k → actionRead s (or o y) ≡ Action r k
+      go none e = no-action e
+      go (some a) e = e
 
-  pub sum-some : {p : TermParts} (l : Last s (bytes " + ") t p) → sumForm f x t ≡ some (combined false f x (l .written))
-  unfolding or
-  sum-some l = rw (made-some s (bytes " + ") t (combined false f x) l)
-
+-- what stands behind `F[u] := X`
 module _ (f : ℕ) (x : W.Term) (t : List ℕ) (at : ℕ) where
-  pub assigned-more : at < length t → assigned f x (drop at t) ≡ sumForm f x (drop at t)
+  pub assigned-more : at < length t → let r = drop at t in assigned f x r ≡ or (combinedForm f x Plus r) (combinedForm f x Minus r)
   unfolding assigned or
   assigned-more h = rw (finished-more (W.set f x) t at h)
 

@@ -1,7 +1,7 @@
 -- What the readers of a rule and its parts answer, and a rule's test as a program holds it.
 use Prim.Native.Nat.{ℕ}
 use mathlib.Core.Path.{_≡_}
-use mathlib.Core.Bool.{Bool, true, false, not, _&&_}
+use mathlib.Core.Bool.{Bool, not, _&&_}
 use mathlib.Core.List.{List}
 use mathlib.Core.Option.{Option, none, some}
 use lib.ListN.{take}
@@ -9,16 +9,14 @@ use Rattle.register.specs.declared.Sizes.{Sizes}
 use Rattle.chain.specs.Word.{pack}
 use Rattle.chain_text.specs.Text.{names, fieldOf, wordOf, isReferenceLetter}
 use Rattle.text_forms.specs.Written as W
-use Rattle.text_forms.specs.Token.{Token, token, other, then, word, or, finished}
+use Rattle.text_forms.specs.Token.{Token, token, other, then, word, finished}
 use Rattle.text_forms.specs.Term.{termForm}
-use Rattle.text_forms.specs.Line.{made}
-use Rattle.text_forms.specs.Bytes.{bytes}
 use Rattle.text_forms.specs.Parts.{everyTerm, termNamed, termKinded, termShort, termInRange, actionTerms, target, actionKinds}
 use Rattle.text_terms.specs.Read.{termOf, partsOf}
 use Rattle.text_terms.specs.declared.term.Checks.{Checks}
 use Rattle.text_terms.specs.declared.term.TermParts.{TermParts}
 use Rattle.program.specs.declared.rule.Rule.{Rule}
-use Rattle.program.specs.declared.rule.Rule.the-variants.{Set, Sum, Difference, Least, Total}
+use Rattle.program.specs.declared.rule.Rule.the-variants.{Set, Combine, Remote}
 use Rattle.program.specs.declared.rule.Test.{Test}
 use Rattle.program.specs.declared.rule.Test.the-variants.{Always, When}
 use Rattle.text_local.specs.declared.action.Letter.{Letter}
@@ -65,10 +63,8 @@ packed ls = pack (wordOf (take 16 ls))
 -- a rule as a program holds it
 unfoldable pub ruleOfAction : W.Action → Rule
 ruleOfAction (W.set f x) = Set (fieldOf f) (termOf x)
-ruleOfAction (W.sum f x y) = Sum (fieldOf f) (termOf x) (termOf y)
-ruleOfAction (W.difference f x y) = Difference (fieldOf f) (termOf x) (termOf y)
-ruleOfAction (W.least f c x) = Least (fieldOf f) (packed c) (termOf x)
-ruleOfAction (W.total f c x) = Total (fieldOf f) (packed c) (termOf x)
+ruleOfAction (W.combine f op x y) = Combine (fieldOf f) op (termOf x) (termOf y)
+ruleOfAction (W.remote k f c x) = Remote k (fieldOf f) (packed c) (termOf x)
 
 -- the answer for a rule's form
 unfoldable pub actionRead : Sizes → Option W.Action → ActionRead
@@ -89,26 +85,9 @@ unfoldable pub lastRead : Sizes → Option W.Term → LastRead
 lastRead s none = NoTerm
 lastRead s (some x) = Term (partsOf s x)
 
--- `F[u] := X + Y`, or with a minus `F[u] := X - Y`
-abbrev pub combined : Bool → ℕ → W.Term → W.Term → W.Action
-combined true f x y = W.difference f x y
-combined false f x y = W.sum f x y
-
--- ` - Y` behind `F[u] := X`
-abbrev pub minusForm : ℕ → W.Term → List ℕ → Option W.Action
-minusForm f x t = made (combined true f x) (bytes " - ") t
-
--- ` + Y` or ` - Y` behind `F[u] := X`
-abbrev pub sumForm : ℕ → W.Term → List ℕ → Option W.Action
-sumForm f x t = or (made (combined false f x) (bytes " + ") t) (minusForm f x t)
-
 -- an answer that is right for every term with these parts
 abbrev pub ForTerm : Sizes → TermParts → (W.Term → ActionRead) → ActionRead → Type 0
 ForTerm s p answer r = (w : W.Term) → p ≡ partsOf s w → r ≡ answer w
-
--- an answer that is right for every two terms with these parts
-abbrev pub ForTerms : Sizes → TermParts → TermParts → (W.Term → W.Term → ActionRead) → ActionRead → Type 0
-ForTerms s p q answer r = (v w : W.Term) → p ≡ partsOf s v → q ≡ partsOf s w → r ≡ answer v w
 
 -- a test as a program holds it
 unfoldable pub testOf : W.Condition → Test

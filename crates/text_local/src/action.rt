@@ -1,17 +1,17 @@
 // A rule without its test, read token after token.
 ghost use mathlib.Core.Path.{_≡_};
 ghost use mathlib.Core.Bool.{true};
-ghost use mathlib.Core.Option.{some};
 ghost use Prim.Native.Nat.{_≤_};
 ghost use lib.ListN.{length, drop};
 ghost use Rattle.register.specs.Shape.{Limits};
 ghost use Rattle.chain_text.specs.Text.{isCapital, names};
 ghost use Rattle.text_forms.specs.Token.{capital};
 ghost use Rattle.text_forms.specs.Parts.{same as sameKind};
-ghost use Rattle.text_forms.specs.Line.{assigned, localForm};
+ghost use Rattle.text_forms.specs.Line.{operatorText, combinedForm, assigned, localForm};
 ghost use Rattle.text_local.specs.declared.action.ActionRead.the-variants.{Action};
-ghost use Rattle.text_local.specs.ActionRead.{bothChecks, ruleChecks, lastTerm, lastRead, letterRead, measured, actionRead, combined as combinedAction, ForTerm, ForTerms, minusForm, sumForm};
+ghost use Rattle.text_local.specs.ActionRead.{bothChecks, ruleChecks, lastTerm, lastRead, letterRead, measured, actionRead, ForTerm};
 use chain_text::letters;
+use program::rule::Operator;
 use program::rule::Rule;
 use register::Sizes;
 use text_terms::term;
@@ -60,7 +60,7 @@ pub fn both(a: Checks, b: Checks) -> Checks
 pub fn measures(letter: u8, reference: bool) -> bool
     ensures { λ r. ⌜ r ≡ measured letter reference ⌝ }
 {
-    !(letter < 77) & !reference
+    !(letter < b'M') & !reference
 }
 
 // A rule that writes the letter's field, with what is asked of its terms and whether the kinds agree.
@@ -107,62 +107,55 @@ pub fn read_last(line: &[u8], at: usize, word: &[u8], sizes: Sizes) -> LastRead
     LastRead::Term(x)
 }
 
-// `F[u] := X + Y`, or with a minus `F[u] := X - Y`, by the parts of X and Y.
-fn combined(minus: bool, letter: u8, x: TermParts, y: TermParts, sizes: Sizes) -> ActionRead
-    requires { ⌜ Limits sizes × (isCapital letter ≡ true) ⌝ }
-    ensures { λ r. ⌜ ForTerms sizes x y (λ v w. actionRead sizes (some (combinedAction minus letter v w))) r ⌝ }
+// An operator, and behind it the term that ends the line.
+fn read_operand(line: &[u8], at: usize, operator: Operator, sizes: Sizes) -> LastRead
+    requires { ⌜ Limits sizes × (at ≤ length (now line)) ⌝ }
+    ensures { λ r. ⌜ r ≡ lastRead sizes (lastTerm (operatorText operator) (drop at (now (line .entry)))) ⌝ }
 {
-    let field = letters::field_of(letter);
+    match operator {
+        Operator::Plus => read_last(line, at, b" + ", sizes),
+        Operator::Minus => read_last(line, at, b" - ", sizes),
+    }
+}
+
+// An operator and Y behind `F[u] := X`.
+fn read_combined(
+    line: &[u8],
+    at: usize,
+    operator: Operator,
+    letter: u8,
+    x: TermParts,
+    sizes: Sizes,
+) -> ActionRead
+    requires { ⌜ Limits sizes × (at ≤ length (now line)) × (isCapital letter ≡ true) ⌝ }
+    ensures { λ r. ⌜ ForTerm sizes x (λ w. actionRead sizes (combinedForm letter w operator (drop at (now (line .entry))))) r ⌝ }
+{
+    let LastRead::Term(y) = read_operand(line, at, operator, sizes) else {
+        return ActionRead::NoForm;
+    };
     let first = x.term;
     let second = y.term;
-    let rule = if minus {
-        Rule::Difference(field, first, second)
-    } else {
-        Rule::Sum(field, first, second)
-    };
+    let rule = Rule::Combine(letters::field_of(letter), operator, first, second);
     let kinds = measures(letter, x.reference) & measures(letter, y.reference);
     action(rule, letter, kinds, both(x.checks, y.checks), sizes)
 }
 
-// ` - Y` behind `F[u] := X`.
-fn read_difference(line: &[u8], at: usize, letter: u8, x: TermParts, sizes: Sizes) -> ActionRead
-    requires { ⌜ Limits sizes × (at ≤ length (now line)) × (isCapital letter ≡ true) ⌝ }
-    ensures { λ r. ⌜ ForTerm sizes x (λ w. actionRead sizes (minusForm letter w (drop at (now (line .entry))))) r ⌝ }
-{
-    let LastRead::Term(y) = read_last(line, at, b" - ", sizes) else {
-        return ActionRead::NoForm;
-    };
-    combined(true, letter, x, y, sizes)
-}
-
-// ` + Y` or ` - Y` behind `F[u] := X`.
-fn read_sum(line: &[u8], at: usize, letter: u8, x: TermParts, sizes: Sizes) -> ActionRead
-    requires { ⌜ Limits sizes × (at ≤ length (now line)) × (isCapital letter ≡ true) ⌝ }
-    ensures { λ r. ⌜ ForTerm sizes x (λ w. actionRead sizes (sumForm letter w (drop at (now (line .entry))))) r ⌝ }
-{
-    let LastRead::Term(y) = read_last(line, at, b" + ", sizes) else {
-        return read_difference(line, at, letter, x, sizes);
-    };
-    combined(false, letter, x, y, sizes)
-}
-
-// What stands behind `F[u] := X`.
+// What stands behind `F[u] := X`: nothing, ` + Y` or ` - Y`.
 fn read_assigned(line: &[u8], at: usize, letter: u8, x: TermParts, sizes: Sizes) -> ActionRead
     requires { ⌜ Limits sizes × (at ≤ length (now line)) × (isCapital letter ≡ true) ⌝ }
     ensures { λ r. ⌜ ForTerm sizes x (λ w. actionRead sizes (assigned letter w (drop at (now (line .entry))))) r ⌝ }
 {
-    if at < line.len() {
-        return read_sum(line, at, letter, x, sizes);
+    if line.len() <= at {
+        let term = x.term;
+        let rule = Rule::Set(letters::field_of(letter), term);
+        let kinds = same(letter < b'M', x.reference);
+        return action(rule, letter, kinds, x.checks, sizes);
     }
-    let kinds = same(letter < 77, x.reference);
-    let term = x.term;
-    action(
-        Rule::Set(letters::field_of(letter), term),
-        letter,
-        kinds,
-        x.checks,
-        sizes,
-    )
+    let ActionRead::Action(rule, checks) = read_combined(line, at, Operator::Plus, letter, x, sizes)
+    else {
+        return read_combined(line, at, Operator::Minus, letter, x, sizes);
+    };
+    ActionRead::Action(rule, checks)
 }
 
 // `F[u] := X`, `F[u] := X + Y` or `F[u] := X - Y`.

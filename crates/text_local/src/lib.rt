@@ -1,2 +1,2 @@
-// The rules of a program, and the readers of a local rule without its test.
+// The readers of a local rule without its test.
 pub mod action;

@@ -21,7 +21,7 @@ use Rattle.text_rules.specs.Text as T
 use Rattle.laws.specs.Lists.{Each}
 use Rattle.text_rules.proofs.Checked.{Fine}
 use Rattle.laws.proofs.Lists.{each-front, each-back}
-use Rattle.program.specs.Stored.{termOf, testOf, actionOf, ruleOf}
+use Rattle.program.specs.Stored.{termOf, testOf, targetOf, expressionOf, ruleOf}
 
 module _ (s : Sizes) (lim : Limits s) where
   chain-of : (ls : List ℕ) → Fine s (W.chain ls) → unpack (pack (wordOf (take 16 ls))) ≡ wordOf ls
@@ -38,17 +38,22 @@ module _ (s : Sizes) (lim : Limits s) where
   test-of W.always w = refl
   test-of (W.when x c y) w = rw (term-of x (w .0), term-of y (w .1 .0))
 
-  action-of : (a : W.Action) → Each (Fine s) (actionTerms a) → actionOf (ruleOfAction a) ≡ T.actionOf a
-  unfolding actionOf ruleOfAction T.actionOf actionTerms
-  action-of (W.set f x) w = ap (P.set (fieldOf f)) (term-of x (w .0))
-  action-of (W.sum f x y) w = ap₂ (P.sum (fieldOf f)) (term-of x (w .0)) (term-of y (w .1 .0))
-  action-of (W.difference f x y) w = ap₂ (P.difference (fieldOf f)) (term-of x (w .0)) (term-of y (w .1 .0))
-  action-of (W.least f c x) w = ap₂ (P.least (fieldOf f)) (chain-of c (w .0)) (term-of x (w .1 .0))
-  action-of (W.total f c x) w = ap₂ (P.total (fieldOf f)) (chain-of c (w .0)) (term-of x (w .1 .0))
+  target-of : (a : W.Action) → Each (Fine s) (actionTerms a) → targetOf (ruleOfAction a) ≡ T.targetOf a
+  unfolding targetOf ruleOfAction T.targetOf actionTerms
+  target-of (W.set f x) w = refl
+  target-of (W.combine f op x y) w = refl
+  target-of (W.remote k f c x) w = ap (P.remote k (fieldOf f)) (chain-of c (w .0))
+
+  expression-of : (a : W.Action) → Each (Fine s) (actionTerms a) → expressionOf (ruleOfAction a) ≡ T.expressionOf a
+  unfolding expressionOf ruleOfAction T.expressionOf actionTerms
+  expression-of (W.set f x) w = term-of x (w .0)
+  expression-of (W.combine f op x y) w = ap₂ (P.operation op) (term-of x (w .0)) (term-of y (w .1 .0))
+  expression-of (W.remote k f c x) w = term-of x (w .1 .0)
 
   -- a rule of a line that passed 9 to 12
   pub rule-of : (c : W.Condition) (a : W.Action) → Each (Fine s) (conditionTerms c ++ actionTerms a)
-      → ruleOf (record { test = L.testOf c; rule = ruleOfAction a }) ≡ record { test = T.testOf c; action = T.actionOf a }
-  unfolding ruleOf
+      → ruleOf (record { test = L.testOf c; rule = ruleOfAction a }) ≡ T.ruleOf c a
+  unfolding ruleOf T.ruleOf
   rule-of c a w =
-      ap₂ (λ (t : P.Test) (b : P.Action). record { test = t; action = b }) (test-of c (each-front (Fine s) (conditionTerms c) (actionTerms a) w)) (action-of a (each-back (Fine s) (conditionTerms c) (actionTerms a) w))
+      let b = each-back (Fine s) (conditionTerms c) (actionTerms a) w in
+      rw (test-of c (each-front (Fine s) (conditionTerms c) (actionTerms a) w), target-of a b, expression-of a b)

@@ -1,2 +1,3 @@
--- The rules of a step as the array holds them, and its plan that grows by their readings.
+-- A step's plan that grows by the readings of its rules, and the lines of it that they read.
 pub mod Readings
+pub mod Listed

@@ -1,12 +1,12 @@
 -- What each sort of line that has passed does to the reader's arrays and to the plan of the open step.
 use Prim.Native.Nat.{ℕ, _+_, _-_, _*_, _≤_, _<_}
-use mathlib.Core.Path.{_≡_, refl, sym, ap, ap₂, subst, _∙_}
-use mathlib.Core.Bool.{Bool, true, false, not, _&&_}
-use mathlib.Core.List.{List, [], _∷_, _++_, append-nil, append-assoc}
+use mathlib.Core.Path.{_≡_, refl, sym, ap, _∙_}
+use mathlib.Core.Bool.{Bool, true, false, not}
+use mathlib.Core.List.{List, [], _∷_, _++_}
 use mathlib.Core.Option.{Option, none, some}
 use native.Mathlib.Omega.{arith}
 use native.Mathlib.Numerals.{add-one}
-use borrow.Author.Tests.{ltb-true, leb-true, le-ltb, not-true, not-false}
+use borrow.Author.Tests.{ltb-true, leb-true, le-ltb, not-true}
 use lib.ListN.{length, getD, take, drop, set, length-set}
 use lib.Seq.{length-take-le, take-suc-set}
 use Rattle.register.specs.Shape.{Limits}
@@ -14,11 +14,9 @@ use Rattle.register.specs.declared.Sizes.{Sizes}
 use Rattle.laws.proofs.Bools.{and-both, true-false}
 use Rattle.chain.specs.Word.{unpack}
 use Rattle.chain.proofs.Packing.{unpack-none}
-use Rattle.plan_theory.specs.Plan.{add-readings, plan}
-use Rattle.plan_lines.specs.Held.{facts, Keyed, Holds, Extended}
-use Rattle.plan_lines.specs.declared.Plan.{Plan}
+use Rattle.plan_theory.specs.Plan.{plan}
+use Rattle.plan_lines.specs.Held.{facts, Holds}
 use Rattle.plan_lines.specs.declared.Added.{Added}
-use Rattle.plan_lines.proofs.Adding.{holds-facts, extended-holds, extended-same}
 use Rattle.plan_lines.proofs.Appending.{holds-count}
 use Rattle.text_forms.specs.Written as W
 use Rattle.text_forms.specs.Written.{Line, step, end, done, loop, rule}
@@ -33,37 +31,43 @@ use Rattle.text_line.specs.declared.line.LineRead.the-variants as L
 use Rattle.program.specs.declared.rule.Test.{Test}
 use Rattle.program.specs.declared.rule.Test.the-variants.{Always, When}
 use Rattle.program.specs.declared.rule.Rule as C
-use Rattle.program.specs.declared.rule.Rule.the-variants.{Set, Sum, Difference, Least, Total}
+use Rattle.program.specs.declared.rule.Rule.the-variants.{Set, Combine, Remote}
+use Rattle.program.specs.declared.rule.Sort.the-variants.{Least, Total}
 use Rattle.program.specs.declared.rule.Slot.{Slot}
-use Rattle.program.specs.Program.{Rule, Step, ruleReadings, readings, stepPlan}
+use Rattle.program.specs.declared.location.Located.{Located}
+use Rattle.program.specs.declared.location.Locations.{Locations}
+use Rattle.program.specs.Location.{chainIn, testChains, ruleChains, slotChains, locationsIn}
+use Rattle.program.specs.Program.{Rule, Step, stepPlan}
 use Rattle.text_rules.specs.Check.{State, isOutside, isUsed, isOpen, openRules, inPlace, hasRoom, planFits}
 use Rattle.text_rules.specs.Text as T
 use Rattle.text_rules.specs.Text.{settingIn, closeLoop, advance}
-use Rattle.program.specs.Passed.{TermPasses, TestPasses, ActionPasses, RulePasses, Loops}
+use Rattle.program.specs.Passed.{ExpressionPasses, TestPasses, TargetPasses, RulePasses, Loops}
 use Rattle.text_rules.specs.declared.around.Around.{Around}
 use Rattle.text_rules.specs.declared.around.Around.the-variants.{Outside, Unused, Used}
 use Rattle.text_rules.proofs.Checked.{Clean, rule-fine}
 use Rattle.text_rules.proofs.Loops.{openLoop}
 use Rattle.text_rules.proofs.Passing.{Reached}
-use Rattle.program.specs.Stored.{termOf, testOf, actionOf, ruleOf, rulesIn}
-use Rattle.program.specs.Kept.{stepsIn, FrameOf, Framed}
-use Rattle.text_plan.specs.Readings.{chainIn, testChains, ruleChains, slotChains, pairWords, words, Short, Sound, PlannedWith, allSettled}
+use Rattle.program.specs.Stored.{termOf, testOf, targetOf, expressionOf, ruleOf, rulesIn}
+use Rattle.program.specs.Kept.{stepsIn, FrameOf, Framed, AllLocated}
+use Rattle.text_plan.specs.Readings.{pairWords, words, Short, PlannedWith}
+use Rattle.text_plan.specs.Listed.{withWanted}
 use Rattle.text_state.specs.State.{noRules, moreRules, withRemote, withRule, frameOf, lastFrame, standing, advanceOf}
 use Rattle.text_state.specs.declared.tally.Tally.{Tally}
 use Rattle.program.specs.declared.frame.Frame.{Frame}
 use Rattle.text_state.specs.declared.state.State as S
-use Rattle.text_plan.proofs.Plans.{readings-full, all-same, slot-plan}
 use Rattle.text_plan.proofs.Slots.{rule-of}
 use Rattle.text_state.proofs.Standing.{Stands}
-use Rattle.text_reader.proofs.Keeping.{store-steps, store-rule, more-frames, framed-more, close-frames, framed-close}
+use Rattle.text_reader.proofs.Keeping.{store-steps, store-located, store-place, store-rule, more-frames, more-located, framed-more, close-frames, framed-close, located-close}
+use Rattle.text_reader.proofs.Opening.{OpenStep, open-none, open-still, open-rule, open-located}
 
 -- what the arrays hold of the lines so far
-pub record Kept (slots : List Slot) (frames : List Frame) (x : S.State) (st : State) : Type 0 where
+pub record Kept (slots : List Located) (frames : List Frame) (x : S.State) (st : State) : Type 0 where
   pub slots-length : length slots ≡ 1024
   pub frames-length : length frames ≡ 32
   pub steps-are : stepsIn slots (take (x .steps) frames) ≡ st .steps
   pub rules-are : rulesIn (x .tally .rules) (take 32 (drop (32 * x .steps) slots)) ≡ openRules st
   pub framed : Framed frames (st .steps)
+  pub located : AllLocated slots (take (x .steps) frames)
 
 -- the open step's rules where none is open
 closed-none : (st : State) → isOpen st ≡ false → openRules st ≡ []
@@ -74,26 +78,19 @@ closed-none st h = go (st .open-rules) h
     go none h = refl
     go (some rs) h = true-false refl h
 
--- one rule more
-readings-more : (rs : List Rule) (r : Rule) → readings (rs ++ (r ∷ [])) ≡ readings rs ++ ruleReadings r
-unfolding readings
-readings-more [] r = append-nil (ruleReadings r)
-readings-more (q ∷ rs) r = ap (λ (ws : List (List ℕ)). ruleReadings q ++ ws) (readings-more rs r) ∙ sym (append-assoc (ruleReadings q) (readings rs) (ruleReadings r))
-
 rules-more : (x : Tally) (r : C.Rule) → withRule x r .rules ≡ x .rules + 1
 unfolding withRule moreRules withRemote
 rules-more x (Set f y) = refl
-rules-more x (Sum f y z) = refl
-rules-more x (Difference f y z) = refl
-rules-more x (Least f c y) = refl
-rules-more x (Total f c y) = refl
+rules-more x (Combine f op y z) = refl
+rules-more x (Remote Least f c y) = refl
+rules-more x (Remote Total f c y) = refl
 
 -- the chains of a rule that has passed are of at most 16 hops
 none-short : length (unpack 0) ≤ 16
 none-short = rw unpack-none (omega arith)
 
 module _ (s : Sizes) where
-  term-short : (t : Term) → TermPasses s (termOf t) → length (unpack (chainIn t)) ≤ 16
+  term-short : (t : Term) → ExpressionPasses s (termOf t) → length (unpack (chainIn t)) ≤ 16
   unfolding chainIn termOf
   term-short (Chain n) p = p .short
   term-short (Number z) p = none-short
@@ -103,43 +100,15 @@ module _ (s : Sizes) where
   test-short Always p = (none-short, (none-short, tt))
   test-short (When x c y) p = (term-short x (p .0), (term-short y (p .1), tt))
 
-  rule-short : (r : C.Rule) → ActionPasses s (actionOf r) → Short (pairWords (ruleChains r))
-  unfolding ruleChains actionOf
-  rule-short (Set f x) p = (term-short x (p .passes), (none-short, tt))
-  rule-short (Sum f x y) p = (term-short x (p .0 .passes), (term-short y (p .1 .passes), tt))
-  rule-short (Difference f x y) p = (term-short x (p .0 .passes), (term-short y (p .1 .passes), tt))
-  rule-short (Least f c x) p = (p .0 .passes .short, (term-short x (p .1 .passes), tt))
-  rule-short (Total f c x) p = (p .0 .passes .short, (term-short x (p .1 .passes), tt))
+  rule-short : (r : C.Rule) → TargetPasses s (targetOf r) → ExpressionPasses s (expressionOf r) → Short (pairWords (ruleChains r))
+  unfolding ruleChains targetOf expressionOf
+  rule-short (Set f x) t p = (term-short x p, (none-short, tt))
+  rule-short (Combine f op x y) t p = (term-short x (p .0 .0), (term-short y (p .1 .0), tt))
+  rule-short (Remote k f c x) t p = (t .passes .short, (term-short x p, tt))
 
   pub slot-short : (x : Slot) → RulePasses s (ruleOf x) → Short (words (slotChains x))
   unfolding slotChains ruleOf
-  slot-short x p = let t = test-short (x .test) (p .test) in let r = rule-short (x .rule) (p .action) in (t .0, (t .1 .0, r))
-
--- what a plan of the readings so far can take
-module _ (rs : List Rule) {p : Plan} {full : Bool} (e : Extended (stepPlan rs) (record { plan = p; full = full })) where
-  pub open-sound : Sound (record { plan = p; full = full })
-  open-sound = record { holds = λ n. holds-facts (extended-holds e n) }
-
-  pub open-keyed : full ≡ false → Keyed (p .keys) (p .count)
-  open-keyed n = extended-holds e n .keyed
-
-  pub open-more : (x : Slot) {r : Added} → PlannedWith (record { plan = p; full = full }) (words (slotChains x)) r → Extended (stepPlan (rs ++ (ruleOf x ∷ []))) r
-  unfolding stepPlan
-  open-more x {r} h =
-      subst (λ (l : List _). Extended l r) (slot-plan (readings rs) x ∙ ap plan (sym (readings-more rs (ruleOf x)))) (h .extends (readings rs) e)
-
-  -- a plan that does not grow: it is full, or it has the lines
-  pub open-same : (x : Slot) → not full && not (allSettled (facts p) (slotChains x)) ≡ false → Extended (stepPlan (rs ++ (ruleOf x ∷ []))) (record { plan = p; full = full })
-  open-same x h = open-more x (go full refl)
-    where
-      go : (b : Bool) → full ≡ b → PlannedWith (record { plan = p; full = full }) (words (slotChains x)) (record { plan = p; full = full })
-      go true y = readings-full (record { plan = p; full = full }) open-sound (words (slotChains x)) y
-      go false n = all-same (record { plan = p; full = full }) open-sound n (slotChains x) (not-false _ (sym (ap (λ (b : Bool). not b && not (allSettled (facts p) (slotChains x))) n) ∙ h))
-
--- the open step where the next line leaves none
-module _ (st : State) {p : Plan} {full : Bool} (e : Extended (stepPlan (openRules st)) (record { plan = p; full = full })) where
-  still-none : isOpen st ≡ false → Extended (stepPlan []) (record { plan = p; full = full })
-  still-none h = subst (λ (rs : List Rule). Extended (stepPlan rs) (record { plan = p; full = full })) (closed-none st h) e
+  slot-short x p = let t = test-short (x .test) (p .test) in let r = rule-short (x .rule) (p .target) (p .expression) in (t .0, (t .1 .0, r))
 
 -- the line, from what the line reader answered
 tag : LineRead → ℕ
@@ -208,26 +177,44 @@ used-steps (Unused f) xs u h = true-false u refl
 used-steps (Used f) [] u h = absurd (let z : _≡_ {A = ℕ} 0 1 = cc in omega arith)
 used-steps (Used f) (x ∷ xs) u h = omega arith
 
--- the arrays and the plan behind a line
-pub record Behind (slots : List Slot) (frames : List Frame) (p : Plan) (full : Bool) (x : S.State) (st : State) : Type 0 where
-  pub kept : Kept slots frames x st
-  pub planned : Extended (stepPlan (openRules st)) (record { plan = p; full = full })
+-- the places of the open step's rules
+abbrev pub openPlaces : List Located → S.State → List Located
+openPlaces slots x = take (x .tally .rules) (take 32 (drop (32 * x .steps) slots))
 
-module _ (s : Sizes) (lim : Limits s) {slots : List Slot} {frames : List Frame} {p : Plan} {full : Bool} {x : S.State} {st : State}
-    (r : Reached s st) (h : Stands x st) (b : Behind slots frames p full x st) (n : ℕ) where
+-- the arrays and the open step behind a line
+pub record Behind (slots : List Located) (frames : List Frame) (p : Added) (wanted : List Bool) (x : S.State) (st : State) : Type 0 where
+  pub kept : Kept slots frames x st
+  pub opened : OpenStep (openRules st) (openPlaces slots x) p wanted
+
+module _ (s : Sizes) (lim : Limits s) {slots : List Located} {frames : List Frame} {p : Added} {wanted : List Bool} {x : S.State} {st : State}
+    (r : Reached s st) (h : Stands x st) (b : Behind slots frames p wanted x st) (n : ℕ) where
   -- these store nothing
-  pub at-step : Clean s st step → Behind slots frames p full (advanceOf x n L.Step) (advance st step)
+  pub at-step : Clean s st step → Behind slots frames p wanted (advanceOf x n L.Step) (advance st step)
   unfolding advanceOf standing advance openRules inPlace rulesIn noRules
   at-step k = record {
-    kept = record { slots-length = b .kept .slots-length; frames-length = b .kept .frames-length; steps-are = b .kept .steps-are; rules-are = refl; framed = b .kept .framed };
-    planned = still-none st (b .planned) (not-true _ (k .placed));
+    kept = record {
+      slots-length = b .kept .slots-length;
+      frames-length = b .kept .frames-length;
+      steps-are = b .kept .steps-are;
+      rules-are = refl;
+      framed = b .kept .framed;
+      located = b .kept .located;
+    };
+    opened = open-still (b .opened) (closed-none st (not-true _ (k .placed)));
   }
 
-  pub at-loop : (f g : ℕ) (named : Bool) → Clean s st (loop f) → Behind slots frames p full (advanceOf x n (L.Loop g named)) (advance st (loop f))
+  pub at-loop : (f g : ℕ) (named : Bool) → Clean s st (loop f) → Behind slots frames p wanted (advanceOf x n (L.Loop g named)) (advance st (loop f))
   unfolding advanceOf standing advance openRules inPlace rulesIn noRules
   at-loop f g named k = record {
-    kept = record { slots-length = b .kept .slots-length; frames-length = b .kept .frames-length; steps-are = b .kept .steps-are; rules-are = refl; framed = b .kept .framed };
-    planned = still-none st (b .planned) (not-true _ (and-both (not (isOpen st)) (isOutside (st .around)) (k .placed) .0));
+    kept = record {
+      slots-length = b .kept .slots-length;
+      frames-length = b .kept .frames-length;
+      steps-are = b .kept .steps-are;
+      rules-are = refl;
+      framed = b .kept .framed;
+      located = b .kept .located;
+    };
+    opened = open-still (b .opened) (closed-none st (not-true _ (and-both (not (isOpen st)) (isOutside (st .around)) (k .placed) .0)));
   }
 
   -- a rule stands in its place, and the plan is that of the rules with it
@@ -235,7 +222,7 @@ module _ (s : Sizes) (lim : Limits s) {slots : List Slot} {frames : List Frame} 
     abbrev slot : Slot
     slot = record { test = R.testOf c; rule = ruleOfAction a }
 
-    pub rule-is : ruleOf slot ≡ record { test = T.testOf c; action = T.actionOf a }
+    pub rule-is : ruleOf slot ≡ T.ruleOf c a
     rule-is = rule-of s lim c a (rule-fine s st c a k)
 
     pub rule-steps : x .steps < 32
@@ -246,26 +233,29 @@ module _ (s : Sizes) (lim : Limits s) {slots : List Slot} {frames : List Frame} 
     unfolding hasRoom
     rule-rules = omega (arith, ltb-true (length (openRules st)) 32 (k .room), h .tally-is .rules-are)
 
-    pub at-rule : {q : Plan} {g : Bool} (ch : Checks) → Extended (stepPlan (openRules st ++ (ruleOf slot ∷ []))) (record { plan = q; full = g })
-        → Behind (set slots (32 * x .steps + x .tally .rules) slot) frames q g (advanceOf x n (L.Rule slot ch)) (advance st (rule c a))
+    -- the place of the rule, behind the closed steps and the rules of this one
+    abbrev here : ℕ
+    here = 32 * x .steps + x .tally .rules
+
+    pub at-rule : (ch : Checks) {q : Added} → PlannedWith p (words (slotChains slot)) q
+        → {at : Locations} → at ≡ locationsIn (facts (q .plan)) (slotChains slot)
+        → Behind (set slots here (record { slot = slot; at = at })) frames q (withWanted wanted at) (advanceOf x n (L.Rule slot ch)) (advance st (rule c a))
     unfolding advanceOf standing advance openRules
-    at-rule {q} {g} ch e =
+    at-rule ch {q} planned {at} e =
+        let y : Located = record { slot = slot; at = at } in
         let front : length (take (x .steps) frames) ≡ x .steps = length-take-le (x .steps) frames (omega (arith, rule-steps, b .kept .frames-length)) in
-        let place : 32 * length (take (x .steps) frames) + x .tally .rules ≡ 32 * x .steps + x .tally .rules = omega (arith, front) in
-        let old : stepsIn (set slots (32 * x .steps + x .tally .rules) slot) (take (x .steps) frames) ≡ stepsIn slots (take (x .steps) frames) =
-        ap (λ (i : ℕ). stepsIn (set slots i slot) (take (x .steps) frames)) (sym place) ∙ store-steps slots (take (x .steps) frames) (x .tally .rules) slot in
-        let new : rulesIn (x .tally .rules + 1) (take 32 (drop (32 * x .steps) (set slots (32 * x .steps + x .tally .rules) slot))) ≡ openRules st ++ (record { test = T.testOf c; action = T.actionOf a } ∷ []) =
-        store-rule slots (x .steps) (x .tally .rules) slot rule-rules (omega (arith, rule-steps, b .kept .slots-length))
-        ∙ ap₂ (λ (rs : List Rule) (y : Rule). rs ++ (y ∷ [])) (b .kept .rules-are) rule-is in
+        let room : 32 * x .steps + 32 ≤ length slots = omega (arith, rule-steps, b .kept .slots-length) in
+        let more = rules-more (x .tally) (ruleOfAction a) in
         record {
           kept = record {
-            slots-length = length-set slots (32 * x .steps + x .tally .rules) slot ∙ b .kept .slots-length;
+            slots-length = length-set slots here y ∙ b .kept .slots-length;
             frames-length = b .kept .frames-length;
-            steps-are = old ∙ b .kept .steps-are;
-            rules-are = ap (λ (i : ℕ). rulesIn i (take 32 (drop (32 * x .steps) (set slots (32 * x .steps + x .tally .rules) slot)))) (rules-more (x .tally) (ruleOfAction a)) ∙ new;
+            steps-are = rw front at (store-steps slots (take (x .steps) frames) (x .tally .rules) y) ∙ b .kept .steps-are;
+            rules-are = rw (more, store-rule slots (x .steps) (x .tally .rules) y rule-rules room, b .kept .rules-are, rule-is);
             framed = b .kept .framed;
+            located = rw front at (store-located slots (take (x .steps) frames) (x .tally .rules) y (b .kept .located));
           };
-          planned = subst (λ (y : Rule). Extended (stepPlan (openRules st ++ (y ∷ []))) (record { plan = q; full = g })) rule-is e;
+          opened = rw (more, store-place slots (x .steps) (x .tally .rules) y rule-rules room, ← rule-is) (open-rule (b .opened) slot planned e);
         }
 
   -- the step is closed, with its plan
@@ -278,32 +268,38 @@ module _ (s : Sizes) (lim : Limits s) {slots : List Slot} {frames : List Frame} 
     unfolding planFits
     end-fits = leb-true (length (stepPlan (openRules st))) 64 (k .fits)
 
-    end-holds : Holds p (stepPlan (openRules st))
-    end-holds = b .planned .holds end-fits
+    not-full : p .full ≡ false
+    not-full = b .opened .planned .full-is ∙ le-ltb 64 (length (stepPlan (openRules st))) end-fits
 
-    pub end-count : p .count ≡ length (stepPlan (openRules st))
+    end-holds : Holds (p .plan) (stepPlan (openRules st))
+    end-holds = b .opened .planned .holds end-fits
+
+    pub end-count : p .plan .count ≡ length (stepPlan (openRules st))
     end-count = sym (holds-count end-holds)
 
-    end-frame : FrameOf (frameOf x p) (openRules st)
+    end-frame : FrameOf (frameOf x (p .plan) wanted) (openRules st)
     unfolding frameOf
     end-frame = record {
       few = omega (arith, r .rules .few, h .tally-is .rules-are);
       remote-is = h .tally-is .remote-is;
       fields-are = h .tally-is .fields-are;
       holds = end-holds;
+      wanted-length = b .opened .marks;
     }
 
-    pub at-end : {q : Plan} → Holds q [] → Behind slots (set frames (x .steps) (frameOf x p)) q full (advanceOf x n L.End) (advance st end)
-    unfolding advanceOf advance openRules rulesIn noRules stepPlan readings plan add-readings frameOf
-    at-end {q} e =
-        let f = frameOf x p in
+    pub at-end : {q : Added} {marks : List Bool} → (q .full ≡ false) × Holds (q .plan) [] → length marks ≡ 64
+        → Behind slots (set frames (x .steps) (frameOf x (p .plan) wanted)) q marks (advanceOf x n L.End) (advance st end)
+    unfolding advanceOf advance openRules rulesIn noRules frameOf
+    at-end e l =
+        let f = frameOf x (p .plan) wanted in
         let front : length (take (x .steps) frames) ≡ x .steps = length-take-le (x .steps) frames (omega (arith, end-steps, b .kept .frames-length)) in
-        let more : take (x .steps + 1) (set frames (x .steps) f) ≡ take (x .steps) frames ++ (f ∷ []) = ap (λ (i : ℕ). take i (set frames (x .steps) f)) (add-one (x .steps))
+        let more : take (x .steps + 1) (set frames (x .steps) f) ≡ take (x .steps) frames ++ (f ∷ []) =
+        ap (λ (i : ℕ). take i (set frames (x .steps) f)) (add-one (x .steps))
         ∙ take-suc-set frames (x .steps) f (omega (arith, end-steps, b .kept .frames-length)) in
-        let new : stepsIn slots (take (x .steps + 1) (set frames (x .steps) f)) ≡ st .steps ++ (record { rules = openRules st; setting = settingIn (st .around) } ∷ []) =
+        let new : stepsIn slots (take (x .steps + 1) (set frames (x .steps) f))
+        ≡ st .steps ++ (record { rules = openRules st; setting = settingIn (st .around) } ∷ []) =
         ap (stepsIn slots) more ∙ more-frames slots (take (x .steps) frames) f
         ∙ rw (b .kept .steps-are, front, b .kept .rules-are, h .around-is) in
-        let same : full ≡ false = b .planned .full-is ∙ le-ltb 64 (length (stepPlan (openRules st))) end-fits in
         record {
           kept = record {
             slots-length = b .kept .slots-length;
@@ -312,8 +308,9 @@ module _ (s : Sizes) (lim : Limits s) {slots : List Slot} {frames : List Frame} 
             rules-are = refl;
             framed = rw (h .steps-are) (framed-more frames (st .steps) f (record { rules = openRules st; setting = settingIn (st .around) })
                 (b .kept .framed) (omega (arith, end-steps, b .kept .frames-length, h .steps-are)) end-frame);
+            located = rw more (more-located slots (take (x .steps) frames) f (b .kept .located) (rw front (open-located (b .opened) not-full)));
           };
-          planned = rw same (extended-same e);
+          opened = open-none e l;
         }
 
   -- the last step is the last of its loop
@@ -329,7 +326,8 @@ module _ (s : Sizes) (lim : Limits s) {slots : List Slot} {frames : List Frame} 
     pub done-most : x .steps ≤ 32
     done-most = omega (arith, h .steps-are, r .few)
 
-    pub at-done : (d : Frame) → Behind slots (set frames (x .steps - 1) (lastFrame (getD frames (x .steps - 1) d))) p full (advanceOf x n L.Done) (advance st done)
+    pub at-done : (d : Frame)
+        → Behind slots (set frames (x .steps - 1) (lastFrame (getD frames (x .steps - 1) d))) p wanted (advanceOf x n L.Done) (advance st done)
     unfolding advanceOf standing advance openRules rulesIn noRules
     at-done d = record {
       kept = record {
@@ -338,6 +336,7 @@ module _ (s : Sizes) (lim : Limits s) {slots : List Slot} {frames : List Frame} 
         steps-are = close-frames slots frames (x .steps) d done-steps (omega (arith, done-most, b .kept .frames-length)) ∙ ap closeLoop (b .kept .steps-are);
         rules-are = refl;
         framed = framed-close slots frames (x .steps) d done-steps (st .steps) (b .kept .framed) (h .steps-are);
+        located = located-close slots frames (x .steps) d done-steps (b .kept .located);
       };
-      planned = still-none st (b .planned) closed-now;
+      opened = open-still (b .opened) (closed-none st closed-now);
     }

@@ -2,7 +2,7 @@
 use Prim.Native.Nat.{ℕ, zero, suc, _+_, _-_, _*_, _≤_, _<_}
 use mathlib.Core.Path.{_≡_, refl, sym, ap, subst, _∙_}
 use mathlib.Core.Bool.{Bool, true, false, cond, not, _&&_}
-use mathlib.Core.List.{List, [], _∷_, _++_}
+use mathlib.Core.List.{List, [], _∷_}
 use mathlib.Core.Option.{Option, none, some}
 use native.Mathlib.Omega.{arith}
 use native.Mathlib.Numerals.{add-one}
@@ -14,10 +14,8 @@ use Rattle.register.specs.Shape.{Limits}
 use Rattle.laws.specs.Outcome.{Outcome, refused, unless, after}
 use Rattle.laws.specs.Outcome as O
 use Rattle.register.specs.declared.Sizes.{Sizes}
-use Rattle.plan_theory.specs.Plan.{add-readings, plan as planOf}
-use Rattle.plan_lines.specs.Held.{Holds, Extended}
-use Rattle.plan_lines.specs.declared.Plan.{Plan}
-use Rattle.plan_lines.proofs.Adding.{extended-same}
+use Rattle.plan_lines.specs.Held.{facts, Holds}
+use Rattle.plan_lines.specs.declared.Added.{Added}
 use Rattle.text_forms.specs.Written as W
 use Rattle.text_forms.specs.Written.{Line, step, end, done, rule}
 use Rattle.text_forms.specs.Line.{lineForm}
@@ -28,45 +26,55 @@ use Rattle.text_terms.specs.declared.term.Checks.{Checks}
 use Rattle.text_line.specs.declared.line.LineRead.{LineRead}
 use Rattle.text_line.specs.declared.line.LineRead.the-variants as L
 use Rattle.program.specs.declared.rule.Slot.{Slot}
-use Rattle.program.specs.Program.{Program, readings, stepPlan}
+use Rattle.program.specs.Program.{Program, stepPlan}
 use Rattle.text_rules.specs.Check.{State, isOutside, isOpen, openRules, lineRefusal}
 use Rattle.text_rules.specs.Text.{lines, advance, lineOutcome, closed, readFrom, start}
 use Rattle.text_rules.proofs.Checked.{Clean, refusal-none, rule-passes}
 use Rattle.text_rules.proofs.Passing.{Reached, start-reached, advance-reached}
 use Rattle.text_next.specs.Front.{front, firstForm}
-use Rattle.program.specs.Stored.{ruleOf, rulesIn}
+use Rattle.program.specs.Stored.{rulesIn}
 use Rattle.program.specs.Kept.{stepsIn, programOf}
 use Rattle.text_reader.specs.Answers.{outcomeOf, Answers}
-use Rattle.text_plan.specs.Readings.{slotChains, words, Short}
+use Rattle.program.specs.declared.location.Located.{Located}
+use Rattle.program.specs.declared.location.Locations.{Locations}
+use Rattle.program.specs.Location.{slotChains, locationsIn}
+use Rattle.text_plan.specs.Readings.{words, Short, PlannedWith}
+use Rattle.text_plan.specs.Listed.{withWanted}
 use Rattle.text_state.specs.State.{noRules, startState, frameOf, lastFrame, advanceOf}
 use Rattle.text_refusals.specs.Refusal.{refusalOf, lastRefusal}
 use Rattle.program.specs.declared.Program as C
 use Rattle.program.specs.declared.frame.Frame.{Frame}
 use Rattle.text_state.specs.declared.state.State as S
+use Rattle.text_reader.proofs.Opening.{open-none}
 use Rattle.text_reader.proofs.Arms.{Behind, step-line, loop-line, end-line, done-line, rule-line, no-line, at-step, at-loop, at-rule, at-end, at-done, slot-short, rule-is, rule-steps, rule-rules, end-steps, end-count, done-steps}
 use Rattle.text_next.proofs.Fronts.{lines-first}
 use Rattle.text_state.proofs.Standing.{Stands, start-stands, advance-stands}
 use Rattle.text_refusals.proofs.Refusals.{number, refusal-is, last-is}
 
 -- the state of the definition before line k, which begins at `at`, and what the code has of it
-pub record Read (s : Sizes) (t : List ℕ) (plan : Plan) (full : Bool) (slots : List Slot) (frames : List Frame) (x : S.State) (at k : ℕ) : Type 0 where
+pub record Read (s : Sizes) (t : List ℕ) (plan : Added) (wanted : List Bool) (slots : List Located)
+    (frames : List Frame) (x : S.State) (at k : ℕ) : Type 0 where
   pub state : State
   pub reached : Reached s state
   pub stands : Stands x state
-  pub behind : Behind slots frames plan full x state
+  pub behind : Behind slots frames plan wanted x state
   pub rest : readFrom s start 1 (lines t) ≡ readFrom s state k (lines (drop at t))
   pub within : at ≤ length t
   pub few : k ≤ at + 1
 
 -- before the first line
-pub begun : (s : Sizes) (t : List ℕ) {plan : Plan} {slots : List Slot} {frames : List Frame} {x : S.State} → Holds plan [] → length slots ≡ 1024 → length frames ≡ 32 → x ≡ startState
-    → Read s t plan false slots frames x 0 1
-unfolding startState start openRules stepPlan readings planOf add-readings stepsIn rulesIn noRules
-begun s t h ls lf e = record {
+pub begun : (s : Sizes) (t : List ℕ) {plan : Added} {wanted : List Bool} {slots : List Located} {frames : List Frame} {x : S.State}
+    → (plan .full ≡ false) × Holds (plan .plan) [] → length wanted ≡ 64 → length slots ≡ 1024 → length frames ≡ 32 → x ≡ startState
+    → Read s t plan wanted slots frames x 0 1
+unfolding startState start openRules stepsIn rulesIn noRules
+begun s t h lw ls lf e = record {
   state = start;
   reached = start-reached s;
   stands = rw e start-stands;
-  behind = rw e (record { kept = record { slots-length = ls; frames-length = lf; steps-are = refl; rules-are = refl; framed = tt }; planned = extended-same h });
+  behind = rw e (record {
+    kept = record { slots-length = ls; frames-length = lf; steps-are = refl; rules-are = refl; framed = tt; located = tt };
+    opened = open-none h lw;
+  });
   rest = refl;
   within = omega arith;
   few = omega arith;
@@ -79,7 +87,8 @@ unfolding readFrom
 first-line s st k [] h = absurd (omega arith)
 first-line s st k (b ∷ t) h =
     let p = lines-first b t in
-    ap (readFrom s st k) (p .2) ∙ ap (λ (o : Option Line). after (lineOutcome s st k o) (λ st. readFrom s st (suc k) (lines (drop (length (front (b ∷ t)) + 1) (b ∷ t))))) (p .1)
+    ap (readFrom s st k) (p .2)
+    ∙ ap (λ (o : Option Line). after (lineOutcome s st k o) (λ st. readFrom s st (suc k) (lines (drop (length (front (b ∷ t)) + 1) (b ∷ t))))) (p .1)
 
 -- a line that is refused
 pub refuse-none : {A : Type 0} (n k : ℕ) (o : Outcome A) → (n ≡ 0 → ⊥) → unless n k o ≡ refused n k
@@ -112,7 +121,8 @@ first-some t l h = go (ltb (length (front t)) (length t)) refl h
     go true e h = ltb-true (length (front t)) (length t) e
     go false e h = absurd (let z : _≡_ {A = ℕ} 0 1 = cc in omega arith)
 
-module _ (s : Sizes) (lim : Limits s) {t : List ℕ} {plan : Plan} {full : Bool} {slots : List Slot} {frames : List Frame} {x : S.State} {at k : ℕ} (q : Read s t plan full slots frames x at k) where
+module _ (s : Sizes) (lim : Limits s) {t : List ℕ} {plan : Added} {wanted : List Bool} {slots : List Located}
+    {frames : List Frame} {x : S.State} {at k : ℕ} (q : Read s t plan wanted slots frames x at k) where
   -- the next line, where it passes
   pub record Passes (read : LineRead) : Type 0 where
     pub form : Line
@@ -129,14 +139,14 @@ module _ (s : Sizes) (lim : Limits s) {t : List ℕ} {plan : Plan} {full : Bool}
     outcome : readFrom s start 1 (lines t) ≡ after (lineOutcome s (q .state) k (firstForm (drop at t))) follows
     outcome = q .rest ∙ first-line s (q .state) k (drop at t) (simp length-drop (omega arith))
 
-    numbered : refusalOf x full read ≡ number s (q .state) (firstForm (drop at t))
-    numbered = ap (refusalOf x full) e ∙ refusal-is s (q .stands) full (q .behind .planned .full-is) (firstForm (drop at t))
+    numbered : refusalOf x (plan .full) read ≡ number s (q .state) (firstForm (drop at t))
+    numbered = ap (refusalOf x (plan .full)) e ∙ refusal-is s (q .stands) (plan .full) (q .behind .opened .planned .full-is) (firstForm (drop at t))
 
     -- a line that is refused
-    pub stopped : (refusalOf x full read ≡ 0 → ⊥) → readFrom s start 1 (lines t) ≡ refused (refusalOf x full read) k
+    pub stopped : (refusalOf x (plan .full) read ≡ 0 → ⊥) → readFrom s start 1 (lines t) ≡ refused (refusalOf x (plan .full) read) k
     stopped h = outcome ∙ refused-line s (q .state) k (firstForm (drop at t)) follows (λ z. h (numbered ∙ z)) ∙ ap (λ (n : ℕ). refused n k) (sym numbered)
 
-    pub passes : refusalOf x full read ≡ 0 → Passes read
+    pub passes : refusalOf x (plan .full) read ≡ 0 → Passes read
     passes h =
         let p = passed-line s (q .state) k (firstForm (drop at t)) follows (sym numbered ∙ h) in
         let behind : at + (length (front (drop at t)) + 1) ≡ at + length (front (drop at t)) + 1 = omega arith in
@@ -146,24 +156,27 @@ module _ (s : Sizes) (lim : Limits s) {t : List ℕ} {plan : Plan} {full : Bool}
           is-read = e ∙ ap (lineRead s) (p .1);
           inside = omega (arith, first-some (drop at t) (p .0) (p .1), length-drop at t);
           onward = outcome ∙ p .3
-              ∙ ap (λ (u : List ℕ). readFrom s (advance (q .state) (p .0)) (suc k) (lines u)) (drop-drop (length (front (drop at t)) + 1) at t ∙ ap (λ (i : ℕ). drop i t) behind);
+              ∙ ap (λ (u : List ℕ). readFrom s (advance (q .state) (p .0)) (suc k) (lines u))
+              (drop-drop (length (front (drop at t)) + 1) at t ∙ ap (λ (i : ℕ). drop i t) behind);
         }
 
-  rule-stored : (n : ℕ) {l : Line} {y : Slot} (c : W.Condition) (a : W.Action) → l ≡ rule c a → y ≡ record { test = R.testOf c; rule = ruleOfAction a }
-      → (ch : Checks) → Clean s (q .state) l
-      → {o : Plan} {g : Bool} → Extended (stepPlan (openRules (q .state) ++ (ruleOf y ∷ []))) (record { plan = o; full = g })
-      → Behind (set slots (32 * x .steps + x .tally .rules) y) frames o g (advanceOf x n (L.Rule y ch)) (advance (q .state) l)
-  rule-stored n c a i j ch k h = rw (i, j) (at-rule s lim (q .reached) (q .stands) (q .behind) n c a (rw i at k) ch (rw j at h))
+  rule-stored : (n : ℕ) {l : Line} {z : Slot} (c : W.Condition) (a : W.Action) → l ≡ rule c a → z ≡ record { test = R.testOf c; rule = ruleOfAction a }
+      → (ch : Checks) → Clean s (q .state) l → {o : Added} → PlannedWith plan (words (slotChains z)) o
+      → {at : Locations} → at ≡ locationsIn (facts (o .plan)) (slotChains z)
+      → Behind (set slots (32 * x .steps + x .tally .rules) (record { slot = z; at = at })) frames o (withWanted wanted at)
+      (advanceOf x n (L.Rule z ch)) (advance (q .state) l)
+  rule-stored n c a i j ch k {o} h e = rw (i, j) (at-rule s lim (q .reached) (q .stands) (q .behind) n c a (rw i at k) ch (rw j at h) (rw j at e))
 
 -- the arrays and the plan behind each sort of line
-module _ {s : Sizes} {lim : Limits s} {t : List ℕ} {plan : Plan} {full : Bool} {slots : List Slot} {frames : List Frame} {x : S.State} {at k : ℕ} {q : Read s t plan full slots frames x at k} where
+module _ {s : Sizes} {lim : Limits s} {t : List ℕ} {plan : Added} {wanted : List Bool} {slots : List Located}
+    {frames : List Frame} {x : S.State} {at k : ℕ} {q : Read s t plan wanted slots frames x at k} where
   module _ {read : LineRead} (p : Passes s lim q read) (n : ℕ) where
-    pub arm-step : read ≡ L.Step → Behind slots frames plan full (advanceOf x n read) (advance (q .state) (p .form))
+    pub arm-step : read ≡ L.Step → Behind slots frames plan wanted (advanceOf x n read) (advance (q .state) (p .form))
     arm-step e =
         let is : p .form ≡ step = step-line s (p .form) (sym (p .is-read) ∙ e) in
         rw (e, is) (at-step s lim (q .reached) (q .stands) (q .behind) n (subst (Clean s (q .state)) is (p .clean)))
 
-    pub arm-loop : {f : ℕ} {named : Bool} → read ≡ L.Loop f named → Behind slots frames plan full (advanceOf x n read) (advance (q .state) (p .form))
+    pub arm-loop : {f : ℕ} {named : Bool} → read ≡ L.Loop f named → Behind slots frames plan wanted (advanceOf x n read) (advance (q .state) (p .form))
     arm-loop {f} {named} e =
         let v = loop-line s (p .form) (sym (p .is-read) ∙ e) in
         rw (e, v .1) (at-loop s lim (q .reached) (q .stands) (q .behind) n (v .0) f named (subst (Clean s (q .state)) (v .1) (p .clean)))
@@ -181,8 +194,9 @@ module _ {s : Sizes} {lim : Limits s} {t : List ℕ} {plan : Plan} {full : Bool}
       pub arm-end-steps : x .steps < 32
       arm-end-steps = end-steps s lim (q .reached) (q .stands) (q .behind) n end-clean
 
-      pub arm-end : {o : Plan} → Holds o [] → Behind slots (set frames (x .steps) (frameOf x plan)) o full (advanceOf x n read) (advance (q .state) (p .form))
-      arm-end h = rw (e, end-is) (at-end s lim (q .reached) (q .stands) (q .behind) n end-clean h)
+      pub arm-end : {o : Added} {marks : List Bool} → (o .full ≡ false) × Holds (o .plan) [] → length marks ≡ 64
+          → Behind slots (set frames (x .steps) (frameOf x (plan .plan) wanted)) o marks (advanceOf x n read) (advance (q .state) (p .form))
+      arm-end h l = rw (e, end-is) (at-end s lim (q .reached) (q .stands) (q .behind) n end-clean h l)
 
     module _ (e : read ≡ L.Done) where
       done-is : p .form ≡ done
@@ -194,7 +208,8 @@ module _ {s : Sizes} {lim : Limits s} {t : List ℕ} {plan : Plan} {full : Bool}
       pub arm-done-steps : 1 ≤ x .steps
       arm-done-steps = done-steps s lim (q .reached) (q .stands) (q .behind) n done-clean
 
-      pub arm-done : (d : Frame) → Behind slots (set frames (x .steps - 1) (lastFrame (getD frames (x .steps - 1) d))) plan full (advanceOf x n read) (advance (q .state) (p .form))
+      pub arm-done : (d : Frame)
+          → Behind slots (set frames (x .steps - 1) (lastFrame (getD frames (x .steps - 1) d))) plan wanted (advanceOf x n read) (advance (q .state) (p .form))
       arm-done d = rw (e, done-is) (at-done s lim (q .reached) (q .stands) (q .behind) n done-clean d)
 
     module _ {y : Slot} {ch : Checks} (e : read ≡ L.Rule y ch) where
@@ -213,24 +228,26 @@ module _ {s : Sizes} {lim : Limits s} {t : List ℕ} {plan : Plan} {full : Bool}
       pub arm-short : Short (words (slotChains y))
       arm-short =
           let v = rule-form in
-          rw (v .3) (slot-short s _ (rw (rule-is s lim (q .reached) (q .stands) (q .behind) n (v .0) (v .1) rule-clean) (rule-passes s lim (q .state) (v .0) (v .1) rule-clean)))
+          rw (v .3) (slot-short s _ (rw (rule-is s lim (q .reached) (q .stands) (q .behind) n (v .0) (v .1) rule-clean)
+          (rule-passes s lim (q .state) (v .0) (v .1) rule-clean)))
 
-      pub arm-rule : {o : Plan} {g : Bool} → Extended (stepPlan (openRules (q .state) ++ (ruleOf y ∷ []))) (record { plan = o; full = g })
-          → Behind (set slots (32 * x .steps + x .tally .rules) y) frames o g (advanceOf x n read) (advance (q .state) (p .form))
-      arm-rule h = rw e (rule-stored s lim q n (rule-form .0) (rule-form .1) (rule-form .2) (rule-form .3) ch (p .clean) h)
+      pub arm-rule : {o : Added} → PlannedWith plan (words (slotChains y)) o → {at : Locations} → at ≡ locationsIn (facts (o .plan)) (slotChains y)
+          → Behind (set slots (32 * x .steps + x .tally .rules) (record { slot = y; at = at })) frames o (withWanted wanted at)
+          (advanceOf x n read) (advance (q .state) (p .form))
+      arm-rule h i = rw e (rule-stored s lim q n (rule-form .0) (rule-form .1) (rule-form .2) (rule-form .3) ch (p .clean) h i)
 
     -- the count of the open step's plan, which its `end` asks for
-    pub end-lines : p .form ≡ end → plan .count ≡ length (stepPlan (openRules (q .state)))
+    pub end-lines : p .form ≡ end → plan .plan .count ≡ length (stepPlan (openRules (q .state)))
     end-lines e = end-count s lim (q .reached) (q .stands) (q .behind) n (subst (Clean s (q .state)) e (p .clean))
 
   -- one line further
-  pub again : {read : LineRead} (p : Passes s lim q read) {slots' : List Slot} {frames' : List Frame} {plan' : Plan} {full' : Bool}
-      → Behind slots' frames' plan' full' (advanceOf x (plan .count) read) (advance (q .state) (p .form))
-      → Read s t plan' full' slots' frames' (advanceOf x (plan .count) read) (at + length (front (drop at t)) + 1) (k + 1)
+  pub again : {read : LineRead} (p : Passes s lim q read) {slots' : List Located} {frames' : List Frame} {plan' : Added} {wanted' : List Bool}
+      → Behind slots' frames' plan' wanted' (advanceOf x (plan .plan .count) read) (advance (q .state) (p .form))
+      → Read s t plan' wanted' slots' frames' (advanceOf x (plan .plan .count) read) (at + length (front (drop at t)) + 1) (k + 1)
   again {read} p b = record {
     state = advance (q .state) (p .form);
     reached = advance-reached s lim (q .state) (p .form) (q .reached) (p .clean);
-    stands = rw (p .is-read) (advance-stands s lim (q .stands) (plan .count) (p .form) (p .clean) (end-lines p (plan .count)));
+    stands = rw (p .is-read) (advance-stands s lim (q .stands) (plan .plan .count) (p .form) (p .clean) (end-lines p (plan .plan .count)));
     behind = b;
     rest = p .onward ∙ ap (λ (i : ℕ). readFrom s (advance (q .state) (p .form)) i (lines (drop (at + length (front (drop at t)) + 1) t))) (sym (add-one k));
     within = omega (arith, p .inside);
@@ -242,7 +259,8 @@ pub answer-refused : {o : Outcome Program} (n k : ℕ) (p : C.Program) → (n �
 unfolding outcomeOf
 answer-refused n k p h e = record { outcome-is = refuse-none n k (O.done (programOf p)) h ∙ sym e; complete = λ z. absurd (h z) }
 
-module _ {s : Sizes} {t : List ℕ} {plan : Plan} {full : Bool} {slots : List Slot} {frames : List Frame} {x : S.State} {at k : ℕ} (q : Read s t plan full slots frames x at k) where
+module _ {s : Sizes} {t : List ℕ} {plan : Added} {wanted : List Bool} {slots : List Located}
+    {frames : List Frame} {x : S.State} {at k : ℕ} (q : Read s t plan wanted slots frames x at k) where
   pub small : (x .steps ≤ 32) × (x .tally .rules ≤ 32)
   small = (omega (arith, q .reached .few, q .stands .steps-are), omega (arith, q .reached .rules .few, q .stands .tally-is .rules-are))
 
@@ -254,15 +272,18 @@ module _ {s : Sizes} {t : List ℕ} {plan : Plan} {full : Bool} {slots : List Sl
   program-is = q .behind .kept .steps-are
 
   pub answer-read : length t ≤ at
-      → Answers (readFrom s start 1 (lines t)) (record { refusal = lastRefusal x; line = k; program = record { slots = slots; frames = frames; steps = x .steps; lines = x .lines } })
+      → Answers (readFrom s start 1 (lines t))
+      (record { refusal = lastRefusal x; line = k; program = record { slots = slots; frames = frames; steps = x .steps; lines = x .lines } })
   unfolding outcomeOf program lines readFrom closed unless
   answer-read h =
-      let ended : readFrom s start 1 (lines t) ≡ closed (q .state) k = q .rest ∙ ap (λ (u : List ℕ). readFrom s (q .state) k (lines u)) (drop-of-length-le t h) in
+      let ended : readFrom s start 1 (lines t) ≡ closed (q .state) k =
+      q .rest ∙ ap (λ (u : List ℕ). readFrom s (q .state) k (lines u)) (drop-of-length-le t h) in
       record {
         outcome-is = rw (ended, last-is (q .stands), program-is) (go (not (isOpen (q .state)) && isOutside (q .state .around)));
         complete = λ z. record {
           slots-length = q .behind .kept .slots-length;
           framed = rw program-is (q .behind .kept .framed);
+          located = q .behind .kept .located;
           steps-are = rw program-is (q .stands .steps-are);
           lines-are = rw program-is (q .stands .lines-are);
         };

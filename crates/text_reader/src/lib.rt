@@ -4,10 +4,13 @@ ghost use lib.ListN.{length};
 ghost use Rattle.register.specs.Shape.{Limits};
 ghost use Rattle.text_rules.specs.Text.{lines, start as startOf, readFrom};
 ghost use Rattle.text_reader.specs.Answers.{Answers};
-use plan_lines::Added;
 use plan_lines::Plan;
 use program::Program;
 use program::frame::Frame;
+use program::location::Located;
+use program::location::Location;
+use program::location::Locations;
+use program::location::Places;
 use program::rule::Rule;
 use program::rule::Slot;
 use program::rule::Test;
@@ -15,6 +18,7 @@ use program::setting::Setting;
 use program::term::Term;
 use register::Sizes;
 use text_line::line::LineRead;
+use text_plan::locate;
 use text_plan::readings;
 use text_state::state;
 
@@ -26,11 +30,20 @@ pub struct Checked {
 }
 
 // A place that holds no rule.
-fn empty_slot() -> Slot {
-    Slot {
+fn empty_slot() -> Located {
+    let slot = Slot {
         test: Test::Always,
         rule: Rule::Set(0, Term::Number(0)),
-    }
+    };
+    let own = Places {
+        first: Location::Own,
+        second: Location::Own,
+    };
+    let at = Locations {
+        test: own,
+        rule: own,
+    };
+    Located { slot, at }
 }
 
 // The frame of no step.
@@ -41,6 +54,7 @@ fn empty_frame() -> Frame {
         fields: [false; 16],
         setting: Setting::Single,
         plan: Plan::empty(),
+        wanted: [false; 64],
     }
 }
 
@@ -52,37 +66,37 @@ pub fn read_lines(text: &[u8], sizes: Sizes) -> Checked
     let mut slots = [empty_slot(); 1024];
     let mut frames = [empty_frame(); 32];
     let mut state = state::start();
-    let mut plan = Plan::empty();
-    let mut full = false;
+    let mut planned = readings::no_lines();
+    let mut wanted = [false; 64];
     let mut at = 0;
     let mut line = 1;
     let mut refusal = 0;
     while at < text.len() {
         let end = text_next::line_end(text, at);
         let read = text_next::read_first(text, at, end, sizes);
-        refusal = text_refusals::refusal(state, full, read);
+        refusal = text_refusals::refusal(state, planned.full, read);
         if refusal != 0 {
             break;
         }
         let steps = state.steps;
-        let count = plan.count;
+        let count = planned.plan.count;
         match read {
             LineRead::Rule(slot, _) => {
-                slots[state::place(state)] = slot;
-                let readings = readings::readings_of(slot);
-                if readings::add_lines(&plan.keys, count, full, readings) {
-                    let added = readings::with_readings(Added { plan, full }, readings);
-                    plan = added.plan;
-                    full = added.full;
+                let mut found = locate::locate(&planned.plan.keys, count, slot);
+                if locate::adds_lines(count, planned.full, found) {
+                    planned = readings::with_rule(planned, slot);
+                    found = locate::locate(&planned.plan.keys, planned.plan.count, slot);
                 }
+                locate::mark_wanted(&mut wanted, found);
+                slots[state::place(state)] = Located { slot, at: found };
             }
             LineRead::End => {
-                frames[steps] = state::open_frame(state, plan);
-                plan = Plan::empty();
+                frames[steps] = state::open_frame(state, planned.plan, wanted);
+                planned = readings::no_lines();
+                wanted = [false; 64];
             }
             LineRead::Done => {
-                let last = frames[steps - 1];
-                frames[steps - 1] = state::last_frame(last);
+                frames[steps - 1] = state::last_frame(frames[steps - 1]);
             }
             LineRead::Step => {}
             LineRead::Loop(_, _) => {}

@@ -18,6 +18,7 @@ use Rattle.text_forms.specs.Parts.{named, kinded, short, numbersInRange, fieldN
 use Rattle.text_local.specs.ActionRead.{ruleOfAction}
 use Rattle.text_line.specs.LineRead.{lineRead, lineChecks}
 use Rattle.text_terms.specs.declared.term.Checks.{Checks}
+use Rattle.program.specs.declared.rule.Sort.the-variants.{Least, Total}
 use Rattle.program.specs.Program.{Rule, stepPlan}
 use Rattle.text_rules.specs.Check.{State, isOutside, isOpen, openRules, inPlace, hasRoom, oneSort, sortsAgree, planFits, lineRefusal}
 use Rattle.text_state.specs.State.{otherSort}
@@ -48,10 +49,9 @@ not-not false = refl
 other-sort : (x : Tally) (rs : List Rule) (a : W.Action) → Counts x rs → otherSort x (ruleOfAction a) ≡ not (oneSort rs a)
 unfolding otherSort ruleOfAction oneSort
 other-sort x rs (W.set f y) h = refl
-other-sort x rs (W.sum f y z) h = refl
-other-sort x rs (W.difference f y z) h = refl
-other-sort x rs (W.least f c y) h = h .totals-are (fieldOf f) ∙ sym (not-not _)
-other-sort x rs (W.total f c y) h = h .leasts-are (fieldOf f) ∙ sym (not-not _)
+other-sort x rs (W.combine f op y z) h = refl
+other-sort x rs (W.remote Least f c y) h = h .totals-are (fieldOf f) ∙ sym (not-not _)
+other-sort x rs (W.remote Total f c y) h = h .leasts-are (fieldOf f) ∙ sym (not-not _)
 
 not-leb : (n : ℕ) → ltb 64 n ≡ not (leb n 64)
 not-leb n = go (decLe n 64)

@@ -1,7 +1,7 @@
 -- What the readers of remote rules answer.
 use Prim.Native.Nat.{ℕ, _+_, _*_, _≤_}
 use mathlib.Core.Path.{_≡_, refl, sym, ap, ap₂, _∙_}
-use mathlib.Core.Bool.{Bool, true, false}
+use mathlib.Core.Bool.{Bool, true, false, _&&_}
 use mathlib.Core.List.{List, [], _∷_, _++_}
 use mathlib.Core.Option.{none, some}
 use native.Mathlib.Omega.{arith}
@@ -9,7 +9,7 @@ use lib.ListN.{length, getD, drop, length-drop}
 use lib.Seq.{drop-drop}
 use Rattle.laws.proofs.Bools.{and-both}
 use Rattle.register.specs.declared.Sizes.{Sizes}
-use Rattle.chain_text.specs.Text.{isCapital, fieldOf, isReferenceLetter, Form, formed, unformed, form, closed}
+use Rattle.chain_text.specs.Text.{isCapital, fieldOf, names, Form, formed, unformed, form, closed}
 use Rattle.laws.specs.Lists.{every}
 use Rattle.chain_text.specs.Scan.{startsWith, opens, summary, chainEnd, scanned}
 use Rattle.chain_text.specs.declared.letters.Letters.{Letters}
@@ -20,48 +20,29 @@ use Rattle.text_forms.specs.Bytes.{bytes}
 use Rattle.text_forms.specs.Written as W
 use Rattle.text_forms.specs.Token.{capital, then, or, begins}
 use Rattle.text_forms.specs.Line.{sent, remoteForm, localForm, actionForm}
-use Rattle.text_forms.specs.Parts.{same, target, actionKinds, areMeasures, actionTerms}
+use Rattle.text_forms.specs.Parts.{target, actionKinds, areMeasures, actionTerms}
 use Rattle.text_terms.specs.Read.{partsOf, chainParts}
-use Rattle.text_local.specs.ActionRead.{lastTerm, lastRead, actionChecks, measured, ruleOfAction, actionRead}
-use Rattle.text_remote.specs.RemoteRead.{totalForm, targetOf, targetFrom, targetRead, remoteChecks}
-use Rattle.text_local.specs.declared.action.LastRead.the-variants.{Term, NoForm as NoTerm}
+use Rattle.text_local.specs.ActionRead.{bothChecks, ruleChecks, actionChecks, measured, ruleOfAction, actionRead}
+use Rattle.text_remote.specs.RemoteRead.{sentKinds, targetOf, targetFrom, targetRead}
 use Rattle.text_local.specs.declared.action.ActionRead.the-variants.{Action, NoForm}
 use Rattle.text_remote.specs.declared.remote.Target.{Target}
 use Rattle.text_remote.specs.declared.remote.TargetRead.the-variants.{At, NoForm as NoTarget}
-use Rattle.program.specs.declared.rule.Rule.the-variants.{Least, Total}
+use Rattle.program.specs.declared.rule.Sort.{Sort}
+use Rattle.program.specs.declared.rule.Sort.the-variants.{Least, Total}
+use Rattle.program.specs.declared.rule.Rule.the-variants.{Remote}
 use Rattle.text_terms.specs.declared.term.TermParts.{TermParts}
 use Rattle.text_tokens.proofs.Words.{Taken, begins-text}
 use Rattle.text_terms.proofs.Answers.{chain-parts, reference-first}
-use Rattle.text_local.proofs.Actions.{Last, made-none, made-some, checks-two, word-refused, or-word}
+use Rattle.text_local.proofs.Actions.{checks-two, word-refused, or-word}
 
--- the answers for remote rules, by the parts of their target and term
-module _ (s : Sizes) (g : Target) (f : ℕ) (c : List ℕ) (e : g ≡ targetOf s f c) (p : TermParts) (x : W.Term) (h : p ≡ partsOf s x) where
-  pub least-read : Action (Least (fieldOf (g .letter)) (g .chain) (p .term)) (remoteChecks s g p (same (isReferenceLetter (g .letter)) (p .reference)))
-      ≡ actionRead s (some (W.least f c x))
-  unfolding actionRead ruleOfAction actionChecks remoteChecks target actionKinds actionTerms partsOf targetOf
-  least-read = rw (e, h, checks-two s (W.chain c) x)
-
-  pub total-read : Action (Total (fieldOf (g .letter)) (g .chain) (p .term)) (remoteChecks s g p (measured (g .letter) (p .reference)))
-      ≡ actionRead s (some (W.total f c x))
-  unfolding actionRead ruleOfAction actionChecks remoteChecks target actionKinds areMeasures measured actionTerms partsOf targetOf
-  total-read = rw (e, h, checks-two s (W.chain c) x)
-
--- the answers behind `remote F[C]`, by what the reader of the last term finds
-module _ (s : Sizes) (f : ℕ) (c t : List ℕ) where
-  pub total-none : lastRead s (lastTerm (bytes " += ") t) ≡ NoTerm → actionRead s (totalForm f c t) ≡ NoForm
-  unfolding actionRead
-  total-none e = ap (actionRead s) (made-none s (bytes " += ") t (W.total f c) e)
-
-  pub total-some : {p : TermParts} (l : Last s (bytes " += ") t p) → totalForm f c t ≡ some (W.total f c (l .written))
-  total-some l = made-some s (bytes " += ") t (W.total f c) l
-
-  pub sent-none : lastRead s (lastTerm (bytes " <?= ") t) ≡ NoTerm → sent f c t ≡ totalForm f c t
-  unfolding sent or
-  sent-none e = rw (made-none s (bytes " <?= ") t (W.least f c) e)
-
-  pub sent-some : {p : TermParts} (l : Last s (bytes " <?= ") t p) → sent f c t ≡ some (W.least f c (l .written))
-  unfolding sent or
-  sent-some l = rw (made-some s (bytes " <?= ") t (W.least f c) l)
+-- the answer for a remote rule, by the parts of its target and term
+pub sent-read : (s : Sizes) (k : Sort) (g : Target) (f : ℕ) (c : List ℕ) → g ≡ targetOf s f c → (p : TermParts) (x : W.Term) → p ≡ partsOf s x
+    → Action (Remote k (fieldOf (g .letter)) (g .chain) (p .term))
+    (ruleChecks (names s (g .letter)) (g .reference && sentKinds k (g .letter) (p .reference)) (bothChecks (g .checks) (p .checks)))
+    ≡ actionRead s (some (W.remote k f c x))
+unfolding actionRead ruleOfAction actionChecks target actionKinds areMeasures sentKinds measured actionTerms partsOf targetOf
+sent-read s Least g f c e p x h = rw (e, h, checks-two s (W.chain c) x)
+sent-read s Total g f c e p x h = rw (e, h, checks-two s (W.chain c) x)
 
 -- a chain's text goes up to the place behind it
 form-stands : (t : List ℕ) (at end : ℕ) (ls r : List ℕ) → form (drop at t) ≡ formed ls r → end ≡ at + (3 * length ls + 1) → form (drop at t) ≡ formed ls (drop end t)
@@ -81,7 +62,9 @@ same-end q = cc
 target-from : (s : Sizes) (l : ℕ) (x : Letters) (t ls r : List ℕ) → form t ≡ formed ls r → x ≡ summary s ls → targetFrom l x (getD t 0 0) ≡ targetOf s l ls
 unfolding targetFrom targetOf summary partsOf
 target-from s l x t ls r h k =
-    let p : chainParts x (getD t 0 0) ≡ partsOf s (W.chain ls) = ap (λ (y : Letters). chainParts y (getD t 0 0)) k ∙ chain-parts s ls (getD t 0 0) (reference-first t ls r h) in
+    let p : chainParts x (getD t 0 0) ≡ partsOf s (W.chain ls) =
+    ap (λ (y : Letters). chainParts y (getD t 0 0)) k ∙ chain-parts s ls (getD t 0 0) (reference-first t ls r h)
+    in
     ap₂ (λ (q : TermParts) (n : ℕ). record { letter = l; chain = n; reference = q .reference; checks = q .checks }) p (ap (λ (y : Letters). y .packed) k)
 
 module _ (s : Sizes) (t : List ℕ) (at l : ℕ) where

@@ -5,22 +5,21 @@ ghost use Prim.Native.Nat.{_+_, _≤_};
 ghost use lib.ListN.{length, drop};
 ghost use Rattle.register.specs.Shape.{Limits};
 ghost use Rattle.chain_text.specs.Text.{isCapital, form, closed};
-ghost use Rattle.text_forms.specs.Line.{sent, actionForm};
-ghost use Rattle.text_local.specs.declared.action.ActionRead.the-variants.{Action};
-ghost use Rattle.text_local.specs.ActionRead.{actionRead};
-ghost use Rattle.text_remote.specs.RemoteRead.{targetFrom, targetRead, remoteChecks, ForTarget, totalForm};
+ghost use Rattle.text_forms.specs.Line.{sortText, sentForm, sent, actionForm};
+ghost use Rattle.text_local.specs.ActionRead.{lastTerm, lastRead, actionRead};
+ghost use Rattle.text_remote.specs.RemoteRead.{sentKinds, targetFrom, targetRead, ForTarget};
 use chain_text::letters;
 use chain_text::letters::Letters;
 use chain_text::text;
 use chain_text::text::Scanned;
 use program::rule::Rule;
+use program::rule::Sort;
 use register::Sizes;
 use text_local::action;
 use text_local::action::ActionRead;
 use text_local::action::LastRead;
 use text_terms::term;
 use text_terms::term::Checks;
-use text_terms::term::TermParts;
 use text_tokens::token;
 use text_tokens::token::Place;
 
@@ -60,7 +59,7 @@ fn read_closed(line: &[u8], at: usize, letter: u8, sizes: Sizes) -> TargetRead
     let Scanned::Chain(inner, end) = text::scan(line, at, sizes) else {
         return TargetRead::NoForm;
     };
-    if !text::starts_with(line, end, 93) {
+    if !text::starts_with(line, end, b']') {
         return TargetRead::NoForm;
     }
     TargetRead::At(target_of(letter, inner, line[at]), end + 1)
@@ -77,28 +76,41 @@ fn read_target(line: &[u8], at: usize, sizes: Sizes) -> TargetRead
     read_closed(line, at + 2, line[at], sizes)
 }
 
-// A remote rule, with whether its field and its term are of the right kinds.
-fn remote_rule(rule: Rule, kinds: bool, target: Target, x: TermParts, sizes: Sizes) -> ActionRead
-    requires { ⌜ Limits sizes ⌝ }
-    ensures { λ r. ⌜ r ≡ Action rule (remoteChecks sizes target x kinds) ⌝ }
+// A sort of remote write, and behind it the term that ends the line.
+fn read_amount(line: &[u8], at: usize, sort: Sort, sizes: Sizes) -> LastRead
+    requires { ⌜ Limits sizes × (at ≤ length (now line)) ⌝ }
+    ensures { λ r. ⌜ r ≡ lastRead sizes (lastTerm (sortText sort) (drop at (now (line .entry)))) ⌝ }
 {
-    let checks = action::both(target.checks, x.checks);
-    action::action(rule, target.letter, target.reference & kinds, checks, sizes)
+    match sort {
+        Sort::Least => action::read_last(line, at, b" <?= ", sizes),
+        Sort::Total => action::read_last(line, at, b" += ", sizes),
+    }
 }
 
-// ` += X` behind `remote F[C]`.
-fn read_total(line: &[u8], at: usize, target: Target, sizes: Sizes) -> ActionRead
-    requires { ⌜ Limits sizes × (at ≤ length (now line)) × (isCapital (target .letter) ≡ true) ⌝ }
-    ensures { λ r. ⌜ ForTarget sizes target (λ f c. actionRead sizes (totalForm f c (drop at (now (line .entry))))) r ⌝ }
+// Whether a field and a term are of the kinds that a sort takes.
+fn sent_kinds(sort: Sort, letter: u8, reference: bool) -> bool
+    ensures { λ r. ⌜ r ≡ sentKinds sort letter reference ⌝ }
 {
-    let LastRead::Term(x) = action::read_last(line, at, b" += ", sizes) else {
+    match sort {
+        Sort::Least => action::same(letter < b'M', reference),
+        Sort::Total => action::measures(letter, reference),
+    }
+}
+
+// A sort and X behind `remote F[C]`.
+fn read_of_sort(line: &[u8], at: usize, sort: Sort, target: Target, sizes: Sizes) -> ActionRead
+    requires { ⌜ Limits sizes × (at ≤ length (now line)) × (isCapital (target .letter) ≡ true) ⌝ }
+    ensures { λ r. ⌜ ForTarget sizes target (λ f c. actionRead sizes (sentForm f c sort (drop at (now (line .entry))))) r ⌝ }
+{
+    let LastRead::Term(x) = read_amount(line, at, sort, sizes) else {
         return ActionRead::NoForm;
     };
     let letter = target.letter;
     let term = x.term;
-    let rule = Rule::Total(letters::field_of(letter), target.chain, term);
-    let kinds = action::measures(letter, x.reference);
-    remote_rule(rule, kinds, target, x, sizes)
+    let rule = Rule::Remote(sort, letters::field_of(letter), target.chain, term);
+    let kinds = target.reference & sent_kinds(sort, letter, x.reference);
+    let checks = action::both(target.checks, x.checks);
+    action::action(rule, letter, kinds, checks, sizes)
 }
 
 // ` <?= X` or ` += X` behind `remote F[C]`.
@@ -106,14 +118,10 @@ fn read_sent(line: &[u8], at: usize, target: Target, sizes: Sizes) -> ActionRead
     requires { ⌜ Limits sizes × (at ≤ length (now line)) × (isCapital (target .letter) ≡ true) ⌝ }
     ensures { λ r. ⌜ ForTarget sizes target (λ f c. actionRead sizes (sent f c (drop at (now (line .entry))))) r ⌝ }
 {
-    let LastRead::Term(x) = action::read_last(line, at, b" <?= ", sizes) else {
-        return read_total(line, at, target, sizes);
+    let ActionRead::Action(rule, checks) = read_of_sort(line, at, Sort::Least, target, sizes) else {
+        return read_of_sort(line, at, Sort::Total, target, sizes);
     };
-    let letter = target.letter;
-    let term = x.term;
-    let rule = Rule::Least(letters::field_of(letter), target.chain, term);
-    let kinds = action::same(letter < 77, x.reference);
-    remote_rule(rule, kinds, target, x, sizes)
+    ActionRead::Action(rule, checks)
 }
 
 // The rule at `at`, without a test.

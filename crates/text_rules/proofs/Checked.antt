@@ -18,10 +18,11 @@ use Rattle.text_forms.specs.Written as W
 use Rattle.text_forms.specs.Written.{chain, number, Line, rule}
 use Rattle.text_forms.specs.Parts as K
 use Rattle.text_forms.specs.Parts.{conditionTerms, actionTerms, terms, everyTerm, target, termNamed, fieldNamed, named, termKinded, same, conditionKinds, areMeasures, actionKinds, kindsAgree, kinded, termShort, short, termInRange, numbersInRange}
-use Rattle.program.specs.Program.{Term, Action}
+use Rattle.program.specs.declared.rule.Sort.the-variants.{Least, Total}
+use Rattle.program.specs.Program as P
 use Rattle.text_rules.specs.Check.{State, inPlace, hasRoom, sortsAgree, planFits, lineRefusal}
-use Rattle.text_rules.specs.Text.{termOf, testOf, actionOf}
-use Rattle.program.specs.Passed.{isReferenceWord, isReferenceTerm, TermPasses, TestPasses, Alike, Measured, Target, ActionPasses, RulePasses}
+use Rattle.text_rules.specs.Text.{termOf, testOf, targetOf, expressionOf, ruleOf}
+use Rattle.program.specs.Passed.{isReferenceWord, isReferenceExpression, ExpressionPasses, TestPasses, TargetPasses, RulePasses}
 use Rattle.laws.proofs.Lists.{each-front, each-back}
 
 -- the tests that a line with no refusal has passed
@@ -103,7 +104,7 @@ word-passes : (s : Sizes) (ls : List ℕ) → Fine s (chain ls) → Passes s (wo
 unfolding termNamed termKinded termShort
 word-passes s ls w = letters-pass s ls (refused-none s ls (w .is-named) (w .is-kinded) (le-ltb 16 (length ls) (leb-true (length ls) 16 (w .is-short))))
 
-term-passes : (s : Sizes) (x : W.Term) → Fine s x → TermPasses s (termOf x)
+term-passes : (s : Sizes) (x : W.Term) → Fine s x → ExpressionPasses s (termOf x)
 unfolding termOf termInRange
 term-passes s (chain ls) w = word-passes s ls w
 term-passes s (number negative ds) w = w .in-range
@@ -113,62 +114,85 @@ unfolding same
 same-is true b h = sym h
 same-is false b h = sym (not-true b h)
 
+-- what an action adds to its test: the fields of a rule that passes
+record ActionPasses (s : Sizes) (a : W.Action) : Type 0 where
+  target : TargetPasses s (targetOf a)
+  expression : ExpressionPasses s (expressionOf a)
+  alike : isReference (P.fieldOf (targetOf a)) ≡ isReferenceExpression (expressionOf a)
+
 module _ (s : Sizes) (lim : Limits s) where
-  term-kind : (x : W.Term) → Fine s x → isReferenceTerm (termOf x) ≡ K.isReferenceTerm x
-  unfolding isReferenceTerm termOf K.isReferenceTerm isReferenceWord wordOf termNamed every
+  term-kind : (x : W.Term) → Fine s x → isReferenceExpression (termOf x) ≡ K.isReferenceTerm x
+  unfolding isReferenceExpression termOf K.isReferenceTerm isReferenceWord wordOf termNamed every
   term-kind (chain []) w = refl
   term-kind (chain (l ∷ ls)) w = last-kind (wordOf ls) (fieldOf l) ∙ letter-kind s lim l (and-both (names s l) (every (names s) ls) (w .is-named) .0)
   term-kind (number negative ds) w = refl
 
-  target-passes : (c : List ℕ) → Fine s (chain c) → K.isReferenceTerm (chain c) ≡ true → Target s (wordOf c)
-  unfolding isReferenceTerm termOf
-  target-passes c w h = record { passes = word-passes s c w; reference = term-kind (chain c) w ∙ h }
+  word-kind : (c : List ℕ) → Fine s (chain c) → K.isReferenceTerm (chain c) ≡ true → isReferenceWord (wordOf c) ≡ true
+  unfolding isReferenceExpression termOf
+  word-kind c w h = term-kind (chain c) w ∙ h
 
   module _ (f : ℕ) (x : W.Term) (n : names s f ≡ true) (w : Fine s x) where
-    alike : same (isReferenceLetter f) (K.isReferenceTerm x) ≡ true → Alike s (fieldOf f) (termOf x)
-    alike h = record {
-      field = letter-field s lim f n;
-      passes = term-passes s x w;
-      alike = letter-kind s lim f n ∙ same-is _ _ h ∙ sym (term-kind x w);
-    }
+    alike : same (isReferenceLetter f) (K.isReferenceTerm x) ≡ true → isReference (fieldOf f) ≡ isReferenceExpression (termOf x)
+    alike h = letter-kind s lim f n ∙ same-is _ _ h ∙ sym (term-kind x w)
 
-    measured : areMeasures f x ≡ true → Measured s (fieldOf f) (termOf x)
+    measured : areMeasures f x ≡ true → (isReference (fieldOf f) ≡ false) × (isReferenceExpression (termOf x) ≡ false)
     unfolding areMeasures
     measured h =
         let both = and-both (not (isReferenceLetter f)) (not (K.isReferenceTerm x)) h in
-        record {
-          field = letter-field s lim f n;
-          passes = term-passes s x w;
-          measure = letter-kind s lim f n ∙ not-true _ (both .0);
-          measured = term-kind x w ∙ not-true _ (both .1);
-        }
+        (letter-kind s lim f n ∙ not-true _ (both .0), term-kind x w ∙ not-true _ (both .1))
 
   test-passes : (c : W.Condition) → Each (Fine s) (conditionTerms c) → conditionKinds c ≡ true → TestPasses s (testOf c)
   unfolding conditionTerms conditionKinds testOf
   test-passes W.always w h = tt
   test-passes (W.when x c y) w h = (term-passes s x (w .0), term-passes s y (w .1 .0), term-kind x (w .0) ∙ same-is _ _ h ∙ sym (term-kind y (w .1 .0)))
 
-  action-passes : (a : W.Action) → names s (target a) ≡ true → Each (Fine s) (actionTerms a) → actionKinds a ≡ true → ActionPasses s (actionOf a)
-  unfolding target actionTerms actionKinds actionOf
-  action-passes (W.set f x) n w h = alike f x n (w .0) h
-  action-passes (W.sum f x y) n w h = let both = and-both (areMeasures f x) (areMeasures f y) h in (measured f x n (w .0) (both .0), measured f y n (w .1 .0) (both .1))
-  action-passes (W.difference f x y) n w h = let both = and-both (areMeasures f x) (areMeasures f y) h in (measured f x n (w .0) (both .0), measured f y n (w .1 .0) (both .1))
-  action-passes (W.least f c x) n w h =
+  action-passes : (a : W.Action) → names s (target a) ≡ true → Each (Fine s) (actionTerms a) → actionKinds a ≡ true → ActionPasses s a
+  unfolding target actionTerms actionKinds targetOf expressionOf P.fieldOf isReferenceExpression
+  action-passes (W.set f x) n w h = record { target = tt; expression = term-passes s x (w .0); alike = alike f x n (w .0) h }
+  action-passes (W.combine f op x y) n w h =
+      let both = and-both (areMeasures f x) (areMeasures f y) h in
+      let (field, first) = measured f x n (w .0) (both .0) in
+      let (_, second) = measured f y n (w .1 .0) (both .1) in
+      record { target = tt; expression = ((term-passes s x (w .0), first), (term-passes s y (w .1 .0), second)); alike = field }
+  action-passes (W.remote Least f c x) n w h =
       let both = and-both (K.isReferenceTerm (chain c)) (same (isReferenceLetter f) (K.isReferenceTerm x)) h in
-      (target-passes c (w .0) (both .0), alike f x n (w .1 .0) (both .1))
-  action-passes (W.total f c x) n w h =
+      record {
+        target = record {
+          passes = word-passes s c (w .0);
+          reference = word-kind c (w .0) (both .0);
+          measure = λ e. absurd (let z : _≡_ {A = ℕ} 0 1 = cc in omega arith);
+        };
+        expression = term-passes s x (w .1 .0);
+        alike = alike f x n (w .1 .0) (both .1);
+      }
+  action-passes (W.remote Total f c x) n w h =
       let both = and-both (K.isReferenceTerm (chain c)) (areMeasures f x) h in
-      (target-passes c (w .0) (both .0), measured f x n (w .1 .0) (both .1))
+      let m = measured f x n (w .1 .0) (both .1) in
+      record {
+        target = record { passes = word-passes s c (w .0); reference = word-kind c (w .0) (both .0); measure = λ e. m .0 };
+        expression = term-passes s x (w .1 .0);
+        alike = m .0 ∙ sym (m .1);
+      }
+
+  target-field : (a : W.Action) → P.fieldOf (targetOf a) ≡ fieldOf (target a)
+  unfolding target targetOf P.fieldOf
+  target-field (W.set f x) = refl
+  target-field (W.combine f op x y) = refl
+  target-field (W.remote k f c x) = refl
 
   -- a rule that passes, as the program has it
-  pub rule-passes : (st : State) (c : W.Condition) (a : W.Action) → Clean s st (rule c a) → RulePasses s (record { test = testOf c; action = actionOf a })
-  unfolding named fieldNamed kinded kindsAgree terms
+  pub rule-passes : (st : State) (c : W.Condition) (a : W.Action) → Clean s st (rule c a) → RulePasses s (ruleOf c a)
+  unfolding named fieldNamed kinded kindsAgree terms ruleOf
   rule-passes st c a k =
       let n = and-both (names s (target a)) (everyTerm (termNamed s) (conditionTerms c ++ actionTerms a)) (k .is-named) in
       let d = and-both (everyTerm termKinded (conditionTerms c ++ actionTerms a)) (conditionKinds c && actionKinds a) (k .is-kinded) in
       let both = and-both (conditionKinds c) (actionKinds a) (d .1) in
       let w = rule-fine s st c a k in
+      let p = action-passes a (n .0) (each-back (Fine s) (conditionTerms c) (actionTerms a) w) (both .1) in
       record {
         test = test-passes c (each-front (Fine s) (conditionTerms c) (actionTerms a) w) (both .0);
-        action = action-passes a (n .0) (each-back (Fine s) (conditionTerms c) (actionTerms a) w) (both .1);
+        field = rw (target-field a) (letter-field s lim (target a) (n .0));
+        target = p .target;
+        expression = p .expression;
+        alike = p .alike;
       }

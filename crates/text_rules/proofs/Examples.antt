@@ -20,10 +20,10 @@ use Rattle.text_forms.specs.Line.{assigned, localForm, sent, remoteForm, action
 use Rattle.text_forms.specs.Parts.{numbersInRange, termInRange, short, termShort, kinded, kindsAgree, actionKinds, areMeasures, conditionKinds, same, isReferenceTerm, termKinded, named, fieldNamed, termNamed, target, everyTerm, terms, actionTerms, conditionTerms}
 use Rattle.text_forms.specs.Bytes.{bytes}
 use Rattle.text_rules.specs.Check.{lineRefusal, planFits, sortsAgree, oneSort, hasRoom, inPlace, openRules, isOpen, isUsed, isOutside}
-use Rattle.program.specs.Program.{someAction, isTotal, isLeast, Rule, Program, hasRemote, isRemote, stepPlan, readings, ruleReadings, actionReadings, testReadings, termReadings}
+use Rattle.program.specs.Program.{someTarget, isTotal, isLeast, Rule, Program, hasRemote, isRemote, stepPlan, readings, ruleReadings, targetReadings, testReadings, expressionReadings}
 use Rattle.program.specs.Program as P
 use Rattle.program.specs.declared.setting.Setting.the-variants.{Single, Looped}
-use Rattle.text_rules.specs.Text.{planned, rulesAt, textProgram, readFrom, start, closed, lineOutcome, advance, closeLoop, lastOf, withStep, settingIn, actionOf, testOf, termOf, pieceForm, lines, onto}
+use Rattle.text_rules.specs.Text.{planned, rulesAt, textProgram, readFrom, start, closed, lineOutcome, advance, closeLoop, lastOf, withStep, settingIn, ruleOf as programRule, targetOf, expressionOf, testOf, termOf, pieceForm, lines, onto}
 
 -- "n 3, r 1, m 1": the fields A, which is 0, and M, which is 8
 abbrev pub sizes : Sizes
@@ -31,7 +31,7 @@ sizes = record { records = 3; references = 1; measures = 1 }
 
 -- the program or refusal of some bytes over a register of some sizes, and of a text over that register
 unfoldable pub answerOver : Sizes → List ℕ → Outcome Program
-unfolding textProgram readFrom start closed lineOutcome advance closeLoop lastOf withStep settingIn actionOf testOf termOf pieceForm lines onto after unless lineRefusal planFits sortsAgree oneSort someAction isTotal isLeast hasRoom numbersInRange termInRange short termShort kinded kindsAgree actionKinds areMeasures conditionKinds same isReferenceTerm termKinded named fieldNamed termNamed target everyTerm terms actionTerms conditionTerms inPlace openRules isOpen isUsed isOutside lineForm testedForm compared ruleOf actionForm remoteForm sent localForm assigned termForm ofChain ofNumber capital then word or finished isDigit digits decimal isNumeral signedForm numberForm numberValue signedValue inRange startsWith C.isCapital C.closed C.form C.fieldOf C.isReferenceLetter C.names every C.innerReferences C.wordOf stepPlan readings ruleReadings actionReadings testReadings termReadings plan add-readings add planLines listed place sameFact same-word tree tree-within half doubled front rest
+unfolding textProgram readFrom start closed lineOutcome advance closeLoop lastOf withStep settingIn programRule targetOf expressionOf testOf termOf pieceForm lines onto after unless lineRefusal planFits sortsAgree oneSort someTarget isTotal isLeast hasRoom numbersInRange termInRange short termShort kinded kindsAgree actionKinds areMeasures conditionKinds same isReferenceTerm termKinded named fieldNamed termNamed target everyTerm terms actionTerms conditionTerms inPlace openRules isOpen isUsed isOutside lineForm testedForm compared ruleOf actionForm remoteForm sent localForm assigned termForm ofChain ofNumber capital then word or finished isDigit digits decimal isNumeral signedForm numberForm numberValue signedValue inRange startsWith C.isCapital C.closed C.form C.fieldOf C.isReferenceLetter C.names every C.innerReferences C.wordOf stepPlan readings ruleReadings targetReadings testReadings expressionReadings plan add-readings add planLines listed place sameFact same-word tree tree-within half doubled front rest
 answerOver s t = textProgram s t
 
 unfoldable pub answer : String → Outcome Program
@@ -50,7 +50,7 @@ times (suc n) t = t ++ times n t
 
 -- the printed text passes: one step of one rule, whose reading has the hops A, A, M
 abbrev pub printedRule : Rule
-printedRule = record { test = P.always; action = P.set 8 (P.reading (0 ∷ 0 ∷ 8 ∷ [])) }
+printedRule = record { test = P.always; target = P.own 8; expression = P.reading (0 ∷ 0 ∷ 8 ∷ []) }
 
 abbrev pub printedProgram : Program
 printedProgram = record { rules = printedRule ∷ []; setting = Single } ∷ []
@@ -62,7 +62,7 @@ printed-passes = refl
 -- its plan, three lines and no remote exchange; "Steps count from 1", others are 17
 pub printed-planned : planned (printedRule ∷ [])
     ≡ record { plan-lines = (back (0 ∷ []), 1) ∷ (back (0 ∷ 0 ∷ []), 2) ∷ (read (0 ∷ 0 ∷ 8 ∷ []), 3) ∷ []; remote = false }
-unfolding planned result round rounds hasRemote isRemote readings ruleReadings actionReadings testReadings termReadings plan add-readings add planLines listed place sameFact same-word tree tree-within half doubled front rest
+unfolding planned result round rounds hasRemote someTarget isRemote readings ruleReadings targetReadings testReadings expressionReadings plan add-readings add planLines listed place sameFact same-word tree tree-within half doubled front rest
 printed-planned = refl
 
 pub step-first : rulesAt printedProgram 1 ≡ O.done (printedRule ∷ [])

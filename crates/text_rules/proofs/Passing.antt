@@ -19,9 +19,9 @@ use Rattle.register.proofs.Roundtrip.{loads}
 use Rattle.register.proofs.Bounds.{limits}
 use Rattle.text_forms.specs.Written.{Line, step, end, done, loop, rule}
 use Rattle.text_forms.specs.Parts.{terms, everyTerm, fieldNamed, named, same}
-use Rattle.program.specs.Program.{Step, Program, someAction}
+use Rattle.program.specs.Program.{Step, Program, someTarget}
 use Rattle.text_rules.specs.Check.{isOutside, isUsed, State, isOpen, openRules, inPlace, hasRoom, sortsAgree, planFits, lineRefusal}
-use Rattle.text_rules.specs.Text.{Piece, lines, pieceForm, testOf, closeLoop, advance, lineOutcome, closed, readFrom, start, textProgram, check}
+use Rattle.text_rules.specs.Text.{Piece, lines, pieceForm, closeLoop, advance, lineOutcome, closed, readFrom, start, textProgram, check}
 use Rattle.laws.specs.Lists.{Each}
 use Rattle.program.specs.Passed.{RulePasses, RulesPass, StepPasses, Loops, ProgramPasses}
 use Rattle.text_rules.proofs.Checked.{Clean, refusal-none, letter-field, rule-passes}
@@ -39,7 +39,7 @@ pub record Reached (s : Sizes) (st : State) : Type 0 where
   pub field : AroundPasses s (st .around)
 
 rules-none : (s : Sizes) → RulesPass s []
-unfolding someAction
+unfolding someTarget
 rules-none s = record { each = tt; few = omega arith; one-sort = λ f h. refl }
 
 pub start-reached : (s : Sizes) → Reached s start
@@ -93,7 +93,7 @@ module _ (s : Sizes) (lim : Limits s) where
     rules = record {
       each = each-append (RulePasses s) (openRules st) _ (w .rules .each) (rule-passes s lim st c a k, tt);
       few = simp length-append (omega (arith, ltb-true (length (openRules st)) 32 (k .room)));
-      one-sort = one-sort (openRules st) (testOf c) (w .rules .one-sort) a (k .sorts);
+      one-sort = one-sort (openRules st) c (w .rules .one-sort) a (k .sorts);
     };
     loops = w .loops;
     field = w .field;

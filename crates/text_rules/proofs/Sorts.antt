@@ -8,34 +8,37 @@ use lib.Dec.{eqb}
 use Rattle.laws.proofs.Bools.{true-false}
 use Rattle.chain_text.specs.Text.{fieldOf}
 use Rattle.text_forms.specs.Written as W
-use Rattle.program.specs.Program.{Test, Action, Rule, isLeast, isTotal, someAction}
+use Rattle.program.specs.declared.rule.Sort.the-variants.{Least, Total}
+use Rattle.program.specs.Program.{Rule, isLeast, isTotal, someTarget}
 use Rattle.text_rules.specs.Check.{oneSort}
-use Rattle.text_rules.specs.Text.{actionOf}
+use Rattle.text_rules.specs.Text.{targetOf, ruleOf}
 use Rattle.program.proofs.Rules.{some-append}
 
 -- a written rule behind the rules so far
-abbrev pub more : List Rule → Test → W.Action → List Rule
-more rs t a = rs ++ (record { test = t; action = actionOf a } ∷ [])
+abbrev pub more : List Rule → W.Condition → W.Action → List Rule
+more rs c a = rs ++ (ruleOf c a ∷ [])
 
-module _ (rs : List Rule) (t : Test) (old : (f : ℕ) → someAction (isLeast f) rs ≡ true → someAction (isTotal f) rs ≡ false) where
+module _ (rs : List Rule) (t : W.Condition) (old : (f : ℕ) → someTarget (isLeast f) rs ≡ true → someTarget (isTotal f) rs ≡ false) where
   -- a local rule is neither
-  local-sort : (a : W.Action) (f : ℕ) → isLeast f (actionOf a) ≡ false → isTotal f (actionOf a) ≡ false → someAction (isLeast f) (more rs t a) ≡ true → someAction (isTotal f) (more rs t a) ≡ false
+  local-sort : (a : W.Action) (f : ℕ) → isLeast f (targetOf a) ≡ false → isTotal f (targetOf a) ≡ false
+      → someTarget (isLeast f) (more rs t a) ≡ true → someTarget (isTotal f) (more rs t a) ≡ false
+  unfolding ruleOf
   local-sort a f l r h =
-      let was : someAction (isLeast f) rs ≡ true = sym (some-append (isLeast f) rs _ ∙ rw (l, or-false)) ∙ h in
+      let was : someTarget (isLeast f) rs ≡ true = sym (some-append (isLeast f) rs _ ∙ rw (l, or-false)) ∙ h in
       some-append (isTotal f) rs _ ∙ rw (old f was, r)
 
-  pub one-sort : (a : W.Action) → oneSort rs a ≡ true → (f : ℕ) → someAction (isLeast f) (more rs t a) ≡ true → someAction (isTotal f) (more rs t a) ≡ false
-  unfolding oneSort isLeast isTotal actionOf
+  pub one-sort : (a : W.Action) → oneSort rs a ≡ true → (f : ℕ) → someTarget (isLeast f) (more rs t a) ≡ true → someTarget (isTotal f) (more rs t a) ≡ false
+  unfolding oneSort isLeast isTotal targetOf ruleOf
   one-sort (W.set g x) o f h = local-sort (W.set g x) f refl refl h
-  one-sort (W.sum g x y) o f h = local-sort (W.sum g x y) f refl refl h
-  one-sort (W.difference g x y) o f h = local-sort (W.difference g x y) f refl refl h
-  one-sort (W.least g c x) o f h = go (someAction (isLeast f) rs) refl (sym (some-append (isLeast f) rs _) ∙ h)
+  one-sort (W.combine g op x y) o f h = local-sort (W.combine g op x y) f refl refl h
+  one-sort (W.remote Least g c x) o f h = go (someTarget (isLeast f) rs) refl (sym (some-append (isLeast f) rs _) ∙ h)
     where
-      go : (b : Bool) → someAction (isLeast f) rs ≡ b → someAction (isLeast f) rs || eqb f (fieldOf g) ≡ true → someAction (isTotal f) (more rs t (W.least g c x)) ≡ false
+      go : (b : Bool) → someTarget (isLeast f) rs ≡ b → someTarget (isLeast f) rs || eqb f (fieldOf g) ≡ true
+          → someTarget (isTotal f) (more rs t (W.remote Least g c x)) ≡ false
       go true e k = some-append (isTotal f) rs _ ∙ rw (old f e)
       go false e k =
           let at : f ≡ fieldOf g = eqb-true f (fieldOf g) (ap (λ (b : Bool). b || eqb f (fieldOf g)) (sym e) ∙ k) in
-          some-append (isTotal f) rs _ ∙ or-false _ ∙ ap (λ (i : ℕ). someAction (isTotal i) rs) at ∙ not-true _ o
-  one-sort (W.total g c x) o f h =
-      let was : someAction (isLeast f) rs ≡ true = sym (some-append (isLeast f) rs _ ∙ or-false _) ∙ h in
+          some-append (isTotal f) rs _ ∙ or-false _ ∙ ap (λ (i : ℕ). someTarget (isTotal i) rs) at ∙ not-true _ o
+  one-sort (W.remote Total g c x) o f h =
+      let was : someTarget (isLeast f) rs ≡ true = sym (some-append (isLeast f) rs _ ∙ or-false _) ∙ h in
       some-append (isTotal f) rs _ ∙ rw (old f was) (ne-eqb f (fieldOf g) (λ e. true-false {A = ⊥} was (rw e (not-true _ o))))

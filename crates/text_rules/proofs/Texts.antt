@@ -12,11 +12,15 @@ use Rattle.laws.specs.Lists.{every, Each}
 use Rattle.laws.proofs.Bools.{and-both, and-true}
 use Rattle.text_forms.specs.Bytes.{bytes}
 use Rattle.text_forms.specs.Numeral.{isDigit, printedNumber}
-use Rattle.text_forms.specs.Written.{Term, chain, number, always, when, Action, set, sum, difference, least, total, Line, step, end, done, loop, rule}
+use Rattle.text_forms.specs.Written.{Term, chain, number, always, when, Action, set, combine, remote, Line, step, end, done, loop, rule}
 use Rattle.program.specs.declared.rule.Comparison.{Comparison}
 use Rattle.program.specs.declared.rule.Comparison.the-variants.{Less, Equal, Unequal}
+use Rattle.program.specs.declared.rule.Operator.{Operator}
+use Rattle.program.specs.declared.rule.Operator.the-variants.{Plus, Minus}
+use Rattle.program.specs.declared.rule.Sort.{Sort}
+use Rattle.program.specs.declared.rule.Sort.the-variants.{Least, Total}
 use Rattle.text_forms.specs.Term.{printedTerm, ProperTerm}
-use Rattle.text_forms.specs.Line.{comparisonText, printedAction, printedLine, ProperAction, Proper}
+use Rattle.text_forms.specs.Line.{comparisonText, operatorText, sortText, printedAction, printedLine, ProperAction, Proper}
 use Rattle.text_forms.proofs.Lines.{printed-line}
 use Rattle.text_rules.specs.Text.{isWithin, lines, pieceForm}
 use Rattle.text_rules.proofs.Pieces.{lines-ended}
@@ -63,23 +67,32 @@ term-within (chain ls) p = chain-within ls p
 term-within (number true ds) p = digits-within ds (p .1)
 term-within (number false ds) p = digits-within ds (p .1)
 
-action-within : (a : Action) → ProperAction a → Within (printedAction a)
-unfolding printedAction every isWithin
-action-within (set f x) p = within-cons f (bytes "[u] := " ++ printedTerm x) (capital-above f (p .0)) (term-within x (p .1))
-action-within (sum f x y) p =
-    within-cons f (bytes "[u] := " ++ (printedTerm x ++ (bytes " + " ++ printedTerm y))) (capital-above f (p .0))
-    (within-append (printedTerm x) (bytes " + " ++ printedTerm y) (term-within x (p .1)) (term-within y (p .2)))
-action-within (difference f x y) p =
-    within-cons f (bytes "[u] := " ++ (printedTerm x ++ (bytes " - " ++ printedTerm y))) (capital-above f (p .0))
-    (within-append (printedTerm x) (bytes " - " ++ printedTerm y) (term-within x (p .1)) (term-within y (p .2)))
-action-within (least f c x) p = within-append (printed (f ∷ c)) (bytes " <?= " ++ printedTerm x) (chain-within (f ∷ c) (p .0)) (term-within x (p .1))
-action-within (total f c x) p = within-append (printed (f ∷ c)) (bytes " += " ++ printedTerm x) (chain-within (f ∷ c) (p .0)) (term-within x (p .1))
-
 comparison-within : (c : Comparison) → Within (comparisonText c)
 unfolding every isWithin
 comparison-within Less = refl
 comparison-within Equal = refl
 comparison-within Unequal = refl
+
+operator-within : (op : Operator) → Within (operatorText op)
+unfolding every isWithin
+operator-within Plus = refl
+operator-within Minus = refl
+
+sort-within : (k : Sort) → Within (sortText k)
+unfolding every isWithin
+sort-within Least = refl
+sort-within Total = refl
+
+action-within : (a : Action) → ProperAction a → Within (printedAction a)
+unfolding printedAction every isWithin
+action-within (set f x) p = within-cons f (bytes "[u] := " ++ printedTerm x) (capital-above f (p .0)) (term-within x (p .1))
+action-within (combine f op x y) p =
+    within-cons f (bytes "[u] := " ++ (printedTerm x ++ (operatorText op ++ printedTerm y))) (capital-above f (p .0))
+    (within-append (printedTerm x) (operatorText op ++ printedTerm y) (term-within x (p .1))
+    (within-append (operatorText op) (printedTerm y) (operator-within op) (term-within y (p .2))))
+action-within (remote k f c x) p =
+    within-append (printed (f ∷ c)) (sortText k ++ printedTerm x) (chain-within (f ∷ c) (p .0))
+    (within-append (sortText k) (printedTerm x) (sort-within k) (term-within x (p .1)))
 
 line-within : (l : Line) → Proper l → Within (printedLine l)
 unfolding printedLine every isWithin

@@ -8,11 +8,12 @@ use lib.Dec.{leb, ltb}
 use lib.ListN.{length}
 use Rattle.register.specs.declared.Sizes.{Sizes}
 use Rattle.chain_text.specs.Text.{fieldOf}
-use Rattle.text_forms.specs.Written.{Action, set, sum, difference, least, total, Line, step, end, done, loop, rule}
+use Rattle.text_forms.specs.Written.{Action, set, combine, remote, Line, step, end, done, loop, rule}
 use Rattle.text_forms.specs.Parts.{named, kinded, short, numbersInRange}
+use Rattle.program.specs.declared.rule.Sort.the-variants.{Least, Total}
 use Rattle.text_rules.specs.declared.around.Around.{Around}
 use Rattle.text_rules.specs.declared.around.Around.the-variants.{Outside, Unused, Used}
-use Rattle.program.specs.Program.{Rule, Step, stepPlan, someAction, isLeast, isTotal}
+use Rattle.program.specs.Program.{Rule, Step, stepPlan, someTarget, isLeast, isTotal}
 
 -- The steps closed so far, the loop around, and the rules so far of the step that is open, if one is.
 pub record State : Type 0 where
@@ -57,10 +58,9 @@ hasRoom st (rule c a) = ltb (length (openRules st)) 32
 -- 14: "Within a step one field takes one sort of remote write": whether a rule behind these is of the sort that its field has taken so far
 unfoldable pub oneSort : List Rule → Action → Bool
 oneSort rs (set f x) = true
-oneSort rs (sum f x y) = true
-oneSort rs (difference f x y) = true
-oneSort rs (least f c x) = not (someAction (isTotal (fieldOf f)) rs)
-oneSort rs (total f c x) = not (someAction (isLeast (fieldOf f)) rs)
+oneSort rs (combine f op x y) = true
+oneSort rs (remote Least f c x) = not (someTarget (isTotal (fieldOf f)) rs)
+oneSort rs (remote Total f c x) = not (someTarget (isLeast (fieldOf f)) rs)
 
 unfoldable pub sortsAgree : State → Line → Bool
 sortsAgree st step = true

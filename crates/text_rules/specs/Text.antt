@@ -12,7 +12,7 @@ use Rattle.register.specs.declared.Sizes.{Sizes}
 use Rattle.chain_text.specs.Text.{fieldOf, wordOf}
 use Rattle.plan_theory.specs.Plan.{Fact, result}
 use Rattle.text_forms.specs.Numeral.{numberValue}
-use Rattle.text_forms.specs.Written.{Term, chain, number, Condition, always, when, Action, set, sum, difference, least, total, Line, step, end, done, loop, rule}
+use Rattle.text_forms.specs.Written.{Term, chain, number, Condition, always, when, Action, set, combine, remote, Line, step, end, done, loop, rule}
 use Rattle.text_forms.specs.Line.{lineForm}
 use Rattle.text_rules.specs.declared.around.Around.{Around}
 use Rattle.text_rules.specs.declared.around.Around.the-variants.{Outside, Unused, Used}
@@ -47,7 +47,7 @@ pieceForm (ended t) = lineForm t
 pieceForm (cut t) = none
 
 -- a written rule as a rule of the program
-unfoldable pub termOf : Term → P.Term
+unfoldable pub termOf : Term → P.Expression
 termOf (chain ls) = P.reading (wordOf ls)
 termOf (number negative ds) = P.constant (numberValue negative ds)
 
@@ -55,12 +55,18 @@ unfoldable pub testOf : Condition → P.Test
 testOf always = P.always
 testOf (when x c y) = P.when (termOf x) c (termOf y)
 
-unfoldable pub actionOf : Action → P.Action
-actionOf (set f x) = P.set (fieldOf f) (termOf x)
-actionOf (sum f x y) = P.sum (fieldOf f) (termOf x) (termOf y)
-actionOf (difference f x y) = P.difference (fieldOf f) (termOf x) (termOf y)
-actionOf (least f c x) = P.least (fieldOf f) (wordOf c) (termOf x)
-actionOf (total f c x) = P.total (fieldOf f) (wordOf c) (termOf x)
+unfoldable pub targetOf : Action → P.Target
+targetOf (set f x) = P.own (fieldOf f)
+targetOf (combine f op x y) = P.own (fieldOf f)
+targetOf (remote k f c x) = P.remote k (fieldOf f) (wordOf c)
+
+unfoldable pub expressionOf : Action → P.Expression
+expressionOf (set f x) = termOf x
+expressionOf (combine f op x y) = P.operation op (termOf x) (termOf y)
+expressionOf (remote k f c x) = termOf x
+
+unfoldable pub ruleOf : Condition → Action → Rule
+ruleOf c a = record { test = testOf c; target = targetOf a; expression = expressionOf a }
 
 -- where the next step stands, whether or not it will be the last of its loop
 unfoldable pub settingIn : Around → Setting
@@ -97,7 +103,7 @@ advance st done = record { steps = closeLoop (st .steps); around = Outside; open
 advance st (rule c a) = record {
   steps = st .steps;
   around = st .around;
-  open-rules = some (openRules st ++ (record { test = testOf c; action = actionOf a } ∷ []));
+  open-rules = some (openRules st ++ (ruleOf c a ∷ []));
 }
 
 -- line k of the text: "lowest number first"

@@ -21,11 +21,12 @@ use Rattle.text_forms.specs.Parts.{named, fieldNamed, target}
 use Rattle.text_local.specs.ActionRead.{ruleOfAction}
 use Rattle.text_line.specs.LineRead.{lineRead}
 use Rattle.text_rules.proofs.Passing.{close-length}
+use Rattle.program.specs.declared.rule.Sort.the-variants.{Least, Total}
 use Rattle.program.specs.Program as P
-use Rattle.program.specs.Program.{Test, Action, Rule, Step, stepPlan, writes, isRemote, hasRemote, mostLines, isLeast, isTotal, someAction}
+use Rattle.program.specs.Program.{Target, Rule, Step, stepPlan, writes, isRemote, hasRemote, mostLines, isLeast, isTotal, someTarget}
 use Rattle.text_rules.specs.Check.{isOpen, openRules}
 use Rattle.text_rules.specs.Check as C
-use Rattle.text_rules.specs.Text.{testOf, actionOf, closeLoop, withStep, advance, start}
+use Rattle.text_rules.specs.Text.{ruleOf, targetOf, closeLoop, withStep, advance, start}
 use Rattle.text_rules.proofs.Checked.{Clean, letter-field}
 use Rattle.program.proofs.Rules.{some-append}
 use Rattle.text_state.specs.State.{noRules, moreRules, withRemote, withRule, startState, standing, advanceOf}
@@ -39,9 +40,9 @@ pub record Counts (x : Tally) (rs : List Rule) : Type 0 where
   pub fields-length : length (x .fields) ≡ 16
   pub leasts-length : length (x .leasts) ≡ 16
   pub totals-length : length (x .totals) ≡ 16
-  pub fields-are : (f : ℕ) → getD (x .fields) f false ≡ someAction (writes f) rs
-  pub leasts-are : (f : ℕ) → getD (x .leasts) f false ≡ someAction (isLeast f) rs
-  pub totals-are : (f : ℕ) → getD (x .totals) f false ≡ someAction (isTotal f) rs
+  pub fields-are : (f : ℕ) → getD (x .fields) f false ≡ someTarget (writes f) rs
+  pub leasts-are : (f : ℕ) → getD (x .leasts) f false ≡ someTarget (isLeast f) rs
+  pub totals-are : (f : ℕ) → getD (x .totals) f false ≡ someTarget (isTotal f) rs
 
 pub record Stands (x : State) (st : C.State) : Type 0 where
   pub steps-are : x .steps ≡ length (st .steps)
@@ -56,7 +57,7 @@ none-taken (suc n) zero = refl
 none-taken (suc n) (suc f) = none-taken n f
 
 counts-none : Counts noRules []
-unfolding noRules hasRemote someAction
+unfolding noRules hasRemote someTarget
 counts-none = record {
   rules-are = refl;
   remote-is = refl;
@@ -80,39 +81,30 @@ taken-more l g f h = go (ℕ-discrete f g)
     go (yes e) = rw (e, getD-set-same l g true false h, eq-eqb g g refl, or-true)
     go (no n) = getD-set-other l g f true false n ∙ sym (ap (λ (b : Bool). getD l f false || b) (ne-eqb f g n) ∙ or-false _)
 
-remote-append : (rs : List Rule) (r : Rule) → hasRemote (rs ++ (r ∷ [])) ≡ hasRemote rs || isRemote (r .action)
-unfolding hasRemote
-remote-append [] r = or-false (isRemote (r .action))
-remote-append (q ∷ rs) r = go (remote-append rs r) (isRemote (q .action))
-  where
-    go : hasRemote (rs ++ (r ∷ [])) ≡ hasRemote rs || isRemote (r .action) → (x : Bool) → x || hasRemote (rs ++ (r ∷ [])) ≡ (x || hasRemote rs) || isRemote (r .action)
-    go ih true = refl
-    go ih false = ih
-
 -- one more rule, by what it adds
 module _ {x : Tally} {rs : List Rule} (h : Counts x rs) (r : Rule) where
   -- the fields that have taken one sort of write: as before, or with the rule's own
-  module _ (sort : ℕ → Action → Bool) (l : List Bool) (k : (f : ℕ) → getD l f false ≡ someAction (sort f) rs) where
-    sort-same : ((f : ℕ) → sort f (r .action) ≡ false) → (f : ℕ) → getD l f false ≡ someAction (sort f) (rs ++ (r ∷ []))
+  module _ (sort : ℕ → Target → Bool) (l : List Bool) (k : (f : ℕ) → getD l f false ≡ someTarget (sort f) rs) where
+    sort-same : ((f : ℕ) → sort f (r .target) ≡ false) → (f : ℕ) → getD l f false ≡ someTarget (sort f) (rs ++ (r ∷ []))
     sort-same b f = k f ∙ sym (some-append (sort f) rs r ∙ rw (b f, or-false))
 
-    sort-taken : (g : ℕ) → g < length l → ((f : ℕ) → sort f (r .action) ≡ eqb f g)
-        → (f : ℕ) → getD (set l g true) f false ≡ someAction (sort f) (rs ++ (r ∷ []))
+    sort-taken : (g : ℕ) → g < length l → ((f : ℕ) → sort f (r .target) ≡ eqb f g)
+        → (f : ℕ) → getD (set l g true) f false ≡ someTarget (sort f) (rs ++ (r ∷ []))
     sort-taken g i b f = taken-more l g f i ∙ sym (some-append (sort f) rs r ∙ rw (b f, k f))
 
   -- the rule writes its field
-  module _ (k : P.fieldOf (r .action) < 16) where
+  module _ (k : P.fieldOf (r .target) < 16) where
     abbrev fields : List Bool
-    fields = set (x .fields) (P.fieldOf (r .action)) true
+    fields = set (x .fields) (P.fieldOf (r .target)) true
 
-    counts-more : (remote : Bool) (leasts totals : List Bool) → remote ≡ hasRemote rs || isRemote (r .action) → length leasts ≡ 16 → length totals ≡ 16
-        → ((f : ℕ) → getD leasts f false ≡ someAction (isLeast f) (rs ++ (r ∷ [])))
-        → ((f : ℕ) → getD totals f false ≡ someAction (isTotal f) (rs ++ (r ∷ [])))
+    counts-more : (remote : Bool) (leasts totals : List Bool) → remote ≡ hasRemote rs || isRemote (r .target) → length leasts ≡ 16 → length totals ≡ 16
+        → ((f : ℕ) → getD leasts f false ≡ someTarget (isLeast f) (rs ++ (r ∷ [])))
+        → ((f : ℕ) → getD totals f false ≡ someTarget (isTotal f) (rs ++ (r ∷ [])))
         → Counts (record { rules = x .rules + 1; remote = remote; fields = fields; leasts = leasts; totals = totals }) (rs ++ (r ∷ []))
-    unfolding writes
+    unfolding writes hasRemote
     counts-more remote leasts totals a m n b d = record {
       rules-are = rw (h .rules-are, length-append rs (r ∷ []));
-      remote-is = a ∙ sym (remote-append rs r);
+      remote-is = a ∙ sym (some-append isRemote rs r);
       fields-length = length-set (x .fields) _ true ∙ h .fields-length;
       leasts-length = m;
       totals-length = n;
@@ -121,26 +113,25 @@ module _ {x : Tally} {rs : List Rule} (h : Counts x rs) (r : Rule) where
       totals-are = d;
     }
 
-    counts-local : isRemote (r .action) ≡ false → ((f : ℕ) → isLeast f (r .action) ≡ false) → ((f : ℕ) → isTotal f (r .action) ≡ false)
-        → Counts (moreRules x (P.fieldOf (r .action))) (rs ++ (r ∷ []))
+    counts-local : isRemote (r .target) ≡ false → ((f : ℕ) → isLeast f (r .target) ≡ false) → ((f : ℕ) → isTotal f (r .target) ≡ false)
+        → Counts (moreRules x (P.fieldOf (r .target))) (rs ++ (r ∷ []))
     unfolding moreRules
     counts-local a b d =
         counts-more (x .remote) (x .leasts) (x .totals) (h .remote-is ∙ sym (rw (a, or-false))) (h .leasts-length) (h .totals-length)
         (sort-same isLeast (x .leasts) (h .leasts-are) b) (sort-same isTotal (x .totals) (h .totals-are) d)
 
 -- a rule that has passed
-counts-rule : {x : Tally} {rs : List Rule} (t : Test) (a : W.Action) → Counts x rs → fieldOf (target a) < 16
-    → Counts (withRule x (ruleOfAction a)) (rs ++ (record { test = t; action = actionOf a } ∷ []))
-unfolding withRule moreRules withRemote ruleOfAction actionOf target P.fieldOf isRemote isLeast isTotal
+counts-rule : {x : Tally} {rs : List Rule} (t : W.Condition) (a : W.Action) → Counts x rs → fieldOf (target a) < 16
+    → Counts (withRule x (ruleOfAction a)) (rs ++ (ruleOf t a ∷ []))
+unfolding withRule moreRules withRemote ruleOfAction ruleOf targetOf target P.fieldOf isRemote isLeast isTotal
 counts-rule t (W.set f x) h k = counts-local h _ k refl (λ i. refl) (λ i. refl)
-counts-rule t (W.sum f x y) h k = counts-local h _ k refl (λ i. refl) (λ i. refl)
-counts-rule t (W.difference f x y) h k = counts-local h _ k refl (λ i. refl) (λ i. refl)
-counts-rule {x} {rs} t (W.least f c y) h k =
+counts-rule t (W.combine f op x y) h k = counts-local h _ k refl (λ i. refl) (λ i. refl)
+counts-rule {x} {rs} t (W.remote Least f c y) h k =
     let taken = sort-taken h _ isLeast (x .leasts) (h .leasts-are) (fieldOf f) (omega (arith, k, h .leasts-length)) (λ i. refl) in
     counts-more h _ k true (set (x .leasts) (fieldOf f) true) (x .totals) (sym (or-true (hasRemote rs)))
     (length-set (x .leasts) (fieldOf f) true ∙ h .leasts-length) (h .totals-length)
     taken (sort-same h _ isTotal (x .totals) (h .totals-are) (λ i. refl))
-counts-rule {x} {rs} t (W.total f c y) h k =
+counts-rule {x} {rs} t (W.remote Total f c y) h k =
     let taken = sort-taken h _ isTotal (x .totals) (h .totals-are) (fieldOf f) (omega (arith, k, h .totals-length)) (λ i. refl) in
     counts-more h _ k true (x .leasts) (set (x .totals) (fieldOf f) true) (sym (or-true (hasRemote rs)))
     (h .leasts-length) (length-set (x .totals) (fieldOf f) true ∙ h .totals-length)
@@ -160,7 +151,8 @@ most-close (x ∷ y ∷ xs) = ap (max (length (stepPlan (x .rules)))) (most-clos
 
 -- behind a line that has passed; n is the number of lines of the open step's plan
 module _ (s : Sizes) (lim : Limits s) {x : State} {st : C.State} (h : Stands x st) where
-  pub advance-stands : (n : ℕ) (l : Line) → Clean s st l → (l ≡ end → n ≡ length (stepPlan (openRules st))) → Stands (advanceOf x n (lineRead s (some l))) (advance st l)
+  pub advance-stands : (n : ℕ) (l : Line) → Clean s st l → (l ≡ end → n ≡ length (stepPlan (openRules st)))
+      → Stands (advanceOf x n (lineRead s (some l))) (advance st l)
   unfolding advanceOf standing lineRead advance isOpen openRules named fieldNamed
   advance-stands n step k e = record { steps-are = h .steps-are; lines-are = h .lines-are; around-is = h .around-is; in-step = refl; tally-is = counts-none }
   advance-stands n end k e = record {
@@ -170,12 +162,19 @@ module _ (s : Sizes) (lim : Limits s) {x : State} {st : C.State} (h : Stands x s
     in-step = refl;
     tally-is = counts-none;
   }
-  advance-stands n done k e = record { steps-are = h .steps-are ∙ sym (close-length (st .steps)); lines-are = h .lines-are ∙ sym (most-close (st .steps)); around-is = refl; in-step = refl; tally-is = counts-none }
+  advance-stands n done k e = record {
+    steps-are = h .steps-are ∙ sym (close-length (st .steps));
+    lines-are = h .lines-are ∙ sym (most-close (st .steps));
+    around-is = refl;
+    in-step = refl;
+    tally-is = counts-none;
+  }
   advance-stands n (loop f) k e = record { steps-are = h .steps-are; lines-are = h .lines-are; around-is = refl; in-step = refl; tally-is = counts-none }
   advance-stands n (rule c a) k e = record {
     steps-are = h .steps-are;
     lines-are = h .lines-are;
     around-is = h .around-is;
     in-step = refl;
-    tally-is = counts-rule (testOf c) a (h .tally-is) (field-below s lim (fieldOf (target a)) (letter-field s lim (target a) (and-both (names s (target a)) _ (k .is-named) .0)));
+    tally-is = counts-rule c a (h .tally-is)
+        (field-below s lim (fieldOf (target a)) (letter-field s lim (target a) (and-both (names s (target a)) _ (k .is-named) .0)));
   }

@@ -5,7 +5,9 @@ use mathlib.Core.List.{List}
 use lib.ListN.{getD, set, replicate}
 use Rattle.plan_lines.specs.declared.Plan.{Plan}
 use Rattle.program.specs.declared.rule.Rule.{Rule}
-use Rattle.program.specs.declared.rule.Rule.the-variants.{Set, Sum, Difference, Least, Total}
+use Rattle.program.specs.declared.rule.Rule.the-variants.{Set, Combine, Remote}
+use Rattle.program.specs.declared.rule.Sort.{Sort}
+use Rattle.program.specs.declared.rule.Sort.the-variants.{Least, Total}
 use Rattle.text_line.specs.declared.line.LineRead.{LineRead}
 use Rattle.text_line.specs.declared.line.LineRead.the-variants as L
 use Rattle.text_rules.specs.Text.{settingIn, withStep, lastOf}
@@ -22,33 +24,38 @@ noRules = record { rules = 0; remote = false; fields = replicate 16 false; least
 -- 14: the field has taken the other sort
 unfoldable pub otherSort : Tally → Rule → Bool
 otherSort o (Set f x) = false
-otherSort o (Sum f x y) = false
-otherSort o (Difference f x y) = false
-otherSort o (Least f c x) = getD (o .totals) f false
-otherSort o (Total f c x) = getD (o .leasts) f false
+otherSort o (Combine f op x y) = false
+otherSort o (Remote Least f c x) = getD (o .totals) f false
+otherSort o (Remote Total f c x) = getD (o .leasts) f false
 
 -- one more rule, that writes field f and is not remote
 unfoldable pub moreRules : Tally → ℕ → Tally
 moreRules o f = record { rules = o .rules + 1; remote = o .remote; fields = set (o .fields) f true; leasts = o .leasts; totals = o .totals }
 
--- a remote rule, behind which these fields have taken the one sort and these the other
-unfoldable pub withRemote : Tally → List Bool → List Bool → Tally
-withRemote o leasts totals = record { rules = o .rules; remote = true; fields = o .fields; leasts = leasts; totals = totals }
+-- a remote rule of this sort, that writes field f
+unfoldable pub withRemote : Tally → Sort → ℕ → Tally
+withRemote o Least f = record { rules = o .rules; remote = true; fields = o .fields; leasts = set (o .leasts) f true; totals = o .totals }
+withRemote o Total f = record { rules = o .rules; remote = true; fields = o .fields; leasts = o .leasts; totals = set (o .totals) f true }
 
 -- behind one more rule of the open step
 unfoldable pub withRule : Tally → Rule → Tally
 withRule o (Set f x) = moreRules o f
-withRule o (Sum f x y) = moreRules o f
-withRule o (Difference f x y) = moreRules o f
-withRule o (Least f c x) = withRemote (moreRules o f) (set (o .leasts) f true) (o .totals)
-withRule o (Total f c x) = withRemote (moreRules o f) (o .leasts) (set (o .totals) f true)
+withRule o (Combine f op x y) = moreRules o f
+withRule o (Remote k f c x) = withRemote (moreRules o f) k f
 
 -- the frame of the open step, and of a step that is the last of its loop
-unfoldable pub frameOf : State → Plan → Frame
-frameOf st p = record { rules = st .tally .rules; remote = st .tally .remote; fields = st .tally .fields; setting = settingIn (st .around); plan = p }
+unfoldable pub frameOf : State → Plan → List Bool → Frame
+frameOf st p w = record {
+  rules = st .tally .rules;
+  remote = st .tally .remote;
+  fields = st .tally .fields;
+  setting = settingIn (st .around);
+  plan = p;
+  wanted = w;
+}
 
 unfoldable pub lastFrame : Frame → Frame
-lastFrame f = record { rules = f .rules; remote = f .remote; fields = f .fields; setting = lastOf (f .setting); plan = f .plan }
+lastFrame f = record { rules = f .rules; remote = f .remote; fields = f .fields; setting = lastOf (f .setting); plan = f .plan; wanted = f .wanted }
 
 -- before the first line
 unfoldable pub startState : State

@@ -41,9 +41,9 @@ pub fn place(state: State) -> usize
     32 * state.steps + tally.rules
 }
 
-// The frame of the open step, with its plan.
-pub fn open_frame(state: State, plan: Plan) -> Frame
-    ensures { λ r. ⌜ r ≡ frameOf state plan ⌝ }
+// The frame of the open step, with its plan and the lines of it that its rules read.
+pub fn open_frame(state: State, plan: Plan, wanted: [bool; 64]) -> Frame
+    ensures { λ r. ⌜ r ≡ frameOf state plan wanted ⌝ }
 {
     let around = state.around;
     let tally = state.tally;
@@ -54,6 +54,7 @@ pub fn open_frame(state: State, plan: Plan) -> Frame
         fields,
         setting: around::setting_in(around),
         plan,
+        wanted,
     }
 }
 
@@ -64,12 +65,14 @@ pub fn last_frame(frame: Frame) -> Frame
     let setting = frame.setting;
     let plan = frame.plan;
     let fields = frame.fields;
+    let wanted = frame.wanted;
     Frame {
         rules: frame.rules,
         remote: frame.remote,
         fields,
         setting: around::last_of(setting),
         plan,
+        wanted,
     }
 }
 

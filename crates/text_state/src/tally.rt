@@ -5,6 +5,7 @@ ghost use Prim.Native.Nat.{_≤_};
 ghost use lib.ListN.{getD, set};
 ghost use Rattle.text_state.specs.State.{noRules, otherSort, moreRules, withRemote, withRule};
 use program::rule::Rule;
+use program::rule::Sort;
 
 // Their number, whether one is remote, which fields they write, and which of these have taken a `<?=` and which a `+=`.
 pub struct Tally {
@@ -55,10 +56,11 @@ pub fn is_other_sort(tally: Tally, rule: Rule) -> bool
     let totals = tally.totals;
     match rule {
         Rule::Set(_, _) => false,
-        Rule::Sum(_, _, _) => false,
-        Rule::Difference(_, _, _) => false,
-        Rule::Least(field, _, _) => is_taken(totals, field),
-        Rule::Total(field, _, _) => is_taken(leasts, field),
+        Rule::Combine(_, _, _, _) => false,
+        Rule::Remote(sort, field, _, _) => match sort {
+            Sort::Least => is_taken(totals, field),
+            Sort::Total => is_taken(leasts, field),
+        },
     }
 }
 
@@ -79,17 +81,28 @@ fn more_rules(tally: Tally, field: u64) -> Tally
     }
 }
 
-// A remote rule, behind which these fields have taken the one sort and these the other.
-fn with_remote(tally: Tally, leasts: [bool; 16], totals: [bool; 16]) -> Tally
-    ensures { λ r. ⌜ r ≡ withRemote tally leasts totals ⌝ }
+// A remote rule of this sort, that writes this field.
+fn with_remote(tally: Tally, sort: Sort, field: u64) -> Tally
+    ensures { λ r. ⌜ r ≡ withRemote tally sort field ⌝ }
 {
     let fields = tally.fields;
-    Tally {
-        rules: tally.rules,
-        remote: true,
-        fields,
-        leasts,
-        totals,
+    let leasts = tally.leasts;
+    let totals = tally.totals;
+    match sort {
+        Sort::Least => Tally {
+            rules: tally.rules,
+            remote: true,
+            fields,
+            leasts: with_taken(leasts, field),
+            totals,
+        },
+        Sort::Total => Tally {
+            rules: tally.rules,
+            remote: true,
+            fields,
+            leasts,
+            totals: with_taken(totals, field),
+        },
     }
 }
 
@@ -98,21 +111,9 @@ pub fn with_rule(tally: Tally, rule: Rule) -> Tally
     requires { ⌜ tally .rules ≤ 32 ⌝ }
     ensures { λ r. ⌜ r ≡ withRule tally rule ⌝ }
 {
-    let leasts = tally.leasts;
-    let totals = tally.totals;
     match rule {
         Rule::Set(field, _) => more_rules(tally, field),
-        Rule::Sum(field, _, _) => more_rules(tally, field),
-        Rule::Difference(field, _, _) => more_rules(tally, field),
-        Rule::Least(field, _, _) => with_remote(
-            more_rules(tally, field),
-            with_taken(leasts, field),
-            totals,
-        ),
-        Rule::Total(field, _, _) => with_remote(
-            more_rules(tally, field),
-            leasts,
-            with_taken(totals, field),
-        ),
+        Rule::Combine(field, _, _, _) => more_rules(tally, field),
+        Rule::Remote(sort, field, _, _) => with_remote(more_rules(tally, field), sort, field),
     }
 }

@@ -17,8 +17,8 @@ abbrev μ-loop : tie.MeasureT-loop
 loop-holds : tie.Need-loop-holds Inv-loop μ-loop
 loop-holds c = (omega arith, clear-none _ _)
 
-put-cell-requires : tie.Need-put-cell-requires Inv-loop μ-loop
-put-cell-requires c κs =
+put-reading-requires : tie.Need-put-reading-requires Inv-loop μ-loop
+put-reading-requires c κs =
     let l = c .before .before .before in
     (omega (arith, l .loop .inv .1 .values-length), omega (arith, l .loop .inv .1 .marks-length))
 
@@ -32,7 +32,7 @@ loop-again : tie.Need-loop-again Inv-loop μ-loop
 loop-again c =
     let p = c .before .before .before in
     let l = p .before .before .before .before in
-    let put = p .put-cell .ensures in
+    let put = p .put-reading .ensures in
     (omega arith, rw (put .0, put .1) (clear-next _ _ (l .loop .j) (omega arith) (omega arith) (l .loop .inv .1) (put .2)))
 
 same-length : tie.Need-same-length Inv-loop μ-loop
@@ -54,7 +54,7 @@ clear-spec =
     Inv-loop
     μ-loop
     loop-holds
-    put-cell-requires
+    put-reading-requires
     add-j
     loop-less
     loop-again

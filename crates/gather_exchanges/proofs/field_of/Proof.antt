@@ -25,11 +25,11 @@ rest-word c =
 chain-of-requires : tie.Need-chain-of-requires
 chain-of-requires c κs = search needs
 
-sub-result : tie.Need-sub-result
-sub-result c = field-some _ _ (c .before .before .pre .0) (own-word c)
+first-hop-requires : tie.Need-first-hop-requires
+first-hop-requires c κs = field-some _ _ (c .before .before .pre .0) (own-word c)
 
 returns : tie.Need-returns
-returns c = field-is _ _ (c .before .before .pre .0) (own-word c)
+returns c = field-is _ _ (c .before .before .before .pre .0) (own-word (c .before)) (c .first-hop .ensures)
 
 needs-of-requires : tie.Need-needs-of-requires
 needs-of-requires c κs = (hops-long _ (omega (arith, c .if1 .left)), c .before .pre .1)
@@ -37,20 +37,20 @@ needs-of-requires c κs = (hops-long _ (omega (arith, c .if1 .left)), c .before 
 chain-of-requires-2 : tie.Need-chain-of-requires-2
 chain-of-requires-2 c κs = search needs
 
-sub-result-2 : tie.Need-sub-result-2
-sub-result-2 c = field-some _ _ (c .before .before .before .pre .0) (rest-word c)
+first-hop-requires-2 : tie.Need-first-hop-requires-2
+first-hop-requires-2 c κs = field-some _ _ (c .before .before .before .pre .0) (rest-word c)
 
 returns-2 : tie.Need-returns-2
-returns-2 c = field-is _ _ (c .before .before .before .pre .0) (rest-word c)
+returns-2 c = field-is _ _ (c .before .before .before .before .pre .0) (rest-word (c .before)) (c .first-hop2 .ensures)
 
 pub field-of-spec : {M : Type 1} → statement M
 field-of-spec =
     tie.close
     (tie.spec
     chain-of-requires
-    sub-result
+    first-hop-requires
     returns
     needs-of-requires
     chain-of-requires-2
-    sub-result-2
+    first-hop-requires-2
     returns-2)

@@ -10,7 +10,7 @@ use mir.Syntax.{w32}
 use mir.Val.{SFits}
 use denote.Ref.{now}
 use Rattle.register.specs.Cells.{cellsOf}
-use Rattle.register.specs.Shape.{refersWithin}
+use Rattle.chain.specs.Word.{refersTo}
 use Rattle.chain.proofs.Following.{column-below}
 use Rattle.chain.proofs.Fields.{field-below}
 use Rattle.scratch.specs.Places.{placeAt, Kept}
@@ -50,7 +50,7 @@ before c = c .before .loop .inv .1 .behind _ (omega arith)
 
 -- and so names a record
 named : (c : tie.In-loop Inv-loop μ-loop) → let l = c .before .loop in let a = start c .args in
-    SFits w32 (getD (l .values) (a .first + l .u) (pos 0)) × (refersWithin (a .sizes .records) (placeAt (l .values) (l .marks) (a .first + l .u)) ≡ true)
+    SFits w32 (getD (l .values) (a .first + l .u) (pos 0)) × (refersTo (a .sizes .records) (placeAt (l .values) (l .marks) (a .first + l .u)) ≡ true)
 named c =
     let r = start c .pre .4 in
     (rw (before c .value-is) (r .fits _ (omega arith)), rw (placeAt-kept (before c)) (r .refers _ (omega arith)))

@@ -10,33 +10,36 @@ use borrow.Author.Needs.{needs}
 use lib.ListN.{length, getD}
 use denote.Ref.{now}
 use Rattle.register.specs.Cells.{cellsOf}
+use Rattle.chain.proofs.Packing.{packed-some}
 use Rattle.plan_theory.specs.Plan.{word, line}
-use Rattle.plan_keys.specs.Keys.{fact-of}
+use Rattle.plan_keys.specs.Keys.{fact-of, kind}
 use Rattle.plan_lines.specs.Held.{facts-in}
 use Rattle.plan_keys.specs.declared.key.Kind.{Kind}
 use Rattle.plan_lines.proofs.Search.{facts-length}
 use Rattle.gather_follow.specs.Filled.{Filled}
-use Rattle.gather_follow.proofs.Filling.{factOf, line-by-key, plan-none, plan-back, plan-read}
-use Rattle.gather_follow.proofs.Hopping.{two-hops}
+use Rattle.gather_follow.proofs.Filling.{factOf, line-by-key, plan-none, plan-back, plan-unwanted, plan-read}
 use Rattle.gather_follow.proofs.fill.Statement.{statement}
 use Rattle.gather_follow.proofs.fill.Tie as tie
 
 abbrev Inv-loop : tie.InvT-loop
-Inv-loop cells filled values₀ marks₀ sizes keys count i₀ values marks i =
-    (i ≤ count) × Filled sizes (cellsOf cells filled) (facts-in keys count) i values₀ marks₀ values marks
+Inv-loop cells filled values₀ marks₀ sizes keys wanted count i₀ values marks i =
+    (i ≤ count) × Filled sizes (cellsOf cells filled) (facts-in keys count) wanted i values₀ marks₀ values marks
 
 abbrev μ-loop : tie.MeasureT-loop
-μ-loop cells filled values₀ marks₀ sizes keys count i₀ values marks i = count - i
+μ-loop cells filled values₀ marks₀ sizes keys wanted count i₀ values marks i = count - i
 
--- the loop and the entry, from where a line's kind is known
-abbrev at : tie.After-kind-of Inv-loop μ-loop → tie.At-loop Inv-loop μ-loop
-at c = c .before .before .before
+-- the entry and the line's number, in the loop
+abbrev start : tie.In-loop Inv-loop μ-loop → tie.Start Inv-loop μ-loop
+start c = c .before .before .before .before .before
 
-abbrev start : tie.After-kind-of Inv-loop μ-loop → tie.Start Inv-loop μ-loop
-start c = at c .before .before .before .before
+abbrev at : tie.In-loop Inv-loop μ-loop → ℕ
+at c = c .before .loop .i
 
 loop-holds : tie.Need-loop-holds Inv-loop μ-loop
-loop-holds c = (omega arith, plan-none _ _ _ _ _)
+loop-holds c = (omega arith, plan-none _ _ _ _ _ _)
+
+element-copy-out-if1 : tie.Need-element-copy-out-if1 Inv-loop μ-loop
+element-copy-out-if1 c = omega arith
 
 mul-line : tie.Need-mul-line Inv-loop μ-loop
 mul-line c = omega arith
@@ -57,24 +60,26 @@ chain-of-requires : tie.Need-chain-of-requires Inv-loop μ-loop
 chain-of-requires c κs = search needs
 
 -- the line that is looked at, by its kind and word
-this-line : (c : tie.After-kind-of Inv-loop μ-loop) {k : Kind} {w : List ℕ} → c .kind-of .result ≡ k → w ≡ word (fact-of (getD (now (start c .args .keys)) (at c .loop .i) 0))
-    → line (facts-in (now (start c .args .keys)) (start c .args .count)) (at c .loop .i) ≡ factOf k w
-this-line c e q = line-by-key _ _ (at c .loop .i) (start c .pre .2) (omega arith) (sym e ∙ c .kind-of .ensures) q
+this-line : (c : tie.In-loop Inv-loop μ-loop) {k : Kind} {w : List ℕ} → let fact = fact-of (getD (now (start c .args .keys)) (at c) 0) in
+    k ≡ kind fact → w ≡ word fact → line (facts-in (now (start c .args .keys)) (start c .args .count)) (at c) ≡ factOf k w
+this-line c e q = line-by-key _ _ (at c) (start c .pre .2 .keyed) (omega arith) e q
 
 fill-line-requires : tie.Need-fill-line-requires Inv-loop μ-loop
 fill-line-requires c κs =
     let k = c .before .before .before .before .before in
-    let pre = start k .pre in
-    let inv = at k .loop .inv .1 in
-    let listed : at k .loop .i < start k .args .count = omega arith in
-    let room = mul-le-mul-right (start k .args .sizes .records) listed in
-    let count-is = facts-length (now (start k .args .keys)) (start k .args .count) (omega arith) in
-    let this = this-line k (c .before .before .before .enum-told2 .given .1) (c .chain-of .ensures) in
-    let inside : at k .loop .i < length (facts-in (now (start k .args .keys)) (start k .args .count)) = omega (arith, count-is) in (
+    let b = k .before .before .before .before in
+    let pre = start b .pre in
+    let ready = pre .2 in
+    let inv = b .before .loop .inv .1 in
+    let listed : at b < start b .args .count = omega arith in
+    let room = mul-le-mul-right (start b .args .sizes .records) listed in
+    let count-is = facts-length (now (start b .args .keys)) (start b .args .count) (omega arith) in
+    let this = this-line b (sym (c .before .before .before .enum-told2 .given .1) ∙ k .kind-of .ensures) (c .chain-of .ensures) in
+    let inside : at b < length (facts-in (now (start b .args .keys)) (start b .args .count)) = omega (arith, count-is) in (
       pre .0,
       pre .1,
-      pre .3 .each (at k .loop .i) _ inside this,
-      two-hops _ (pre .3 .two (at k .loop .i) _ inside this),
+      ready .follow .each (at b) _ inside this,
+      packed-some _ (omega (arith, ready .follow .two (at b) _ inside this)),
       omega (arith, room, inv .values-length),
       omega (arith, room, inv .marks-length),
     )
@@ -85,17 +90,19 @@ add-i c = omega arith
 loop-less : tie.Need-loop-less Inv-loop μ-loop
 loop-less c = omega arith
 
--- one more line is filled, or holds no reading
-filled : (c : tie.At-match-came Inv-loop μ-loop) → let k = c .before in
-    Filled (start k .args .sizes) (cellsOf (now (start k .args .cells)) (now (start k .args .filled))) (facts-in (now (start k .args .keys)) (start k .args .count)) (at k .loop .i + 1)
-    (now (start k .args .values)) (now (start k .args .marks)) (c .match .values) (c .match .marks)
+-- one more line is filled, or has no reading that is wanted
+filled : (c : tie.Joined1 Inv-loop μ-loop) → let b = c .before .before in
+    Filled (start b .args .sizes) (cellsOf (now (start b .args .cells)) (now (start b .args .filled))) (facts-in (now (start b .args .keys)) (start b .args .count))
+    (now (start b .args .wanted)) (at b + 1) (now (start b .args .values)) (now (start b .args .marks)) (c .if1 .values) (c .if1 .marks)
 filled c =
-    let k = c .before in
-    let so-far = at k .loop .inv .1 in
+    let b = c .before .before in
+    let so-far = b .before .loop .inv .1 in
     ⊎-elim
-    (λ w. rw (w .2, w .3) (plan-back _ _ _ _ _ (at k .loop .i) so-far (this-line k (w .1 .given .1) refl)))
-    (λ w. rw (w .9, w .10) (plan-read _ _ _ _ _ (at k .loop .i) so-far (this-line k (w .1 .given .1) (w .4 .ensures)) (w .5 .ensures)))
-    (c .match .came)
+    (λ w. rw (w .5, w .6) (plan-back _ _ _ _ _ _ (at b) so-far (this-line b (sym (w .4 .given .1) ∙ w .2 .ensures) refl)))
+    (⊎-elim
+    (λ w. rw (w .12, w .13) (plan-read _ _ _ _ _ _ (at b) so-far (this-line b (sym (w .4 .given .1) ∙ w .2 .ensures) (w .7 .ensures)) (w .8 .ensures)))
+    (λ w. rw (w .1, w .2) (plan-unwanted _ _ _ _ _ _ (at b) so-far (w .0 .left))))
+    (c .if1 .came)
 
 loop-again : tie.Need-loop-again Inv-loop μ-loop
 loop-again c = (omega arith, filled c)
@@ -119,6 +126,7 @@ fill-spec =
     Inv-loop
     μ-loop
     loop-holds
+    element-copy-out-if1
     mul-line
     element-copy-out-line
     kind-of-requires

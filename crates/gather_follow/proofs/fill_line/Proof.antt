@@ -1,92 +1,96 @@
 -- `gather_follow::fill_line` meets its contract. The loop's invariant: the places are underway, with the rest of the chain to follow.
 -- Assumes nothing.
+use mathlib.Core.Path.{_≡_, ap, _∙_}
+use mathlib.Core.List.{_∷_}
 use native.Mathlib.Omega.{arith}
+use borrow.Author.Needs.{needs}
+use lib.ListN.{length}
 use Rattle.register.specs.Cells.{cellsOf}
 use Rattle.chain.specs.Word.{unpack}
+use Rattle.chain.proofs.Packing.{unpack-none, taken-apart}
+use Rattle.chain.proofs.Following.{readable-field}
 use Rattle.scratch.proofs.Storing.{stored-over}
-use Rattle.gather_follow.proofs.Hopping.{LineUnderway, begun-field, line-begun, line-referring, on-field, line-on, last-field, line-done}
+use Rattle.gather_follow.proofs.Hopping.{LineUnderway, line-begun, line-referring, line-on, line-done}
 use Rattle.gather_follow.proofs.fill_line.Statement.{statement}
 use Rattle.gather_follow.proofs.fill_line.Tie as tie
 
 abbrev Inv-loop : tie.InvT-loop
-Inv-loop cells filled values₀ marks₀ sizes i chain first rest₀ values marks rest =
-    LineUnderway sizes (cellsOf cells filled) (unpack chain) first rest values₀ marks₀ values marks
+Inv-loop cells filled values₀ marks₀ sizes i chain first field rest₀ values marks rest =
+    LineUnderway sizes (cellsOf cells filled) (unpack chain) first (unpack rest) values₀ marks₀ values marks
 
 abbrev μ-loop : tie.MeasureT-loop
-μ-loop cells filled values₀ marks₀ sizes i chain first rest₀ values marks rest = rest
+μ-loop cells filled values₀ marks₀ sizes i chain first field rest₀ values marks rest = length (unpack rest)
 
--- the entry, from the loop
-abbrev start : tie.At-loop Inv-loop μ-loop → tie.Start Inv-loop μ-loop
-start c = c .before .before .before .before .before .before .before .before .before .before .before
+-- the entry and the first copy, from where the first hop is taken off
+abbrev copied : tie.After-rest-hops Inv-loop μ-loop → tie.After-copy-column Inv-loop μ-loop
+copied c = c .before .before .before .before
+
+abbrev hopped : tie.After-rest-hops Inv-loop μ-loop → tie.After-first-hop Inv-loop μ-loop
+hopped c = copied c .before .before .before
+
+abbrev start : tie.After-first-hop Inv-loop μ-loop → tie.Start Inv-loop μ-loop
+start c = c .before .before .before .before .before
 
 mul-first : tie.Need-mul-first Inv-loop μ-loop
 mul-first c = record { fits = omega arith }
 
-sub-copy-column : tie.Need-sub-copy-column Inv-loop μ-loop
-sub-copy-column c = omega arith
+first-hop-requires : tie.Need-first-hop-requires Inv-loop μ-loop
+first-hop-requires c κs = c .before .before .before .before .pre .3
 
 copy-column-requires : tie.Need-copy-column-requires Inv-loop μ-loop
 copy-column-requires c κs =
-    let s = c .before .before .before .before .before .before in
-    (s .pre .0, begun-field (s .pre .1) _ (s .pre .3) (s .pre .2), s .pre .4, s .pre .5)
+    let f = c .before .before in
+    let s = start f in
+    (s .pre .0, readable-field _ (f .first-hop .ensures .splits) (s .pre .2), s .pre .4, s .pre .5)
 
-sub-rest : tie.Need-sub-rest Inv-loop μ-loop
-sub-rest c = omega arith
+rest-hops-requires : tie.Need-rest-hops-requires Inv-loop μ-loop
+rest-hops-requires c κs = search needs
 
 loop-holds : tie.Need-loop-holds Inv-loop μ-loop
 loop-holds c =
-    let p = c .before .before .before in
-    let s = p .before .before .before .before .before .before .before in
-    line-begun (s .pre .1) _ (s .pre .3) (s .pre .2) (p .copy-column .ensures)
+    let f = hopped c in
+    line-begun (start f .pre .1) (taken-apart (f .first-hop .ensures) (c .rest-hops .ensures)) (start f .pre .2) (copied c .copy-column .ensures)
 
-sub-field : tie.Need-sub-field Inv-loop μ-loop
-sub-field c = omega arith
+first-hop-requires-2 : tie.Need-first-hop-requires-2 Inv-loop μ-loop
+first-hop-requires-2 c κs = omega arith
 
 advance-requires : tie.Need-advance-requires Inv-loop μ-loop
 advance-requires c κs =
-    let l = c .before .before .before in
-    let s = start l in
+    let f = c .before .before in
+    let l = f .before .before in
+    let s = start (hopped (l .before)) in
     let k = l .loop .inv in (
       s .pre .0,
-      on-field (s .pre .1) k (c .before .before .loop-test .taken),
+      readable-field _ (f .first-hop2 .ensures .splits) (k .follows),
       omega (arith, k .stored .values-length),
       omega (arith, k .stored .marks-length),
-      line-referring (s .pre .1) k,
+      line-referring k (f .first-hop2 .ensures),
     )
 
-sub-rest-2 : tie.Need-sub-rest-2 Inv-loop μ-loop
-sub-rest-2 c = omega arith
+rest-hops-requires-2 : tie.Need-rest-hops-requires-2 Inv-loop μ-loop
+rest-hops-requires-2 c κs = search needs
+
+-- one more hop is taken off
+abbrev advanced : tie.After-rest-hops2 Inv-loop μ-loop → tie.After-advance Inv-loop μ-loop
+advanced c = c .before .before .before .before
+
+apart : (c : tie.After-rest-hops2 Inv-loop μ-loop) → let f = advanced c .before .before .before in
+    unpack (f .before .before .loop .rest) ≡ f .first-hop2 .result ∷ unpack (c .rest-hops2 .result)
+apart c = taken-apart (advanced c .before .before .before .first-hop2 .ensures) (c .rest-hops2 .ensures)
 
 loop-less : tie.Need-loop-less Inv-loop μ-loop
-loop-less c = omega arith
+loop-less c = omega (arith, ap length (apart c))
 
 loop-again : tie.Need-loop-again Inv-loop μ-loop
 loop-again c =
-    let p = c .before .before .before in
-    let i = p .before .before .before in
-    line-on (start (i .before) .pre .1) (i .before .loop .inv) (i .loop-test .taken) (p .advance .ensures)
+    let l = advanced c .before .before .before .before .before in
+    line-on (l .loop .inv) (start (hopped (l .before)) .pre .1) (apart c) (advanced c .advance .ensures)
 
-sub-advance : tie.Need-sub-advance Inv-loop μ-loop
-sub-advance c = omega (arith, c .before .before .before .loop .inv .some)
-
-advance-requires-2 : tie.Need-advance-requires-2 Inv-loop μ-loop
-advance-requires-2 c κs =
-    let l = c .before .before .before in
-    let s = start l in
-    let k = l .loop .inv in (
-      s .pre .0,
-      last-field (s .pre .1) k (omega arith),
-      omega (arith, k .stored .values-length),
-      omega (arith, k .stored .marks-length),
-      line-referring (s .pre .1) k,
-    )
-
--- the last hop, over the cells of the first
+-- the hops behind the first, over the cells of the first
 returns : tie.Need-returns Inv-loop μ-loop
 returns c =
-    let p = c .before .before .before in
-    let l = p .before .before .before .before in
-    stored-over (l .before .before .before .before .copy-column .ensures) (line-done (start l .pre .1) (l .loop .inv) (omega arith) (p .advance2 .ensures))
+    let l = c .before in
+    stored-over (copied (l .before) .copy-column .ensures) (line-done (l .loop .inv) (ap unpack (c .loop-test .left) ∙ unpack-none))
 
 same-length : tie.Need-same-length Inv-loop μ-loop
 same-length c = returns c .values-length
@@ -101,17 +105,15 @@ fill-line-spec =
     Inv-loop
     μ-loop
     mul-first
-    sub-copy-column
+    first-hop-requires
     copy-column-requires
-    sub-rest
+    rest-hops-requires
     loop-holds
-    sub-field
+    first-hop-requires-2
     advance-requires
-    sub-rest-2
+    rest-hops-requires-2
     loop-less
     loop-again
-    sub-advance
-    advance-requires-2
     same-length
     same-length-2
     returns)

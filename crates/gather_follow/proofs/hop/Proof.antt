@@ -1,7 +1,7 @@
 -- `gather_follow::hop` meets its contract: by its mark, the place is left or the cell that it leads to is copied.
 -- Assumes nothing.
 use Prim.Native.Nat.{ℕ, _<_}
-use mathlib.Core.Path.{_≡_, ap, _∙_}
+use mathlib.Core.Path.{_≡_, sym, ap, _∙_}
 use lib.IntN.{pos, natAbs}
 use lib.ListN.{getD}
 use mir.Syntax.{w32, w64}
@@ -10,8 +10,12 @@ use mir.Facts.{toZ-ofZ, sfits-widen}
 use denote.Ref.{now}
 use Rattle.integers.proofs.Complement.{kept}
 use Rattle.register.specs.File.{cellIndex}
+use Rattle.chain.specs.declared.reading.Reading.the-variants.{Value}
+use Rattle.chain.proofs.Following.{named-index, named-below}
+use Rattle.scratch.specs.Places.{placeAt}
+use Rattle.scratch.proofs.Placed.{placeAt-value}
 use Rattle.scratch.proofs.Storing.{stored-as, stored-left, copied-room, copied-one}
-use Rattle.gather_follow.proofs.Leading.{referred-missing, referred-value, named-index, named-below}
+use Rattle.gather_follow.proofs.Leading.{referred-missing, referred-value}
 use borrow.Author.Needs.{needs}
 use Rattle.gather_follow.proofs.hop.Statement.{statement}
 use Rattle.gather_follow.proofs.hop.Tie as tie
@@ -41,8 +45,15 @@ start c = c .before .before .before .before .before .before .before
 value-is : (c : tie.After-narrow) → let a = start c .args in toZ w32 (ofZ w32 (c .narrow .result)) ≡ getD (now (a .values)) (a .j) (pos 0)
 value-is c = kept (c .narrow .result) (c .narrow .ok) ∙ c .narrow .ensures ∙ toZ-ofZ {w = w64} (sfits-widen tt (start c .pre .4))
 
+-- the place holds a value, and names a record
+place-value : (c : tie.After-narrow) → let a = start c .args in placeAt (now (a .values)) (now (a .marks)) (a .j) ≡ Value (getD (now (a .values)) (a .j) (pos 0))
+place-value c = sym (placeAt-value _ _ _ (c .before .before .if1 .left))
+
+below : (c : tie.After-narrow) → let a = start c .args in natAbs (getD (now (a .values)) (a .j) (pos 0)) < a .sizes .records
+below c = named-below _ _ (place-value c) (start c .pre .5)
+
 index-requires : tie.Need-index-requires
-index-requires c κs = rw (value-is c) (named-index _ _ _ _ (c .before .before .if1 .left) (start c .pre .5))
+index-requires c κs = rw (value-is c) (named-index _ _ (place-value c) (start c .pre .5))
 
 -- the record that it names
 index-is : (c : tie.After-index) → let a = start (c .before) .args in c .index .result ≡ natAbs (getD (now (a .values)) (a .j) (pos 0))
@@ -51,7 +62,7 @@ index-is c = c .index .ensures ∙ ap natAbs (value-is (c .before))
 cell-index-requires : tie.Need-cell-index-requires
 cell-index-requires c κs =
     let s = start (c .before) in
-    (s .pre .0 .limits, rw (index-is c) (named-below _ _ _ _ (c .before .before .before .if1 .left) (s .pre .5)), s .pre .1)
+    (s .pre .0 .limits, rw (index-is c) (below (c .before)), s .pre .1)
 
 -- where its cell stands
 place : (c : tie.After-cell-index) → let a = start (c .before .before) .args in
@@ -63,7 +74,7 @@ copy-cell-requires c κs =
     let i = c .before .before in
     let n = i .before .before in
     let s = start n in
-    let r = copied-room (s .pre .0) _ _ (named-below _ _ _ _ (n .before .before .if1 .left) (s .pre .5)) (s .pre .1) _ (place i) in
+    let r = copied-room (s .pre .0) _ _ (below n) (s .pre .1) _ (place i) in
     (r .0, r .1, s .pre .2, s .pre .3)
 
 same-length : tie.Need-same-length
@@ -79,10 +90,11 @@ returns-2 c =
     let n = i .before .before in
     let s = start n in
     let filled = n .before .before .if1 .left in
-    let bytes : (b : ℕ) → getD (now (s .args .cells)) b 0 < 256 = λ b. let f = n .before .before .before .before .before .before .shared-slice-known .given b in f .fits in
+    let known = n .before .before .before .before .before .before .shared-slice-known .given in
+    let bytes : (b : ℕ) → getD (now (s .args .cells)) b 0 < 256 = λ b. let f = known b in f .fits in
     rw (p .copy-cell .ensures .0, p .copy-cell .ensures .1) (
     stored-as (λ u h. referred-value _ _ _ _ _ _ filled)
-    (copied-one (s .pre .0) _ _ (named-below _ _ _ _ filled (s .pre .5)) (s .pre .1) _ (place i) bytes _ _ _ (s .pre .2) (s .pre .3))
+    (copied-one (s .pre .0) _ _ (below n) (s .pre .1) _ (place i) bytes _ _ _ (s .pre .2) (s .pre .3))
     )
 
 pub hop-spec : {M : Type 1} → statement M

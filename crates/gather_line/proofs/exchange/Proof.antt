@@ -6,8 +6,8 @@ use mathlib.Core.Path.{_≡_, _∙_}
 use native.Mathlib.Omega.{arith}
 use borrow.Author.Needs.{needs}
 use denote.Ref.{now}
-use Rattle.register.specs.declared.cells.Cell.{Cell}
 use Rattle.register.specs.Cells.{cellsOf}
+use Rattle.chain.specs.declared.reading.Reading.{Reading}
 use Rattle.gather_line.specs.Written.{messageAt, LineSent}
 use Rattle.gather_line.proofs.Writing.{read-kept, back-kept, message-kept, line-none, line-next}
 use Rattle.gather_line.proofs.Sent.{sent-le, line-below}
@@ -47,7 +47,7 @@ abbrev start : tie.After-message Inv-loop μ-loop → tie.Start Inv-loop μ-loop
 start c = at c .before .before .before .before .before
 
 -- the message by the places as they were
-abbrev messageOf : tie.After-message Inv-loop μ-loop → ℕ → Cell
+abbrev messageOf : tie.After-message Inv-loop μ-loop → ℕ → Reading
 messageOf c =
     let a = start c .args in
     messageAt (a .sizes) (cellsOf (now (a .cells)) (now (a .filled))) (now (a .values)) (now (a .marks)) (a .back) (a .read) (a .field)
@@ -65,11 +65,11 @@ add-sent c =
     let m = c .before in
     record { fits = omega (arith, line-below _ _ _ (at m .loop .inv .1 .messages), sent-le (m .message .result), c .is-sent .ensures) }
 
-add-put-cell : tie.Need-add-put-cell Inv-loop μ-loop
-add-put-cell c = omega arith
+add-put-reading : tie.Need-add-put-reading Inv-loop μ-loop
+add-put-reading c = omega arith
 
-put-cell-requires : tie.Need-put-cell-requires Inv-loop μ-loop
-put-cell-requires c κs =
+put-reading-requires : tie.Need-put-reading-requires Inv-loop μ-loop
+put-reading-requires c κs =
     let l = c .before .before .before .before .before .before .before in
     (omega (arith, l .loop .inv .1 .values-length), omega (arith, l .loop .inv .1 .marks-length))
 
@@ -86,7 +86,7 @@ loop-again c =
     let m = k .before in
     let r = start m .pre .1 in
     let u = at m .loop .u in
-    let put = p .put-cell .ensures in
+    let put = p .put-reading .ensures in
     let next = line-next _ _ _ _ _ u _ _ (omega arith) (r .values-room) (r .marks-room) (at m .loop .inv .1) (message-is m) (put .2) (k .is-sent .ensures) in
     (omega arith, rw (put .0, put .1) next)
 
@@ -113,8 +113,8 @@ exchange-spec =
     message-requires
     is-sent-requires
     add-sent
-    add-put-cell
-    put-cell-requires
+    add-put-reading
+    put-reading-requires
     add-u
     loop-less
     loop-again

@@ -3,7 +3,7 @@
 use mathlib.Core.Path.{ap, _∙_}
 use native.Mathlib.Omega.{arith}
 use Rattle.integers.proofs.Complement.{kept}
-use Rattle.register.specs.declared.cells.Cell.the-variants.{Value}
+use Rattle.chain.specs.declared.reading.Reading.the-variants.{Value}
 use Rattle.gather_line.proofs.Writing.{writer-own, writer-told}
 use Rattle.gather_line.proofs.writer.Statement.{statement}
 use Rattle.gather_line.proofs.writer.Tie as tie
@@ -14,20 +14,20 @@ of-index-requires c κs = omega arith
 returns : tie.Need-returns
 returns c = ap Value (kept (c .of-index .result) (c .of-index .ok) ∙ c .of-index .ensures) ∙ writer-own _ _ _ _ _ (c .before .if1 .taken)
 
-mul-cell-at : tie.Need-mul-cell-at
-mul-cell-at c = record { fits = omega (arith, c .before .before .before .pre .2 .line (c .before .if1 .left) .values-room) }
+mul-read-at : tie.Need-mul-read-at
+mul-read-at c = record { fits = omega (arith, c .before .before .before .pre .2 .line (c .before .if1 .left) .values-room) }
 
-add-cell-at : tie.Need-add-cell-at
-add-cell-at c = record { fits = omega (arith, c .before .before .before .pre .2 .line (c .before .if1 .left) .values-room) }
+add-read-at : tie.Need-add-read-at
+add-read-at c = record { fits = omega (arith, c .before .before .before .pre .2 .line (c .before .if1 .left) .values-room) }
 
-cell-at-requires : tie.Need-cell-at-requires
-cell-at-requires c κs =
+read-at-requires : tie.Need-read-at-requires
+read-at-requires c κs =
     let s = c .before .before .before in
     let held = s .pre .2 .line (c .before .if1 .left) in
     (omega (arith, held .values-room), omega (arith, held .marks-room), held .fits (s .args .u) (s .pre .1))
 
 returns-2 : tie.Need-returns-2
-returns-2 c = c .cell-at .ensures ∙ writer-told _ _ _ _ _ (c .before .before .if1 .left)
+returns-2 c = c .read-at .ensures ∙ writer-told _ _ _ _ _ (c .before .before .if1 .left)
 
 pub writer-spec : {M : Type 1} → statement M
-writer-spec = tie.close (tie.spec of-index-requires returns mul-cell-at add-cell-at cell-at-requires returns-2)
+writer-spec = tie.close (tie.spec of-index-requires returns mul-read-at add-read-at read-at-requires returns-2)

@@ -12,10 +12,10 @@ use Rattle.print_listing.proofs.put_record.Statement.{statement}
 use Rattle.print_listing.proofs.put_record.Tie as tie
 
 abbrev Inv-loop : tie.InvT-loop
-Inv-loop page₀ at values marks sizes u next₀ f₀ f-end page next f = (length page ≡ length page₀) × (f ≤ f-end) × (next ≤ at + (20 + 22 * f))
+Inv-loop page₀ at cells filled sizes u next₀ f₀ f-end page next f = (length page ≡ length page₀) × (f ≤ f-end) × (next ≤ at + (20 + 22 * f))
 
 abbrev μ-loop : tie.MeasureT-loop
-μ-loop page₀ at values marks sizes u next₀ f₀ f-end page next f = f-end - f
+μ-loop page₀ at cells filled sizes u next₀ f₀ f-end page next f = f-end - f
 
 -- the length of the page at the loop's head
 page-length : (c : tie.At-loop Inv-loop μ-loop)

@@ -13,10 +13,10 @@ use Rattle.print_listing.proofs.put_records.Statement.{statement}
 use Rattle.print_listing.proofs.put_records.Tie as tie
 
 abbrev Inv-loop : tie.InvT-loop
-Inv-loop page₀ at values marks sizes next₀ u₀ u-end page next u = (length page ≡ length page₀) × (u ≤ u-end) × (next ≤ at + recordsRoom u (width sizes))
+Inv-loop page₀ at cells filled sizes next₀ u₀ u-end page next u = (length page ≡ length page₀) × (u ≤ u-end) × (next ≤ at + recordsRoom u (width sizes))
 
 abbrev μ-loop : tie.MeasureT-loop
-μ-loop page₀ at values marks sizes next₀ u₀ u-end page next u = u-end - u
+μ-loop page₀ at cells filled sizes next₀ u₀ u-end page next u = u-end - u
 
 loop-holds : tie.Need-loop-holds Inv-loop μ-loop
 loop-holds c = (refl, omega arith, omega arith)

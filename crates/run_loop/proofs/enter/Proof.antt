@@ -46,7 +46,8 @@ returns c =
     let p = c .before .before .before in
     let m = p .before .before .before in
     let i = m .before .before in
-    entered-first _ _ (i .before .before .setting .given .1) (i .if1 .taken) (rw (m .before .values-part .ensures, m .marks-part .ensures) at (p .copy-column .ensures))
+    entered-first _ _ (i .before .before .setting .given .1) (i .if1 .taken)
+    (rw (m .before .values-part .ensures, m .marks-part .ensures) at (p .copy-column .ensures))
 
 returns-2 : tie.Need-returns-2
 returns-2 c = entered-on _ _ (ap begins (c .enum-told .given .1))

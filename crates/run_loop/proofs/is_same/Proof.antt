@@ -1,4 +1,4 @@
--- `run_loop::is_same` meets its contract. The loop's invariant: the records passed have the same cells.
+-- `run_loop::is_same` meets its contract. The loop's invariant: the same is read of the records passed.
 -- Assumes nothing.
 use Prim.Native.Nat.{_≤_, _-_}
 use mathlib.Core.Path.{_≡_, sym, _∙_}
@@ -27,32 +27,32 @@ abbrev μ-loop : tie.MeasureT-loop
 loop-holds : tie.Need-loop-holds Inv-loop μ-loop
 loop-holds c = (omega arith, λ before k. sameColumn-none _ _ _ _)
 
-add-cell-at : tie.Need-add-cell-at Inv-loop μ-loop
-add-cell-at c = omega (arith, c .before .before .before .before .before .pre .2 .values-room)
+add-read-at : tie.Need-add-read-at Inv-loop μ-loop
+add-read-at c = omega (arith, c .before .before .before .before .before .pre .2 .values-room)
 
-cell-at-requires : tie.Need-cell-at-requires Inv-loop μ-loop
-cell-at-requires c κs =
+read-at-requires : tie.Need-read-at-requires Inv-loop μ-loop
+read-at-requires c κs =
     let p = c .before .before .before .before .before .pre in
     (omega (arith, p .2 .values-room), omega (arith, p .2 .marks-room), p .3 .fits _ (omega arith))
 
-cell-of-requires : tie.Need-cell-of-requires Inv-loop μ-loop
-cell-of-requires c κs =
+read-cell-requires : tie.Need-read-cell-requires Inv-loop μ-loop
+read-cell-requires c κs =
     let p = c .before .before .before .before .before .before .pre in
     (p .0, omega arith, p .1)
 
-same-cell-requires : tie.Need-same-cell-requires Inv-loop μ-loop
-same-cell-requires c κs = tt
+same-reading-requires : tie.Need-same-reading-requires Inv-loop μ-loop
+same-reading-requires c κs = tt
 
 -- what was compared in this turn
-told : (c : tie.After-same-cell Inv-loop μ-loop) → let l = c .before .before .before .before in let a = l .before .before .before .before .args in
+told : (c : tie.After-same-reading Inv-loop μ-loop) → let l = c .before .before .before .before in let a = l .before .before .before .before .args in
     (before : List Cell) → Column (a .sizes) (a .field) before (a .at) (now (a .values)) (now (a .marks))
-    → sameAt (a .sizes) (a .field) before (cellsOf (now (a .cells)) (now (a .filled))) (l .loop .u) ≡ c .same-cell .result
-told c before = same-told _ _ before _ _ _ (omega arith) (c .before .before .cell-at .ensures) (c .before .cell-of .ensures) (c .same-cell .ensures)
+    → sameAt (a .sizes) (a .field) before (cellsOf (now (a .cells)) (now (a .filled))) (l .loop .u) ≡ c .same-reading .result
+told c before = same-told _ _ before _ _ _ (omega arith) (c .before .before .read-at .ensures) (c .before .read-cell .ensures) (c .same-reading .ensures)
 
 returns : tie.Need-returns Inv-loop μ-loop
 returns c =
     let l = c .before .before .before .before .before in
-    let other = not-true (c .before .same-cell .result) (c .if1 .taken) in
+    let other = not-true (c .before .same-reading .result) (c .if1 .taken) in
     record { same-is = λ before k. sym (sameColumn-other _ _ before _ _ (l .loop .u) (omega arith) (told (c .before) before k ∙ other)) }
 
 add-u : tie.Need-add-u Inv-loop μ-loop
@@ -64,8 +64,10 @@ loop-less c = omega arith
 loop-again : tie.Need-loop-again Inv-loop μ-loop
 loop-again c =
     let l = c .before .before .before .before .before in
-    let same = not-false (c .before .same-cell .result) (c .if1 .left) in
-    (omega arith, λ before k. rw (add-one (l .loop .u)) (sameColumn-same _ _ before _ (l .loop .u) (l .loop .inv .1 before k) (told (c .before) before k ∙ same)))
+    let same = not-false (c .before .same-reading .result) (c .if1 .left) in (
+      omega arith,
+      λ before k. rw (add-one (l .loop .u)) (sameColumn-same _ _ before _ (l .loop .u) (l .loop .inv .1 before k) (told (c .before) before k ∙ same)),
+    )
 
 returns-2 : tie.Need-returns-2 Inv-loop μ-loop
 returns-2 c =
@@ -80,10 +82,10 @@ is-same-spec =
     Inv-loop
     μ-loop
     loop-holds
-    add-cell-at
-    cell-at-requires
-    cell-of-requires
-    same-cell-requires
+    add-read-at
+    read-at-requires
+    read-cell-requires
+    same-reading-requires
     returns
     add-u
     loop-less

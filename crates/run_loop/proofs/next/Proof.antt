@@ -30,20 +30,24 @@ marks-part-requires c κs = search needs
 
 is-same-requires : tie.Need-is-same-requires
 is-same-requires c κs =
-    let a = c .before .before .before .before .before .before .before .before .args in
-    let e = c .before .before .before .before .setting .given .1 in
+    let k = c .before .before .before .before in
+    let s = k .before .before .before .before in
+    let a = s .args in
+    let e = k .setting .given .1 in
     rw (c .before .values-part .ensures, c .marks-part .ensures) (
-      file-parts (now (a .file)) (a .sizes) (c .before .before .before .before .before .before .before .before .pre .0) (c .before .before .before .before .before .before .before .before .pre .1),
-      subst (SettingPasses (a .sizes)) e (c .before .before .before .before .before .before .before .before .pre .2),
-      c .before .before .before .before .before .before .before .before .pre .3,
-      subst (λ g. HasPass (a .sizes) g (a .at) (now (a .values))) e (c .before .before .before .before .before .before .before .before .pre .4),
+      file-parts (now (a .file)) (a .sizes) (s .pre .0) (s .pre .1),
+      subst (SettingPasses (a .sizes)) e (s .pre .2),
+      s .pre .3,
+      subst (λ g. HasPass (a .sizes) g (a .at) (now (a .values))) e (s .pre .4),
     )
 
 returns : tie.Need-returns
 unfolding cellsOfFile
 returns c =
-    let same = rw (c .before .before .before .values-part .ensures, c .before .before .marks-part .ensures) at (c .before .is-same .ensures) in
-    next-back _ _ (c .before .before .before .before .before .before .setting .given .1) (c .before .before .before .before .if1 .taken) same (not-true (c .before .is-same .result) (c .if2 .taken))
+    let q = c .before in
+    let i = q .before .before .before in
+    let same = rw (q .before .before .values-part .ensures, q .before .marks-part .ensures) at (q .is-same .ensures) in
+    next-back _ _ (i .before .before .setting .given .1) (i .if1 .taken) same (not-true (q .is-same .result) (c .if2 .taken))
 
 add-result-2 : tie.Need-add-result-2
 add-result-2 c = search needs

@@ -1,5 +1,5 @@
 -- `run_steps::run_steps` meets its contract. The loop's invariant: where the run of the definition stands. The inner loop's:
--- the rules passed are located. Then, for each record, each rule in order.
+-- the rules passed are taken out. Then, for each record, each rule in order.
 -- Assumes nothing.
 use Prim.Native.Nat.{ℕ, _+_, _*_, _-_, _≤_, _<_}
 use mathlib.Core.Path.{_≡_, refl, sym, _∙_}
@@ -9,31 +9,29 @@ use borrow.Author.Needs.{needs}
 use denote.Ref.{now}
 use lib.ListN.{length, getD, take, drop, length-set}
 use Rattle.register.specs.File.{cellsOfFile}
-use Rattle.plan_lines.specs.Held.{facts}
 use Rattle.program.specs.Kept.{stepsIn, programOf}
 use Rattle.program.specs.Stored.{ruleOf, rulesIn}
 use Rattle.scratch.specs.Places.{Kept}
-use Rattle.step_locate.specs.Locate.{LocatedTo}
 use Rattle.step_cells.specs.Work.{Same}
 use Rattle.step_rules.specs.Stepped.{GoesThrough}
 use Rattle.step_rules.specs.Ready.{LocalDone, LocalAnswer}
 use Rattle.step_rules.specs.Delivered.{Delivered}
-use Rattle.step_commit.specs.declared.Stop.{Stop}
-use Rattle.step_commit.specs.declared.Stop.the-variants.{Nowhere}
+use Rattle.step_cells.specs.declared.stop.Stop.{Stop}
+use Rattle.step_cells.specs.declared.stop.Stop.the-variants.{Nowhere}
 use Rattle.step_cells.proofs.Working.{same-refl, same-then, room-same, small-held}
-use Rattle.step_rules.proofs.Locals.{RecordDone, ready-at, record-start, record-more, record-stops, records-start, records-more, records-all, records-stop}
+use Rattle.step_rules.proofs.Locals.{RecordDone, ready-at, record-start, record-more, record-stops, records-start, records-more, records-all}
 use Rattle.step_rules.proofs.Remotes.{silent-step}
 use Rattle.machine.specs.Run.{direct}
 use Rattle.run_loop.specs.Column.{HasPass, Entered}
 use Rattle.run_steps.proofs.Arrays.{noFrame}
 use Rattle.run_steps.proofs.Standing.{Behind, lines-end, scratch-behind, Stands, here, stands-start, stands-complete, stands-spent, stands-offended, stands-next, passed-column}
-use Rattle.run_steps.proofs.Turn.{Turn, inside, at-step, setting-passes, planned, lines-room, slot-short, slot-located, Prepared, step-room, step-working, step-ready, step-sends, lines-few, writes-turn, local-turn, turn-same, turn-through, turn-stops, column-kept, behind-turn, counts-turn, few-turn}
+use Rattle.run_steps.proofs.Turn.{Turn, inside, at-step, setting-passes, planned, lines-room, slot-taken, Prepared, step-room, step-working, step-ready, step-sends, lines-few, writes-turn, local-turn, turn-same, turn-through, turn-stops, column-kept, behind-turn, counts-turn, few-turn}
 use Rattle.run_steps.proofs.run_steps.Statement.{statement}
 use Rattle.run_steps.proofs.run_steps.Tie as tie
 
 abbrev Inv-loop2 : tie.InvT-loop2
 Inv-loop2 out values marks sizes machine budget slots frames steps at base rules₀ step first finished counts frame setting used k₀ rules k =
-    LocatedTo (facts (frame .plan)) k (take 32 (drop (32 * step) slots)) rules × (length rules ≡ 32) × (k ≤ used)
+    (take k rules ≡ take k (take 32 (drop (32 * step) slots))) × (length rules ≡ 32) × (k ≤ used)
 
 abbrev μ-loop2 : tie.MeasureT-loop2
 μ-loop2 out values marks sizes machine budget slots frames steps at base rules₀ step first finished counts frame setting used k₀ rules k = used - k
@@ -75,10 +73,10 @@ abbrev locates : tie.After-enter Inv-loop2 μ-loop2 Inv-loop3 μ-loop3 Inv-recor
 locates c = c .before .before .before .before .before
 
 abbrev enters : tie.After-gather Inv-loop2 μ-loop2 Inv-loop3 μ-loop3 Inv-records μ-records Inv-loop μ-loop → tie.After-enter Inv-loop2 μ-loop2 Inv-loop3 μ-loop3 Inv-records μ-records Inv-loop μ-loop
-enters c = c .before .before .before .before .before .before .before .before .before .before .before .before
+enters c = c .before .before .before .before .before .before .before .before .before .before .before .before .before
 
 abbrev turns : tie.After-gather Inv-loop2 μ-loop2 Inv-loop3 μ-loop3 Inv-records μ-records Inv-loop μ-loop → tie.Else1 Inv-loop2 μ-loop2 Inv-loop3 μ-loop3 Inv-records μ-records Inv-loop μ-loop
-turns c = c .before .before .before .before .before .before .before .before .before .before .before .before .before .before .before .before .before .before .before
+turns c = c .before .before .before .before .before .before .before .before .before .before .before .before .before .before .before .before .before .before .before .before
 
 abbrev leaves : tie.Left-records Inv-loop2 μ-loop2 Inv-loop3 μ-loop3 Inv-records μ-records Inv-loop μ-loop → tie.After-gather Inv-loop2 μ-loop2 Inv-loop3 μ-loop3 Inv-records μ-records Inv-loop μ-loop
 leaves c = c .before .before .before .before .before
@@ -158,43 +156,36 @@ module _ (c : tie.Else1 Inv-loop2 μ-loop2 Inv-loop3 μ-loop3 Inv-records μ-rec
 loop2-holds : tie.Need-loop2-holds Inv-loop2 μ-loop2 Inv-loop3 μ-loop3 Inv-records μ-records Inv-loop μ-loop
 loop2-holds c = (refl, tops (c .before) .loop .inv .1, omega arith)
 
-mul-slot : tie.Need-mul-slot Inv-loop2 μ-loop2 Inv-loop3 μ-loop3 Inv-records μ-records Inv-loop μ-loop
-mul-slot c = record { fits = omega (arith, few-steps (starts (tops (takes (c .before)))), takes (c .before) .before .loop-test .taken) }
-
-add-slot : tie.Need-add-slot Inv-loop2 μ-loop2 Inv-loop3 μ-loop3 Inv-records μ-records Inv-loop μ-loop
-add-slot c = record { fits = omega (arith, few-steps (starts (tops (takes (c .before)))), takes (c .before) .before .loop-test .taken, few-rules (takes (c .before)), c .loop2-test .taken) }
-
-mul-slot-2 : tie.Need-mul-slot-2 Inv-loop2 μ-loop2 Inv-loop3 μ-loop3 Inv-records μ-records Inv-loop μ-loop
-mul-slot-2 c = record { fits = omega (arith, few-steps (starts (tops (takes (c .before)))), takes (c .before) .before .loop-test .taken, few-rules (takes (c .before)), c .loop2-test .taken) }
-
-array-copy-out-slot : tie.Need-array-copy-out-slot Inv-loop2 μ-loop2 Inv-loop3 μ-loop3 Inv-records μ-records Inv-loop μ-loop
-array-copy-out-slot c = omega (arith, few-steps (starts (tops (takes (c .before)))), takes (c .before) .before .loop-test .taken, few-rules (takes (c .before)), c .loop2-test .taken)
-
-locate-requires : tie.Need-locate-requires Inv-loop2 μ-loop2 Inv-loop3 μ-loop3 Inv-records μ-records Inv-loop μ-loop
-locate-requires c κs =
-    let b = c .before .before .before .before in
-    (at-step (turn (takes b)) .frame .holds .keyed, slot-short (turn (takes b)) (b .loop2 .k) _ (c .before .before .before .loop2-test .taken))
-
 mul-rules : tie.Need-mul-rules Inv-loop2 μ-loop2 Inv-loop3 μ-loop3 Inv-records μ-records Inv-loop μ-loop
-mul-rules c = record { fits = omega (arith, few-rules (takes (c .before .before .before .before .before)), c .before .before .before .before .loop2-test .taken) }
+mul-rules c = record { fits = omega (arith, few-steps (starts (tops (takes (c .before)))), takes (c .before) .before .loop-test .taken) }
+
+add-rules : tie.Need-add-rules Inv-loop2 μ-loop2 Inv-loop3 μ-loop3 Inv-records μ-records Inv-loop μ-loop
+add-rules c = record { fits = omega (arith, few-steps (starts (tops (takes (c .before)))), takes (c .before) .before .loop-test .taken, few-rules (takes (c .before)), c .loop2-test .taken) }
+
+mul-rules-2 : tie.Need-mul-rules-2 Inv-loop2 μ-loop2 Inv-loop3 μ-loop3 Inv-records μ-records Inv-loop μ-loop
+mul-rules-2 c = record { fits = omega (arith, few-steps (starts (tops (takes (c .before)))), takes (c .before) .before .loop-test .taken, few-rules (takes (c .before)), c .loop2-test .taken) }
+
+array-copy-out-rules-2 : tie.Need-array-copy-out-rules-2 Inv-loop2 μ-loop2 Inv-loop3 μ-loop3 Inv-records μ-records Inv-loop μ-loop
+array-copy-out-rules-2 c = omega (arith, few-steps (starts (tops (takes (c .before)))), takes (c .before) .before .loop-test .taken, few-rules (takes (c .before)), c .loop2-test .taken)
+
+mul-rules-3 : tie.Need-mul-rules-3 Inv-loop2 μ-loop2 Inv-loop3 μ-loop3 Inv-records μ-records Inv-loop μ-loop
+mul-rules-3 c = record { fits = omega (arith, few-rules (takes (c .before .before)), c .before .loop2-test .taken) }
 
 array-set-from-rules : tie.Need-array-set-from-rules Inv-loop2 μ-loop2 Inv-loop3 μ-loop3 Inv-records μ-records Inv-loop μ-loop
-array-set-from-rules c = omega (arith, few-rules (takes (c .before .before .before .before .before)), c .before .before .before .before .loop2-test .taken)
+array-set-from-rules c = omega (arith, few-rules (takes (c .before .before)), c .before .loop2-test .taken)
 
 add-k : tie.Need-add-k Inv-loop2 μ-loop2 Inv-loop3 μ-loop3 Inv-records μ-records Inv-loop μ-loop
-add-k c = record { fits = omega (arith, few-rules (takes (c .before .before .before .before .before)), c .before .before .before .before .loop2-test .taken) }
+add-k c = record { fits = omega (arith, few-rules (takes (c .before .before)), c .before .loop2-test .taken) }
 
 loop2-less : tie.Need-loop2-less Inv-loop2 μ-loop2 Inv-loop3 μ-loop3 Inv-records μ-records Inv-loop μ-loop
-loop2-less c = omega (arith, c .before .before .before .before .loop2-test .taken)
+loop2-less c = omega (arith, c .before .loop2-test .taken)
 
 loop2-again : tie.Need-loop2-again Inv-loop2 μ-loop2 Inv-loop3 μ-loop3 Inv-records μ-records Inv-loop μ-loop
 loop2-again c =
-    let b = c .before .before .before .before .before in
-    let d = c .before .before .before .before in
-    let i = b .loop2 in (
-      slot-located (turn (takes b)) (i .rules) (i .k) _ (d .loop2-test .taken) (i .inv .1) (c .locate .ensures) (i .inv .0),
+    let i = (c .before .before) .loop2 in (
+      slot-taken (turn (takes (c .before .before))) (i .rules) (i .k) _ (c .before .loop2-test .taken) (i .inv .1) refl (i .inv .0),
       length-set (i .rules) (i .k) _ ∙ i .inv .1,
-      omega (arith, d .loop2-test .taken),
+      omega (arith, c .before .loop2-test .taken),
     )
 
 enter-requires : tie.Need-enter-requires Inv-loop2 μ-loop2 Inv-loop3 μ-loop3 Inv-records μ-records Inv-loop μ-loop
@@ -209,18 +200,18 @@ entered c = c .enter .ensures .1
 
 gather-requires : tie.Need-gather-requires Inv-loop2 μ-loop2 Inv-loop3 μ-loop3 Inv-records μ-records Inv-loop μ-loop
 gather-requires c κs =
-    let b = c .before .before .before .before .before .before .before .before .before .before .before in
+    let b = c .before .before .before .before .before .before .before .before .before .before .before .before in
     let t = turn (takes (locates b)) in
     let kept = entered b .behind in
     let room = tops (takes (locates b)) .loop .inv .0 .room in
-    (t .stands .register, planned t, omega (arith, lines-room t, room .values-room, kept .values-length), omega (arith, lines-room t, room .marks-room, kept .marks-length))
+    (t .stands .register, planned t, at-step t .frame .wanted-length, omega (arith, lines-room t, room .values-room, kept .values-length), omega (arith, lines-room t, room .marks-room, kept .marks-length))
 
 -- the step can be run
 prepared : (c : tie.After-gather Inv-loop2 μ-loop2 Inv-loop3 μ-loop3 Inv-records μ-records Inv-loop μ-loop) → Prepared (turn (turns c)) (locates (enters c) .loop2 .rules) (enters c .enter .last .1 .0) (enters c .enter .last .1 .1 .0) (c .gather .last .1 .0) (c .gather .last .1 .1 .0) (c .gather .result)
 prepared c =
-    let b = c .before .before .before .before .before .before .before .before .before .before .before .before .before .before .before .before .before in
-    let all : b .loop2 .k ≡ getD (c .before .before .before .before .before .before .before .before .before .before .before .before .before .before .before .before .before .before .before .before .before .before .before .before .before .before .before .before .before .before .args .program .frames) (c .before .before .before .before .before .before .before .before .before .before .before .before .before .before .before .before .before .before .before .before .before .loop .step) noFrame .rules = omega (arith, c .before .before .before .before .before .before .before .before .before .before .before .before .before .before .before .before .loop2-test .left, b .loop2 .inv .2) in
-    record { is-located = rw all at (b .loop2 .inv .0); entered = entered (c .before .before .before .before .before .before .before .before .before .before .before .before); gathered = c .gather .ensures }
+    let b = c .before .before .before .before .before .before .before .before .before .before .before .before .before .before .before .before .before .before in
+    let all : b .loop2 .k ≡ getD (c .before .before .before .before .before .before .before .before .before .before .before .before .before .before .before .before .before .before .before .before .before .before .before .before .before .before .before .before .before .before .before .args .program .frames) (c .before .before .before .before .before .before .before .before .before .before .before .before .before .before .before .before .before .before .before .before .before .before .loop .step) noFrame .rules = omega (arith, c .before .before .before .before .before .before .before .before .before .before .before .before .before .before .before .before .before .loop2-test .left, b .loop2 .inv .2) in
+    record { is-taken = rw all at (b .loop2 .inv .0); entered = entered (c .before .before .before .before .before .before .before .before .before .before .before .before .before); gathered = c .gather .ensures }
 
 -- the buffers keep their lengths
 gathered-lengths : (c : tie.After-gather Inv-loop2 μ-loop2 Inv-loop3 μ-loop3 Inv-records μ-records Inv-loop μ-loop) → (length (c .gather .last .1 .0) ≡ length (now (starts (tops (turns c)) .args .values))) × (length (c .gather .last .1 .1 .0) ≡ length (now (starts (tops (turns c)) .args .marks)))
@@ -246,7 +237,7 @@ apply-rule-requires c κs =
     let t = turn (turns b) in
     let same = same-then (c .before .before .before .before .before .before .before .records .inv .0) (c .before .before .before .before .before .loop3 .inv .0 .same) in
     let ready = ready-at (locates (enters b) .loop2 .rules) _ _ (omega (arith, few-rules (turns b), locates (enters b) .loop2 .inv .1, d .loop3-test .taken)) (d .loop3-test .taken) (step-ready t p) in
-    (starts (tops (turns b)) .pre .0 .valid .limits, tops (turns b) .loop .inv .0 .register .whole, c .before .before .before .before .before .before .records-test .taken, room-same same (step-room t p), rw (same .values-same, same .marks-same) ready)
+    ((starts (tops (turns b)) .pre .0 .valid .limits, tops (turns b) .loop .inv .0 .register .whole, c .before .before .before .before .before .before .records-test .taken, room-same same (step-room t p)), rw (same .values-same, same .marks-same) ready)
 
 enum-told : tie.Need-enum-told Inv-loop2 μ-loop2 Inv-loop3 μ-loop3 Inv-records μ-records Inv-loop μ-loop
 enum-told c = search needs
@@ -277,14 +268,14 @@ records-again : tie.Need-records-again Inv-loop2 μ-loop2 Inv-loop3 μ-loop3 Inv
 records-again c =
     let l = c .before .loop3 .inv in
     let r = c .before .before .before .records .inv in
-    (same-then (r .0) (l .0 .same), records-more (r .0) (r .1) (omega (arith, l .2, c .loop3-test .left)) (l .0) (omega arith), l .1, omega (arith, c .before .before .records-test .taken))
+    (same-then (r .0) (l .0 .same), records-more (r .1) (omega (arith, l .2, c .loop3-test .left)) (l .0) (omega arith), l .1, omega (arith, c .before .before .records-test .taken))
 
 -- what the local rules did: all are done, or the loops were left at a sum out of range
-applied : (c : tie.Left-records Inv-loop2 μ-loop2 Inv-loop3 μ-loop3 Inv-records μ-records Inv-loop μ-loop) {r : Stop} → c .records-test .stop ≡ r → LocalAnswer (c .before .before .before .before .before .before .before .before .before .before .before .before .before .before .before .before .before .before .before .before .before .before .before .before .before .before .before .before .before .before .before .before .before .before .before .args .sizes) (cellsOfFile (c .before .before .before .before .before .before .before .before .before .before .before .before .before .before .before .before .before .before .before .before .before .before .before .before .before .before .before .before .before .before .before .before .before .before .before .args .sizes) (c .before .before .before .before .before .before .before .before .before .before .before .before .before .before .before .before .before .before .before .before .before .before .before .before .before .before .loop .out)) (at (c .before .before .before .before .before .before .before .before .before .before .before .before .before .before .before .before .before .before .before .before .before .before .before .before .before .before .before .before .before .before .before .before .before .before .before) + c .before .before .before .before .before .before .before .before .before .before .before .before .before .before .before .before .before .before .before .before .before .before .before .before .before .before .before .before .before .before .before .before .before .before .before .args .sizes .records) (rulesIn (getD (c .before .before .before .before .before .before .before .before .before .before .before .before .before .before .before .before .before .before .before .before .before .before .before .before .before .before .before .before .before .before .before .before .before .before .before .args .program .frames) (c .before .before .before .before .before .before .before .before .before .before .before .before .before .before .before .before .before .before .before .before .before .before .before .before .before .before .loop .step) noFrame .rules) (c .before .before .before .before .before .before .before .before .before .before .before .before .before .before .before .before .before .before .before .before .before .before .loop2 .rules)) (c .before .before .before .before .before .gather .last .1 .0) (c .before .before .before .before .before .gather .last .1 .1 .0) (c .records-test .values) (c .records-test .marks) r
+applied : (c : tie.Left-records Inv-loop2 μ-loop2 Inv-loop3 μ-loop3 Inv-records μ-records Inv-loop μ-loop) {r : Stop} → c .records-test .stop ≡ r → LocalAnswer (c .before .before .before .before .before .before .before .before .before .before .before .before .before .before .before .before .before .before .before .before .before .before .before .before .before .before .before .before .before .before .before .before .before .before .before .before .args .sizes) (cellsOfFile (c .before .before .before .before .before .before .before .before .before .before .before .before .before .before .before .before .before .before .before .before .before .before .before .before .before .before .before .before .before .before .before .before .before .before .before .before .args .sizes) (c .before .before .before .before .before .before .before .before .before .before .before .before .before .before .before .before .before .before .before .before .before .before .before .before .before .before .before .loop .out)) (at (c .before .before .before .before .before .before .before .before .before .before .before .before .before .before .before .before .before .before .before .before .before .before .before .before .before .before .before .before .before .before .before .before .before .before .before .before) + c .before .before .before .before .before .before .before .before .before .before .before .before .before .before .before .before .before .before .before .before .before .before .before .before .before .before .before .before .before .before .before .before .before .before .before .before .args .sizes .records) (rulesIn (getD (c .before .before .before .before .before .before .before .before .before .before .before .before .before .before .before .before .before .before .before .before .before .before .before .before .before .before .before .before .before .before .before .before .before .before .before .before .args .program .frames) (c .before .before .before .before .before .before .before .before .before .before .before .before .before .before .before .before .before .before .before .before .before .before .before .before .before .before .before .loop .step) noFrame .rules) (c .before .before .before .before .before .before .before .before .before .before .before .before .before .before .before .before .before .before .before .before .before .before .before .loop2 .rules)) (c .before .before .before .before .before .gather .last .1 .0) (c .before .before .before .before .before .gather .last .1 .1 .0) (c .records-test .values) (c .records-test .marks) r
 unfolding ruleOf
 applied c e =
-    let b = c .before .before .before .before .before .before .before .before .before .before .before .before .before .before .before .before .before .before .before .before .before .before in
-    let d = c .before .before .before .before .before .before .before .before .before .before .before .before .before .before .before .before .before .before .before .before .before .before .before .before in
+    let b = c .before .before .before .before .before .before .before .before .before .before .before .before .before .before .before .before .before .before .before .before .before .before .before in
+    let d = c .before .before .before .before .before .before .before .before .before .before .before .before .before .before .before .before .before .before .before .before .before .before .before .before .before in
     let p = prepared (c .before .before .before .before .before) in
     let t = turn d in
     let i = c .before .records .inv in
@@ -295,7 +286,7 @@ applied c e =
     let inside-rules : w .1 .k < length (b .loop2 .rules) = omega (arith, few-rules d, b .loop2 .inv .1, w .2 .taken) in
     let ready = ready-at (b .loop2 .rules) _ _ inside-rules (w .2 .taken) (step-ready t p) in
     rw (sym e ∙ w .15 ∙ w .12 .given .1, w .13, w .14)
-    (same-then (same-then (i .0) (w .1 .inv .0 .same)) (stop .0), records-stop (i .0) (record-stops (w .1 .inv .0) _ inside-rules (w .2 .taken) (c .before .before .before .before .before .before .before .before .before .before .before .before .before .before .before .before .before .before .before .before .before .before .before .before .before .before .before .before .before .before .before .before .before .before .before .pre .0 .valid .limits) (w .0 .taken) (ready .field) stop)))
+    (same-then (same-then (i .0) (w .1 .inv .0 .same)) (stop .0), record-stops (b .loop2 .rules) (w .1 .k) _ inside-rules (w .2 .taken) (c .before .before .before .before .before .before .before .before .before .before .before .before .before .before .before .before .before .before .before .before .before .before .before .before .before .before .before .before .before .before .before .before .before .before .before .before .pre .0 .valid .limits) (w .0 .taken) (ready .field) (stop .1)))
     (c .records-test .came)
 
 enum-known-stop : tie.Need-enum-known-stop Inv-loop2 μ-loop2 Inv-loop3 μ-loop3 Inv-records μ-records Inv-loop μ-loop
@@ -341,22 +332,17 @@ apply-requires c κs =
     let t = turn (turns (leaves b)) in
     let l = locals (c .before .before .before .before) in
     let valid = t .stands .register .valid in (
-      starts (tops (turns (leaves b))) .pre .0 .valid .limits,
-      tops (turns (leaves b)) .loop .inv .0 .register .whole,
-      room-same (l .0) (step-room t p),
-      few-rules (turns (leaves b)),
-      locates (enters (leaves b)) .loop2 .inv .1,
-      rw (l .0 .values-same, l .0 .marks-same) (step-ready t p),
-      l .1 .small (small-held (valid .count) (valid .values) (step-working t p)),
+      (starts (tops (turns (leaves b))) .pre .0 .valid .limits, tops (turns (leaves b)) .loop .inv .0 .register .whole, room-same (l .0) (step-room t p), few-rules (turns (leaves b)), locates (enters (leaves b)) .loop2 .inv .1),
+      (rw (l .0 .values-same, l .0 .marks-same) (step-ready t p), l .1 .small (small-held (valid .count) (valid .values) (step-working t p))),
     )
 
 -- the remote writes are delivered, where there are any
-delivered : (c : tie.Joined2 Inv-loop2 μ-loop2 Inv-loop3 μ-loop3 Inv-records μ-records Inv-loop μ-loop) → Delivered (c .before .before .before .before .before .before .before .before .before .before .before .before .before .before .before .before .before .before .before .before .before .before .before .before .before .before .before .before .before .before .before .before .before .before .before .before .before .before .args .sizes) (cellsOfFile (c .before .before .before .before .before .before .before .before .before .before .before .before .before .before .before .before .before .before .before .before .before .before .before .before .before .before .before .before .before .before .before .before .before .before .before .before .before .before .args .sizes) (c .before .before .before .before .before .before .before .before .before .before .before .before .before .before .before .before .before .before .before .before .before .before .before .before .before .before .before .before .before .loop .out)) (at (c .before .before .before .before .before .before .before .before .before .before .before .before .before .before .before .before .before .before .before .before .before .before .before .before .before .before .before .before .before .before .before .before .before .before .before .before .before .before) + c .before .before .before .before .before .before .before .before .before .before .before .before .before .before .before .before .before .before .before .before .before .before .before .before .before .before .before .before .before .before .before .before .before .before .before .before .before .before .args .sizes .records) (rulesIn (getD (c .before .before .before .before .before .before .before .before .before .before .before .before .before .before .before .before .before .before .before .before .before .before .before .before .before .before .before .before .before .before .before .before .before .before .before .before .before .before .args .program .frames) (c .before .before .before .before .before .before .before .before .before .before .before .before .before .before .before .before .before .before .before .before .before .before .before .before .before .before .before .before .before .loop .step) noFrame .rules) (c .before .before .before .before .before .before .before .before .before .before .before .before .before .before .before .before .before .before .before .before .before .before .before .before .before .loop2 .rules)) (c .before .before .before .records-test .values) (c .before .before .before .records-test .marks) (c .if2 .values) (c .if2 .marks) (c .if2 .sent)
+delivered : (c : tie.Joined2 Inv-loop2 μ-loop2 Inv-loop3 μ-loop3 Inv-records μ-records Inv-loop μ-loop) → Delivered (c .before .before .before .before .before .before .before .before .before .before .before .before .before .before .before .before .before .before .before .before .before .before .before .before .before .before .before .before .before .before .before .before .before .before .before .before .before .before .before .args .sizes) (cellsOfFile (c .before .before .before .before .before .before .before .before .before .before .before .before .before .before .before .before .before .before .before .before .before .before .before .before .before .before .before .before .before .before .before .before .before .before .before .before .before .before .before .args .sizes) (c .before .before .before .before .before .before .before .before .before .before .before .before .before .before .before .before .before .before .before .before .before .before .before .before .before .before .before .before .before .before .loop .out)) (at (c .before .before .before .before .before .before .before .before .before .before .before .before .before .before .before .before .before .before .before .before .before .before .before .before .before .before .before .before .before .before .before .before .before .before .before .before .before .before .before) + c .before .before .before .before .before .before .before .before .before .before .before .before .before .before .before .before .before .before .before .before .before .before .before .before .before .before .before .before .before .before .before .before .before .before .before .before .before .before .before .args .sizes .records) (rulesIn (getD (c .before .before .before .before .before .before .before .before .before .before .before .before .before .before .before .before .before .before .before .before .before .before .before .before .before .before .before .before .before .before .before .before .before .before .before .before .before .before .before .args .program .frames) (c .before .before .before .before .before .before .before .before .before .before .before .before .before .before .before .before .before .before .before .before .before .before .before .before .before .before .before .before .before .before .loop .step) noFrame .rules) (c .before .before .before .before .before .before .before .before .before .before .before .before .before .before .before .before .before .before .before .before .before .before .before .before .before .before .loop2 .rules)) (c .before .before .before .records-test .values) (c .before .before .before .records-test .marks) (c .if2 .values) (c .if2 .marks) (c .if2 .sent)
 delivered c =
-    let b = c .before .before .before .before .before .before .before .before .before .before .before .before .before .before .before .before .before .before .before .before .before .before .before .before .before .before .before .before .before .before .before .before .before .before .before .before .before .before in
+    let b = c .before .before .before .before .before .before .before .before .before .before .before .before .before .before .before .before .before .before .before .before .before .before .before .before .before .before .before .before .before .before .before .before .before .before .before .before .before .before .before in
     ⊎-elim
     (λ w. rw (w .8, w .9, w .10) (w .4 .ensures))
-    (λ w. rw (w .1, w .2, w .3) (silent-step (b .args .sizes) (cellsOfFile (b .args .sizes) (c .before .before .before .before .before .before .before .before .before .before .before .before .before .before .before .before .before .before .before .before .before .before .before .before .before .before .before .before .before .loop .out)) _ (sym (step-sends (turn (c .before .before .before .before .before .before .before .before .before .before .before .before .before .before .before .before .before .before .before .before .before .before .before .before .before .before .before)) (prepared (c .before .before .before .before .before .before .before .before))) ∙ w .0 .left)))
+    (λ w. rw (w .1, w .2, w .3) (silent-step (b .args .sizes) (cellsOfFile (b .args .sizes) (c .before .before .before .before .before .before .before .before .before .before .before .before .before .before .before .before .before .before .before .before .before .before .before .before .before .before .before .before .before .before .loop .out)) _ (sym (step-sends (turn (c .before .before .before .before .before .before .before .before .before .before .before .before .before .before .before .before .before .before .before .before .before .before .before .before .before .before .before .before)) (prepared (c .before .before .before .before .before .before .before .before))) ∙ w .0 .left)))
     (c .if2 .came)
 
 done-same : (c : tie.Joined2 Inv-loop2 μ-loop2 Inv-loop3 μ-loop3 Inv-records μ-records Inv-loop μ-loop) → Same (at (starts (tops (turns (readies c)))) + starts (tops (turns (readies c))) .args .sizes .records) (readies c .gather .last .1 .0) (readies c .gather .last .1 .1 .0) (c .if2 .values) (c .if2 .marks)
@@ -496,12 +482,11 @@ run-steps-spec =
     mul-frame
     array-copy-out-frame
     loop2-holds
-    mul-slot
-    add-slot
-    mul-slot-2
-    array-copy-out-slot
-    locate-requires
     mul-rules
+    add-rules
+    mul-rules-2
+    array-copy-out-rules-2
+    mul-rules-3
     array-set-from-rules
     add-k
     loop2-less

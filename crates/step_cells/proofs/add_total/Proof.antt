@@ -10,9 +10,9 @@ use mir.Val.{toZ, ofZ}
 use mir.Facts.{toZ-ofZ}
 use Rattle.register.specs.Cells.{valueOf}
 use Rattle.machine.specs.Remote.{merged}
-use Rattle.machine.specs.declared.message.Sort.the-variants.{Total}
-use Rattle.scratch.specs.Places.{placeAt}
-use Rattle.scratch.proofs.Placed.{placeAt-value}
+use Rattle.program.specs.declared.rule.Sort.the-variants.{Total}
+use Rattle.scratch.specs.Places.{storedAt}
+use Rattle.scratch.proofs.Placed.{storedAt-value}
 use Rattle.step_cells.specs.Work.{Put}
 use Rattle.step_cells.proofs.Merging.{total-missing, total-added}
 use Rattle.step_cells.proofs.add_total.Statement.{statement}
@@ -34,13 +34,14 @@ increase-requires : tie.Need-increase-requires
 unfolding valueOf
 increase-requires c κs =
     let s = c .before .before .before .before in
-    let z = getD (now (s .args .values)) (s .args .j) (pos 0) in
-    rw (toZ-ofZ {w = w64} {z = z} (record { sfits = c .increase-arg .given })) (rw (← placeAt-value (now (s .args .values)) (now (s .args .marks)) (s .args .j) (c .before .if1 .left)) at (s .pre .2))
+    let a = s .args in
+    rw (toZ-ofZ {w = w64} {z = getD (now (a .values)) (a .j) (pos 0)} (record { sfits = c .increase-arg .given }))
+    (rw (← storedAt-value (now (a .values)) (now (a .marks)) (a .j) (c .before .if1 .left)) at (s .pre .2))
 
 -- behind the sum: the total stands, and its mark as it was
-added : (c : tie.After-increase) → let s = c .before .before .before .before .before in
-    Put (s .args .j) (merged Total (placeAt (now (s .args .values)) (now (s .args .marks)) (s .args .j)) (s .args .amount)) (now (s .args .values)) (now (s .args .marks))
-    (set (now (s .args .values)) (s .args .j) (toZ w64 (ofZ w64 (c .increase .result)))) (now (s .args .marks))
+added : (c : tie.After-increase) → let a = c .before .before .before .before .before .args in
+    Put (a .j) (merged Total (storedAt (now (a .values)) (now (a .marks)) (a .j)) (a .amount)) (now (a .values)) (now (a .marks))
+    (set (now (a .values)) (a .j) (toZ w64 (ofZ w64 (c .increase .result)))) (now (a .marks))
 added c =
     let s = c .before .before .before .before .before in
     let z = getD (now (s .args .values)) (s .args .j) (pos 0) in

@@ -14,7 +14,7 @@ use Rattle.register.specs.Shape.{Parts}
 use Rattle.register.specs.declared.cells.Cell.the-variants.{Missing}
 use Rattle.register.proofs.Loading.{file-parts}
 use Rattle.register.proofs.Arrays.{cellsOf-length, cellsOf-at}
-use Rattle.scratch.specs.Places.{placeAt}
+use Rattle.scratch.specs.Places.{storedAt}
 use Rattle.step_cells.specs.Work.{Room, Same}
 use Rattle.step_cells.proofs.Working.{same-refl, same-then, room-same, put-copied, same-put, put-there, put-other}
 use Rattle.step_cells.proofs.begin.Statement.{statement}
@@ -22,7 +22,7 @@ use Rattle.step_cells.proofs.begin.Tie as tie
 
 abbrev Inv-loop : tie.InvT-loop
 Inv-loop out values₀ marks₀ base cells filled j₀ j-end values marks j =
-    Same base values₀ marks₀ values marks × ((i : ℕ) → i < j → placeAt values marks (base + i) ≡ getD (cellsOf cells filled) i Missing)
+    Same base values₀ marks₀ values marks × ((i : ℕ) → i < j → storedAt values marks (base + i) ≡ getD (cellsOf cells filled) i Missing)
 
 abbrev μ-loop : tie.MeasureT-loop
 μ-loop out values₀ marks₀ base cells filled j₀ j-end values marks j = j-end - j
@@ -42,7 +42,10 @@ module _ (c : tie.At-loop Inv-loop μ-loop) where
   filled = now (c .before .marks-part .result)
 
   parts : Parts (c .before .before .before .before .before .args .sizes) cells filled
-  parts = rw (c .before .before .values-part .ensures, c .before .marks-part .ensures) (file-parts (now (c .before .before .before .before .before .args .out)) (c .before .before .before .before .before .args .sizes) (c .before .before .before .before .before .pre .0) (c .before .before .before .before .before .pre .1))
+  parts =
+      let s = c .before .before .before .before .before in
+      rw (c .before .before .values-part .ensures, c .before .marks-part .ensures)
+      (file-parts (now (s .args .out)) (s .args .sizes) (s .pre .0) (s .pre .1))
 
   room : Room (c .before .before .before .before .before .args .base) (length filled) (c .loop .values) (c .loop .marks)
   room = rw (parts .marks-length) (room-same (c .loop .inv .0) (c .before .before .before .before .before .pre .2))
@@ -67,7 +70,7 @@ loop-less c = omega arith
 
 loop-again : tie.Need-loop-again Inv-loop μ-loop
 loop-again c =
-    let p = (c .before .before .before) in
+    let p = c .before .before .before in
     let l = p .before .before .before .before in
     let a = l .before .before .before .before .before .args in
     let r = room l in
@@ -88,8 +91,8 @@ same-length-2 c = c .before .loop .inv .0 .marks-length
 returns : tie.Need-returns Inv-loop μ-loop
 unfolding cellsOfFile
 returns c =
-    let l = (c .before) in
-    rw (sym (c .before .before .before .values-part .ensures), sym (c .before .before .marks-part .ensures))
+    let l = c .before in
+    rw (sym (l .before .before .values-part .ensures), sym (l .before .marks-part .ensures))
     (record { place-is = λ i h. l .loop .inv .1 i (omega (arith, cellsOf-length (cells l) (filled l))) }, l .loop .inv .0)
 
 pub begin-spec : {M : Type 1} → statement M

@@ -13,24 +13,29 @@ use mir.Facts.{toZ-ofZ}
 use Rattle.register.specs.Cells.{valueOf}
 use Rattle.register.specs.declared.cells.Cell.the-variants.{Value}
 use Rattle.machine.specs.Remote.{merged}
-use Rattle.machine.specs.declared.message.Sort.the-variants.{Least}
-use Rattle.scratch.specs.Places.{placeAt}
+use Rattle.program.specs.declared.rule.Sort.the-variants.{Least}
+use Rattle.scratch.specs.Places.{storedAt}
 use Rattle.step_cells.proofs.Working.{put-stored}
 use Rattle.step_cells.proofs.Merging.{least-missing, least-smaller, least-kept}
 use Rattle.step_cells.proofs.keep_least.Statement.{statement}
 use Rattle.step_cells.proofs.keep_least.Tie as tie
 
 -- the test compares the amount with the value of the cell
-compared : (c : tie.After-is-below) → let a = c .before .before .before .before .before .args in c .is-below .result ≡ ltZ (a .amount) (getD (now (a .values)) (a .j) (pos 0))
+compared : (c : tie.After-is-below) → let a = c .before .before .before .before .before .args in
+    c .is-below .result ≡ ltZ (a .amount) (getD (now (a .values)) (a .j) (pos 0))
 compared c =
     c .is-below .ensures
-    ∙ ap₂ ltZ (toZ-ofZ {w = w32} (c .before .before .before .before .before .fits .amount)) (toZ-ofZ {w = w64} (record { sfits = c .before .is-below-arg .given }))
+    ∙ ap₂ ltZ
+    (toZ-ofZ {w = w32} (c .before .before .before .before .before .fits .amount))
+    (toZ-ofZ {w = w64} (record { sfits = c .before .is-below-arg .given }))
 
 -- where the arms meet, the amount is to be stored
-stored : (c : tie.Joined1) → let a = c .before .before .before .args in merged Least (placeAt (now (a .values)) (now (a .marks)) (a .j)) (a .amount) ≡ Value (a .amount)
+stored : (c : tie.Joined1) → let a = c .before .before .before .args in
+    merged Least (storedAt (now (a .values)) (now (a .marks)) (a .j)) (a .amount) ≡ Value (a .amount)
 stored c =
     ⊎-elim
-    (λ w. let b : tie.After-is-below = record { before = record { before = record { before = c .before; if1 = w .0 }; is-below-arg = w .1 }; is-below = w .2 } in
+    (λ w.
+    let b : tie.After-is-below = record { before = record { before = record { before = c .before; if1 = w .0 }; is-below-arg = w .1 }; is-below = w .2 } in
     least-smaller _ _ _ _ (w .0 .taken) (sym (compared b) ∙ not-false _ (w .3 .left)))
     (λ w. least-missing _ _ _ _ (w .left))
     (c .if1 .came)

@@ -19,7 +19,8 @@ cell-index-requires c κs =
     let s = c .before in
     (s .pre .0, s .pre .1, rw (c .column .ensures) (column-below (s .args .sizes) (s .pre .0) (s .args .field) (s .pre .2)))
 
-index : (c : tie.After-cell-index) → let s = c .before .before in c .cell-index .result ≡ cellIndex (s .args .sizes) (s .args .u) (column (s .args .sizes) (s .args .field))
+index : (c : tie.After-cell-index) → let s = c .before .before in
+    c .cell-index .result ≡ cellIndex (s .args .sizes) (s .args .u) (column (s .args .sizes) (s .args .field))
 index c = c .cell-index .ensures ∙ ap (cellIndex (c .before .before .args .sizes) (c .before .before .args .u)) (c .before .column .ensures)
 
 add-result : tie.Need-add-result

@@ -12,8 +12,9 @@ use Rattle.integers.specs.Range.{sumOf}
 use Rattle.integers.proofs.Complement.{kept}
 use Rattle.register.specs.File.{putCell}
 use Rattle.register.specs.declared.cells.Cell.the-variants.{Value}
-use Rattle.machine.specs.Value.{cellInRange}
-use Rattle.scratch.proofs.Placed.{placeAt-missing, placeAt-value}
+use Rattle.chain.specs.Word.{readOf}
+use Rattle.machine.specs.Value.{readingInRange, cellInRange}
+use Rattle.scratch.proofs.Placed.{storedAt-missing, storedAt-value}
 use Rattle.step_commit.proofs.Committing.{total-told}
 use Rattle.step_commit.proofs.commit_cell.Statement.{statement}
 use Rattle.step_commit.proofs.commit_cell.Tie as tie
@@ -38,10 +39,10 @@ same-length : tie.Need-same-length
 same-length c = search needs
 
 returns : tie.Need-returns
-unfolding cellInRange
+unfolding cellInRange readingInRange readOf
 returns c =
     let p = c .before .before in
-    rw (← placeAt-missing _ _ _ (p .before .before .if1 .taken)) (refl, p .put-cell .ensures)
+    rw (← storedAt-missing _ _ _ (p .before .before .if1 .taken)) (refl, p .put-cell .ensures)
 
 add-in-range : tie.Need-add-in-range
 add-in-range c = search needs
@@ -68,7 +69,7 @@ same-length-2 : tie.Need-same-length-2
 same-length-2 c = search needs
 
 returns-2 : tie.Need-returns-2
-unfolding cellInRange
+unfolding cellInRange readingInRange readOf
 returns-2 c =
     let p = c .before .before in
     let k = p .before .before in
@@ -76,14 +77,14 @@ returns-2 c =
     let r = v .before .before in
     let a = r .before .before .before .before .before .before .args in
     let t = rw (sym (asked r) ∙ v .value .given .1) at (total-told (total r)) in
-    rw (← placeAt-value _ _ _ (r .before .before .if1 .left))
+    rw (← storedAt-value _ _ _ (r .before .before .if1 .left))
     (t .0, p .put-cell2 .ensures ∙ ap (λ (z : ℤ). putCell (a .sizes) (a .j) (Value z) (now (a .out))) (kept _ (k .known-told .given .0 .1) ∙ t .1))
 
 returns-3 : tie.Need-returns-3
-unfolding cellInRange
+unfolding cellInRange readingInRange readOf
 returns-3 c =
     let r = c .before .before in
-    rw (← placeAt-value _ _ _ (r .before .before .if1 .left)) (rw (sym (asked r) ∙ c .enum-told .given .1) at (total-told (total r)), refl)
+    rw (← storedAt-value _ _ _ (r .before .before .if1 .left)) (rw (sym (asked r) ∙ c .enum-told .given .1) at (total-told (total r)), refl)
 
 pub commit-cell-spec : {M : Type 1} → statement M
 commit-cell-spec =

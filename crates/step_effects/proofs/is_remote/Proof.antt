@@ -2,7 +2,7 @@
 -- Assumes nothing.
 use mathlib.Core.Path.{sym, ap}
 use Rattle.program.specs.Program.{isRemote}
-use Rattle.program.specs.Stored.{actionOf}
+use Rattle.program.specs.Stored.{targetOf}
 use Rattle.program.specs.declared.rule.Rule.{Rule}
 use borrow.Author.Needs.{needs}
 use Rattle.step_effects.proofs.is_remote.Statement.{statement}
@@ -17,43 +17,17 @@ enum-told-2 c = search needs
 enum-told-3 : tie.Need-enum-told-3
 enum-told-3 c = search needs
 
-enum-told-4 : tie.Need-enum-told-4
-enum-told-4 c = search needs
-
-enum-told-5 : tie.Need-enum-told-5
-enum-told-5 c = search needs
-
 returns : tie.Need-returns
-unfolding isRemote actionOf
-returns c = sym (ap (λ (r : Rule). isRemote (actionOf r)) (c .enum-told .given .1))
+unfolding isRemote targetOf
+returns c = sym (ap (λ (r : Rule). isRemote (targetOf r)) (c .enum-told .given .1))
 
 returns-2 : tie.Need-returns-2
-unfolding isRemote actionOf
-returns-2 c = sym (ap (λ (r : Rule). isRemote (actionOf r)) (c .enum-told2 .given .1))
+unfolding isRemote targetOf
+returns-2 c = sym (ap (λ (r : Rule). isRemote (targetOf r)) (c .enum-told2 .given .1))
 
 returns-3 : tie.Need-returns-3
-unfolding isRemote actionOf
-returns-3 c = sym (ap (λ (r : Rule). isRemote (actionOf r)) (c .enum-told3 .given .1))
-
-returns-4 : tie.Need-returns-4
-unfolding isRemote actionOf
-returns-4 c = sym (ap (λ (r : Rule). isRemote (actionOf r)) (c .enum-told4 .given .1))
-
-returns-5 : tie.Need-returns-5
-unfolding isRemote actionOf
-returns-5 c = sym (ap (λ (r : Rule). isRemote (actionOf r)) (c .enum-told5 .given .1))
+unfolding isRemote targetOf
+returns-3 c = sym (ap (λ (r : Rule). isRemote (targetOf r)) (c .enum-told3 .given .1))
 
 pub is-remote-spec : {M : Type 1} → statement M
-is-remote-spec =
-    tie.close
-    (tie.spec
-    enum-told
-    enum-told-2
-    enum-told-3
-    enum-told-4
-    enum-told-5
-    returns
-    returns-2
-    returns-3
-    returns-4
-    returns-5)
+is-remote-spec = tie.close (tie.spec enum-told enum-told-2 enum-told-3 returns returns-2 returns-3)

@@ -6,7 +6,7 @@ use lib.IntN.{ℤ}
 use mir.Syntax.{w64}
 use mir.Facts.{toZ-ofZ}
 use Rattle.laws.specs.Outcome.{done}
-use Rattle.register.specs.declared.cells.Cell.{Cell}
+use Rattle.chain.specs.declared.reading.Reading.{Reading}
 use Rattle.integers.proofs.Complement.{kept}
 use Rattle.api_read.specs.declared.reading.ReadNumbers.{ReadNumbers}
 use Rattle.api_read.specs.Numbers.{readNumbers}
@@ -19,22 +19,22 @@ filled z = record { number = 0; line = 0; value = z; filled = 1 }
 enum-told : tie.Need-enum-told
 enum-told c = search needs
 
-enum-known-cell : tie.Need-enum-known-cell
-enum-known-cell c = search needs
+enum-known-reading : tie.Need-enum-known-reading
+enum-known-reading c = search needs
 
 widen-requires : tie.Need-widen-requires
 widen-requires c κs = search needs
 
 returns : tie.Need-returns
 unfolding readNumbers
-returns c = sym (ap (λ (x : Cell). readNumbers (done x)) (c .enum-told .given .1))
+returns c = sym (ap (λ (x : Reading). readNumbers (done x)) (c .enum-told .given .1))
 
 returns-2 : tie.Need-returns-2
 unfolding readNumbers
 returns-2 c =
-    let v = c .before .before .cell .given in
+    let v = c .before .before .reading .given in
     let e = toZ-ofZ {w = w64} (record { sfits = c .widen .ok }) ∙ c .widen .ensures ∙ kept (v .0 .0) (c .before .known-told .given .0 .1) in
-    ap filled e ∙ sym (ap (λ (x : Cell). readNumbers (done x)) (v .1))
+    ap filled e ∙ sym (ap (λ (x : Reading). readNumbers (done x)) (v .1))
 
 pub read-spec : {M : Type 1} → statement M
-read-spec = tie.close (tie.spec enum-told enum-known-cell widen-requires returns returns-2)
+read-spec = tie.close (tie.spec enum-told enum-known-reading widen-requires returns returns-2)

@@ -19,17 +19,17 @@ abbrev μ-loop : tie.MeasureT-loop
 loop-holds : tie.Need-loop-holds Inv-loop μ-loop
 loop-holds c = omega arith
 
-tail-requires : tie.Need-tail-requires Inv-loop μ-loop
-tail-requires c κs = search needs
+rest-hops-requires : tie.Need-rest-hops-requires Inv-loop μ-loop
+rest-hops-requires c κs = search needs
 
 add-count : tie.Need-add-count Inv-loop μ-loop
 add-count c = omega (arith, c .before .before .loop .inv, hops-pos _ (c .before .loop-test .taken), hops-le (c .before .before .before .args .chain))
 
 loop-less : tie.Need-loop-less Inv-loop μ-loop
-loop-less c = omega (arith, hops-tail _ _ (c .tail .ensures) (c .before .loop-test .taken))
+loop-less c = omega (arith, hops-tail _ _ (c .rest-hops .ensures) (c .before .loop-test .taken))
 
 loop-again : tie.Need-loop-again Inv-loop μ-loop
-loop-again c = omega (arith, hops-tail _ _ (c .tail .ensures) (c .before .loop-test .taken))
+loop-again c = omega (arith, hops-tail _ _ (c .rest-hops .ensures) (c .before .loop-test .taken))
 
 returns : tie.Need-returns Inv-loop μ-loop
 returns c = omega (arith, hops-none, ap (λ (n : ℕ). length (unpack n)) (c .loop-test .left))
@@ -37,4 +37,4 @@ returns c = omega (arith, hops-none, ap (λ (n : ℕ). length (unpack n)) (c .lo
 pub hops-spec : {M : Type 1} → statement M
 hops-spec =
     tie.close
-    (tie.spec Inv-loop μ-loop loop-holds tail-requires add-count loop-less loop-again returns)
+    (tie.spec Inv-loop μ-loop loop-holds rest-hops-requires add-count loop-less loop-again returns)

@@ -19,8 +19,8 @@ abbrev μ-loop : tie.MeasureT-loop
 loop-holds : tie.Need-loop-holds Inv-loop μ-loop
 loop-holds c = (omega arith, refl)
 
-tail-requires : tie.Need-tail-requires Inv-loop μ-loop
-tail-requires c κs = search needs
+rest-hops-requires : tie.Need-rest-hops-requires Inv-loop μ-loop
+rest-hops-requires c κs = search needs
 
 add-counter : tie.Need-add-counter Inv-loop μ-loop
 add-counter c = omega arith
@@ -29,7 +29,7 @@ loop-less : tie.Need-loop-less Inv-loop μ-loop
 loop-less c = omega arith
 
 loop-again : tie.Need-loop-again Inv-loop μ-loop
-loop-again c = (omega arith, tail-rest _ _ (c .before .before .before .args .chain) (c .before .before .loop .counter) (c .tail .ensures) (c .before .before .loop .inv .1))
+loop-again c = (omega arith, tail-rest _ _ (c .before .before .before .args .chain) (c .before .before .loop .counter) (c .rest-hops .ensures) (c .before .before .loop .inv .1))
 
 returns : tie.Need-returns Inv-loop μ-loop
 returns c = let e : c .before .loop .counter ≡ c .before .before .args .h = omega arith in rw (← e) (c .before .loop .inv .1)
@@ -37,4 +37,4 @@ returns c = let e : c .before .loop .counter ≡ c .before .before .args .h = om
 pub rest-spec : {M : Type 1} → statement M
 rest-spec =
     tie.close
-    (tie.spec Inv-loop μ-loop loop-holds tail-requires add-counter loop-less loop-again returns)
+    (tie.spec Inv-loop μ-loop loop-holds rest-hops-requires add-counter loop-less loop-again returns)

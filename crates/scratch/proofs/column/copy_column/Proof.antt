@@ -7,7 +7,7 @@ use lib.ListN.{length, getD}
 use denote.Ref.{now}
 use Rattle.register.specs.Cells.{cellsOf}
 use Rattle.register.specs.File.{width, cellIndex}
-use Rattle.chain.specs.Word.{column, cell}
+use Rattle.chain.specs.Word.{column, readCell}
 use Rattle.chain.proofs.Following.{column-below}
 use Rattle.chain.proofs.Fields.{field-below}
 use Rattle.scratch.specs.Places.{StoredFrom}
@@ -17,7 +17,7 @@ use Rattle.scratch.proofs.column.copy_column.Tie as tie
 
 abbrev Inv-loop : tie.InvT-loop
 Inv-loop cells filled values₀ marks₀ sizes at field column u₀ u-end values marks u =
-    (u ≤ u-end) × StoredFrom at u (λ u. cell sizes (cellsOf cells filled) u field) values₀ marks₀ values marks
+    (u ≤ u-end) × StoredFrom at u (λ u. readCell sizes (cellsOf cells filled) u field) values₀ marks₀ values marks
 
 abbrev μ-loop : tie.MeasureT-loop
 μ-loop cells filled values₀ marks₀ sizes at field column u₀ u-end values marks u = u-end - u
@@ -68,7 +68,7 @@ loop-less : tie.Need-loop-less Inv-loop μ-loop
 loop-less c = omega arith
 
 loop-again : tie.Need-loop-again Inv-loop μ-loop
-unfolding cell
+unfolding readCell
 loop-again c =
     let p = c .before .before .before in
     let i = p .before .before .before in

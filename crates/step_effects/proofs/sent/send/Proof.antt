@@ -8,8 +8,8 @@ use borrow.Author.Needs.{needs}
 use Rattle.step_effects.proofs.sent.send.Statement.{statement}
 use Rattle.step_effects.proofs.sent.send.Tie as tie
 
-chain-value-requires : tie.Need-chain-value-requires
-chain-value-requires c κs = search needs
+found-at-requires : tie.Need-found-at-requires
+found-at-requires c κs = search needs
 
 enum-known-to : tie.Need-enum-known-to
 enum-known-to c = search needs
@@ -19,7 +19,10 @@ enum-told c = search needs
 
 returns : tie.Need-returns
 unfolding sentTo messagesIn
-returns c = both-first _ _ _ (sym (c .before .before .chain-value .ensures) ∙ c .enum-told .given .1)
+returns c =
+    let x = c .before .before in
+    let p = x .before .before .before .before .pre in
+    both-first _ _ _ (sym (x .found-at .ensures ∙ p .0 .2 .0 .found-is) ∙ c .enum-told .given .1)
 
 term-value-requires : tie.Need-term-value-requires
 term-value-requires c κs = search needs
@@ -38,7 +41,8 @@ index-requires : tie.Need-index-requires
 index-requires c κs =
     let k = c .before .before .before .before in
     let x = k .before .before .before in
-    named (sym (x .chain-value .ensures) ∙ k .before .to .given .1) (k .known-told .given .0 .1) (x .before .before .before .before .pre .4)
+    let p = x .before .before .before .before .pre in
+    named (sym (x .found-at .ensures ∙ p .0 .2 .0 .found-is) ∙ k .before .to .given .1) (k .known-told .given .0 .1) (p .1)
 
 returns-3 : tie.Need-returns-3
 unfolding sentTo messagesIn
@@ -47,14 +51,16 @@ returns-3 c =
     let y = l .before .before .before in
     let k = y .before in
     let x = k .before .before .before in
-    rw (c .index .ensures)
-    (both-values _ _ (sym (x .chain-value .ensures) ∙ k .before .to .given .1) (sym (y .term-value .ensures) ∙ l .before .amount .given .1) (k .known-told .given .0 .1) (l .known-told2 .given .0 .1))
+    let p = x .before .before .before .before .pre in
+    let to = sym (x .found-at .ensures ∙ p .0 .2 .0 .found-is) ∙ k .before .to .given .1 in
+    let amount = sym (y .term-value .ensures) ∙ l .before .amount .given .1 in
+    rw (c .index .ensures) (both-values _ _ to amount (k .known-told .given .0 .1) (l .known-told2 .given .0 .1))
 
 pub send-spec : {M : Type 1} → statement M
 send-spec =
     tie.close
     (tie.spec
-    chain-value-requires
+    found-at-requires
     enum-known-to
     enum-told
     returns

@@ -2,7 +2,7 @@
 -- Assumes nothing.
 use mathlib.Core.Path.{ap₂, _∙_}
 use Rattle.program.specs.Stored.{testOf}
-use Rattle.machine.specs.Value.{holds, compareCells}
+use Rattle.machine.specs.Value.{holds, compareReadings}
 use borrow.Author.Needs.{needs}
 use Rattle.step_terms.proofs.term.holds.Statement.{statement}
 use Rattle.step_terms.proofs.term.holds.Tie as tie
@@ -23,8 +23,8 @@ term-value-requires-2 c κs =
     let s = c .before .before .before .before .before .before .before in
     (s .pre .0, s .pre .1, (rw (c .before .before .test .given .1) at (s .pre .2)) .1)
 
-compare-cells-requires : tie.Need-compare-cells-requires
-compare-cells-requires c κs = search needs
+compare-readings-requires : tie.Need-compare-readings-requires
+compare-readings-requires c κs = search needs
 
 returns : tie.Need-returns
 unfolding testOf holds
@@ -34,7 +34,7 @@ returns-2 : tie.Need-returns-2
 unfolding testOf holds
 returns-2 c =
     rw (c .before .before .before .before .test .given .1)
-    (c .compare-cells .ensures ∙ ap₂ (compareCells _) (c .before .before .term-value .ensures) (c .before .term-value2 .ensures))
+    (c .compare-readings .ensures ∙ ap₂ (compareReadings _) (c .before .before .term-value .ensures) (c .before .term-value2 .ensures))
 
 pub holds-spec : {M : Type 1} → statement M
 holds-spec =
@@ -44,6 +44,6 @@ holds-spec =
     enum-known-test
     term-value-requires
     term-value-requires-2
-    compare-cells-requires
+    compare-readings-requires
     returns
     returns-2)

@@ -1,7 +1,7 @@
 -- `text_plan::readings::chain_in` meets its contract.
 -- Assumes nothing.
 use mathlib.Core.Path.{sym, ap}
-use Rattle.text_plan.specs.Readings.{chainIn}
+use Rattle.program.specs.Location.{chainIn}
 use borrow.Author.Needs.{needs}
 use Rattle.text_plan.proofs.readings.chain_in.Statement.{statement}
 use Rattle.text_plan.proofs.readings.chain_in.Tie as tie

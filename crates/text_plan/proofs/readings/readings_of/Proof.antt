@@ -1,9 +1,9 @@
 -- `text_plan::readings::readings_of` meets its contract.
 -- Assumes nothing.
 use mathlib.Core.Path.{ap₂}
-use Rattle.text_plan.specs.Readings.{slotChains}
-use Rattle.text_plan.specs.declared.readings.Pair.{Pair}
-use Rattle.text_plan.specs.declared.readings.Readings.{Readings}
+use Rattle.program.specs.Location.{slotChains}
+use Rattle.program.specs.declared.location.Pair.{Pair}
+use Rattle.program.specs.declared.location.Readings.{Readings}
 use borrow.Author.Needs.{needs}
 use Rattle.text_plan.proofs.readings.readings_of.Statement.{statement}
 use Rattle.text_plan.proofs.readings.readings_of.Tie as tie

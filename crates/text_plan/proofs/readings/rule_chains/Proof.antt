@@ -2,8 +2,8 @@
 -- Assumes nothing.
 use Prim.Native.Nat.{ℕ}
 use mathlib.Core.Path.{sym, ap, ap₂, _∙_}
-use Rattle.text_plan.specs.Readings.{ruleChains}
-use Rattle.text_plan.specs.declared.readings.Pair.{Pair}
+use Rattle.program.specs.Location.{ruleChains}
+use Rattle.program.specs.declared.location.Pair.{Pair}
 use borrow.Author.Needs.{needs}
 use Rattle.text_plan.proofs.readings.rule_chains.Statement.{statement}
 use Rattle.text_plan.proofs.readings.rule_chains.Tie as tie
@@ -29,21 +29,6 @@ enum-known-rule-3 c = search needs
 chain-in-requires-4 : tie.Need-chain-in-requires-4
 chain-in-requires-4 c κs = search needs
 
-chain-in-requires-5 : tie.Need-chain-in-requires-5
-chain-in-requires-5 c κs = search needs
-
-enum-known-rule-4 : tie.Need-enum-known-rule-4
-enum-known-rule-4 c = search needs
-
-chain-in-requires-6 : tie.Need-chain-in-requires-6
-chain-in-requires-6 c κs = search needs
-
-enum-known-rule-5 : tie.Need-enum-known-rule-5
-enum-known-rule-5 c = search needs
-
-chain-in-requires-7 : tie.Need-chain-in-requires-7
-chain-in-requires-7 c κs = search needs
-
 returns : tie.Need-returns
 unfolding ruleChains
 returns c = ap {B = Pair} (λ (x : ℕ). record { first = x; second = 0 }) (c .chain-in .ensures) ∙ sym (ap ruleChains (c .before .before .rule .given .1))
@@ -57,16 +42,8 @@ returns-2 c =
 returns-3 : tie.Need-returns-3
 unfolding ruleChains
 returns-3 c =
-    ap₂ {C = Pair} (λ (x y : ℕ). record { first = x; second = y }) (c .before .chain-in4 .ensures) (c .chain-in5 .ensures)
-    ∙ sym (ap ruleChains (c .before .before .before .rule3 .given .1))
-
-returns-4 : tie.Need-returns-4
-unfolding ruleChains
-returns-4 c = ap {B = Pair} (λ (x : ℕ). record { first = c .before .before .rule4 .given .0 .1 .0; second = x }) (c .chain-in6 .ensures) ∙ sym (ap ruleChains (c .before .before .rule4 .given .1))
-
-returns-5 : tie.Need-returns-5
-unfolding ruleChains
-returns-5 c = ap {B = Pair} (λ (x : ℕ). record { first = c .before .before .rule5 .given .0 .1 .0; second = x }) (c .chain-in7 .ensures) ∙ sym (ap ruleChains (c .before .before .rule5 .given .1))
+    ap {B = Pair} (λ (x : ℕ). record { first = c .before .before .rule3 .given .0 .1 .1 .0; second = x }) (c .chain-in4 .ensures)
+    ∙ sym (ap ruleChains (c .before .before .rule3 .given .1))
 
 pub rule-chains-spec : {M : Type 1} → statement M
 rule-chains-spec =
@@ -79,13 +56,6 @@ rule-chains-spec =
     chain-in-requires-3
     enum-known-rule-3
     chain-in-requires-4
-    chain-in-requires-5
-    enum-known-rule-4
-    chain-in-requires-6
-    enum-known-rule-5
-    chain-in-requires-7
     returns
     returns-2
-    returns-3
-    returns-4
-    returns-5)
+    returns-3)

@@ -2,8 +2,8 @@
 -- Assumes nothing.
 use Prim.Native.Nat.{ℕ}
 use mathlib.Core.Path.{sym, ap, ap₂, _∙_}
-use Rattle.text_plan.specs.Readings.{testChains}
-use Rattle.text_plan.specs.declared.readings.Pair.{Pair}
+use Rattle.program.specs.Location.{testChains}
+use Rattle.program.specs.declared.location.Pair.{Pair}
 use borrow.Author.Needs.{needs}
 use Rattle.text_plan.proofs.readings.test_chains.Statement.{statement}
 use Rattle.text_plan.proofs.readings.test_chains.Tie as tie

@@ -13,7 +13,8 @@ with-reading-requires-2 : tie.Need-with-reading-requires-2
 with-reading-requires-2 c κs = (c .with-reading .ensures .sound, c .before .pre .1 .1 .0)
 
 returns : tie.Need-returns
-returns c = planned-both (unpack (c .before .before .args .pair .first) ∷ []) (unpack (c .before .before .args .pair .second) ∷ []) (c .before .with-reading .ensures) (c .with-reading2 .ensures)
+returns c = planned-both (unpack (c .before .before .args .pair .first) ∷ []) (unpack (c .before .before .args .pair .second) ∷ [])
+    (c .before .with-reading .ensures) (c .with-reading2 .ensures)
 
 pub with-pair-spec : {M : Type 1} → statement M
 with-pair-spec = tie.close (tie.spec with-reading-requires with-reading-requires-2 returns)

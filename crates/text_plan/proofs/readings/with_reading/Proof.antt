@@ -12,7 +12,7 @@ returns c = let a = c .before .args in readings-full (a .step) (c .before .pre .
 
 -- what holds behind the first test, that the plan is not full
 is-planned-requires : tie.Need-is-planned-requires
-is-planned-requires c κs = let e = c .before .before .before in (e .before .pre .0 .holds (e .if1 .left) .keyed, e .before .pre .1)
+is-planned-requires c κs = let e = c .before .before .before in (e .before .pre .0 .keyed, e .before .pre .1)
 
 returns-2 : tie.Need-returns-2
 returns-2 c =

@@ -14,8 +14,9 @@ last-of-requires c κs = search needs
 returns : tie.Need-returns
 unfolding lastFrame
 returns c =
-    let f = c .before .before .before .args .frame in
-    ap {B = Frame} (λ (x : Setting). record { rules = f .rules; remote = f .remote; fields = f .fields; setting = x; plan = f .plan }) (c .last-of .ensures)
+    let f = c .before .before .before .before .args .frame in
+    ap {B = Frame} (λ (x : Setting). record { rules = f .rules; remote = f .remote; fields = f .fields; setting = x; plan = f .plan; wanted = f .wanted })
+    (c .last-of .ensures)
 
 pub last-frame-spec : {M : Type 1} → statement M
 last-frame-spec = tie.close (tie.spec last-of-requires returns)

@@ -16,7 +16,8 @@ unfolding frameOf
 returns c =
     let a = c .before .before .before .args in
     let t = a .state .tally in
-    ap {B = Frame} (λ (x : Setting). record { rules = t .rules; remote = t .remote; fields = t .fields; setting = x; plan = a .plan }) (c .setting-in .ensures)
+    ap {B = Frame} (λ (x : Setting). record { rules = t .rules; remote = t .remote; fields = t .fields; setting = x; plan = a .plan; wanted = a .wanted })
+    (c .setting-in .ensures)
 
 pub open-frame-spec : {M : Type 1} → statement M
 open-frame-spec = tie.close (tie.spec setting-in-requires returns)

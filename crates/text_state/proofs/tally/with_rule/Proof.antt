@@ -24,53 +24,20 @@ enum-known-rule-3 c = search needs
 more-rules-requires-3 : tie.Need-more-rules-requires-3
 more-rules-requires-3 c κs = search needs
 
-enum-known-rule-4 : tie.Need-enum-known-rule-4
-enum-known-rule-4 c = search needs
-
-more-rules-requires-4 : tie.Need-more-rules-requires-4
-more-rules-requires-4 c κs = search needs
-
-with-taken-requires : tie.Need-with-taken-requires
-with-taken-requires c κs = search needs
-
 with-remote-requires : tie.Need-with-remote-requires
 with-remote-requires c κs = search needs
 
-enum-known-rule-5 : tie.Need-enum-known-rule-5
-enum-known-rule-5 c = search needs
-
-more-rules-requires-5 : tie.Need-more-rules-requires-5
-more-rules-requires-5 c κs = search needs
-
-with-taken-requires-2 : tie.Need-with-taken-requires-2
-with-taken-requires-2 c κs = search needs
-
-with-remote-requires-2 : tie.Need-with-remote-requires-2
-with-remote-requires-2 c κs = search needs
-
 returns : tie.Need-returns
 unfolding withRule
-returns c = c .more-rules .ensures ∙ sym (ap (withRule (c .before .before .before .before .before .before .args .tally)) (c .before .before .rule .given .1))
+returns c = c .more-rules .ensures ∙ sym (ap (withRule _) (c .before .before .rule .given .1))
 
 returns-2 : tie.Need-returns-2
 unfolding withRule
-returns-2 c = c .more-rules2 .ensures ∙ sym (ap (withRule (c .before .before .before .before .before .before .args .tally)) (c .before .before .rule2 .given .1))
+returns-2 c = c .more-rules2 .ensures ∙ sym (ap (withRule _) (c .before .before .rule2 .given .1))
 
 returns-3 : tie.Need-returns-3
 unfolding withRule
-returns-3 c = c .more-rules3 .ensures ∙ sym (ap (withRule (c .before .before .before .before .before .before .args .tally)) (c .before .before .rule3 .given .1))
-
-returns-4 : tie.Need-returns-4
-unfolding withRule
-returns-4 c =
-    rw (c .before .with-taken .ensures, c .before .before .more-rules4 .ensures) at (c .with-remote .ensures)
-    ∙ sym (ap (withRule (c .before .before .before .before .before .before .before .before .args .tally)) (c .before .before .before .before .rule4 .given .1))
-
-returns-5 : tie.Need-returns-5
-unfolding withRule
-returns-5 c =
-    rw (c .before .with-taken2 .ensures, c .before .before .more-rules5 .ensures) at (c .with-remote2 .ensures)
-    ∙ sym (ap (withRule (c .before .before .before .before .before .before .before .before .args .tally)) (c .before .before .before .before .rule5 .given .1))
+returns-3 c = rw (c .before .before .before .rule3 .given .1, c .with-remote .ensures, c .before .more-rules3 .ensures)
 
 pub with-rule-spec : {M : Type 1} → statement M
 with-rule-spec =
@@ -82,16 +49,7 @@ with-rule-spec =
     more-rules-requires-2
     enum-known-rule-3
     more-rules-requires-3
-    enum-known-rule-4
-    more-rules-requires-4
-    with-taken-requires
     with-remote-requires
-    enum-known-rule-5
-    more-rules-requires-5
-    with-taken-requires-2
-    with-remote-requires-2
     returns
     returns-2
-    returns-3
-    returns-4
-    returns-5)
+    returns-3)
