@@ -9,5 +9,5 @@ abbrev pub runNumbers : RunAnswer → List ℕ
 runNumbers r = r .line ∷ r .finished ∷ r .counts .exchanges ∷ r .counts .messages ∷ r .row ∷ r .column ∷ 0 ∷ 0 ∷ []
 
 -- a look's: line, and the step's number of plan lines
-abbrev pub lookNumbers : InspectAnswer → List ℕ
-lookNumbers r = r .line ∷ 0 ∷ 0 ∷ 0 ∷ 0 ∷ 0 ∷ r .lines ∷ 0 ∷ []
+abbrev pub inspectNumbers : InspectAnswer → List ℕ
+inspectNumbers r = r .line ∷ 0 ∷ 0 ∷ 0 ∷ 0 ∷ 0 ∷ r .lines ∷ 0 ∷ []

@@ -1,6 +1,6 @@
 // The eight places of the C interface's answer array, for a run and for a look.
 ghost use mathlib.Core.Path.{_≡_};
-ghost use Rattle.api_answer.specs.Numbers.{runNumbers, lookNumbers};
+ghost use Rattle.api_answer.specs.Numbers.{runNumbers, inspectNumbers};
 use op_inspect::InspectAnswer;
 use run_steps::RunAnswer;
 
@@ -22,8 +22,17 @@ pub fn of_run(ran: RunAnswer) -> [u64; 8]
 }
 
 // A look's answer.
-pub fn of_look(looked: InspectAnswer) -> [u64; 8]
-    ensures { λ r. ⌜ r ≡ lookNumbers looked ⌝ }
+pub fn of_inspection(inspected: InspectAnswer) -> [u64; 8]
+    ensures { λ r. ⌜ r ≡ inspectNumbers inspected ⌝ }
 {
-    [looked.line as u64, 0, 0, 0, 0, 0, looked.lines as u64, 0]
+    [
+        inspected.line as u64,
+        0,
+        0,
+        0,
+        0,
+        0,
+        inspected.lines as u64,
+        0,
+    ]
 }

@@ -10,10 +10,10 @@ use lib.ListN.{length, getD, set, take, drop, replicate, length-map, length-set,
 use lib.Seq.{getD-take, getD-set-same, getD-set-other}
 use Rattle.chain.specs.Word.{isReference, unpack, unpackWithin, FirstHop}
 use Rattle.chain.proofs.Packing.{unpack-none}
-use Rattle.plan_theory.specs.Plan.{Fact, read, word, round, rounds, tree, tree-within}
+use Rattle.plan_theory.specs.Plan.{Fact, read, word, round, rounds, tree, treeWithin}
 use Rattle.laws.proofs.Cases.{lt-or-le}
-use Rattle.plan_keys.specs.Keys.{fact-of}
-use Rattle.plan_lines.specs.Held.{facts-in, facts, Holds}
+use Rattle.plan_keys.specs.Keys.{factOf}
+use Rattle.plan_lines.specs.Held.{factsIn, facts, HoldsLines}
 use Rattle.plan_lines.specs.declared.Plan.{Plan}
 use Rattle.plan_lines.proofs.Appending.{holds-count}
 use Rattle.api_plan.specs.PlanArrays.{kindNumber, letterOf, kindAt, lettersAt, letterAt, roundAt, Filled, planLines}
@@ -70,7 +70,7 @@ module _ (chain hop rest : ℕ) (e : unpack rest ≡ drop hop (unpack chain)) wh
   pub letter-some : {f : ℕ} → FirstHop f (unpack rest) → letterOf f ≡ getD (map letterOf (unpack chain)) hop 0
   letter-some h = letter-first _ (h .splits)
 
-module _ {p : Plan} (h : Holds p (facts p)) where
+module _ {p : Plan} (h : HoldsLines p (facts p)) where
   -- what v makes of line i; behind the last line, of f
   line-value : {A : Type 0} (v : Fact × ℕ → A) (f : Fact) (i : ℕ)
       → getD (map v (planLines p)) i (v (f, round f)) ≡ v (getD (facts p) i f, round (getD (facts p) i f))
@@ -78,24 +78,24 @@ module _ {p : Plan} (h : Holds p (facts p)) where
 
   -- key 0 is Back of no hop
   fact-value : {A : Type 0} (v : Fact → A) (i : ℕ) → i < p .count
-      → v (fact-of (getD (p .keys) i 0)) ≡ getD (map (λ (l : Fact × ℕ). v (l .0)) (planLines p)) i (v (fact-of 0))
-  unfolding facts-in
+      → v (factOf (getD (p .keys) i 0)) ≡ getD (map (λ (l : Fact × ℕ). v (l .0)) (planLines p)) i (v (factOf 0))
+  unfolding factsIn
   fact-value v i l =
-      let e = List·getD-map fact-of (take (p .count) (p .keys)) i 0 ∙ ap fact-of (getD-take (p .count) (p .keys) i 0 l) in
-      sym (line-value (λ (l : Fact × ℕ). v (l .0)) (fact-of 0) i ∙ ap v e)
+      let e = List·getD-map factOf (take (p .count) (p .keys)) i 0 ∙ ap factOf (getD-take (p .count) (p .keys) i 0 l) in
+      sym (line-value (λ (l : Fact × ℕ). v (l .0)) (factOf 0) i ∙ ap v e)
 
-  pub kind-value : (i : ℕ) → i < p .count → kindNumber (fact-of (getD (p .keys) i 0)) ≡ kindAt (planLines p) i
-  unfolding kindAt kindNumber fact-of
+  pub kind-value : (i : ℕ) → i < p .count → kindNumber (factOf (getD (p .keys) i 0)) ≡ kindAt (planLines p) i
+  unfolding kindAt kindNumber factOf
   kind-value = fact-value kindNumber
 
-  pub letter-value : (k chain : ℕ) → k < 16 * p .count → unpack chain ≡ word (fact-of (getD (p .keys) (k / 16) 0))
+  pub letter-value : (k chain : ℕ) → k < 16 * p .count → unpack chain ≡ word (factOf (getD (p .keys) (k / 16) 0))
       → getD (map letterOf (unpack chain)) (k % 16) 0 ≡ letterAt (planLines p) k
-  unfolding letterAt lettersAt fact-of unpack unpackWithin
+  unfolding letterAt lettersAt factOf unpack unpackWithin
   letter-value k chain l e =
       ap (λ (w : List ℕ). getD w (k % 16) 0) (ap (map letterOf) e ∙ fact-value (λ f. map letterOf (word f)) (k / 16) (omega arith))
 
   pub round-value : (i : ℕ) → i < p .count → getD (p .rounds) i 0 ≡ roundAt (planLines p) i
-  unfolding roundAt round rounds tree tree-within
+  unfolding roundAt round rounds tree treeWithin
   round-value i l = h .rounds-are .entry i (omega (arith, holds-count h)) ∙ sym (line-value (λ l. l .1) (read []) i)
 
   -- behind the last line

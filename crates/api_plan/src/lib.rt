@@ -4,8 +4,8 @@ ghost use mathlib.Core.List.{map};
 ghost use Prim.Native.Nat.{_<_};
 ghost use lib.ListN.{getD};
 ghost use Rattle.chain.specs.Word.{unpack};
-ghost use Rattle.plan_keys.specs.Keys.{fact-of};
-ghost use Rattle.plan_lines.specs.Held.{facts, Holds};
+ghost use Rattle.plan_keys.specs.Keys.{factOf};
+ghost use Rattle.plan_lines.specs.Held.{facts, HoldsLines};
 ghost use Rattle.api_plan.specs.PlanArrays.{flagNumber, kindNumber, letterOf, kindAt, letterAt, roundAt, planLines, Filled, PlanArrays};
 use chain::packed;
 use plan_keys::key;
@@ -15,7 +15,7 @@ use plan_lines::Plan;
 
 // The number of the kind of a line's key.
 fn kind_number(key: u64) -> u8
-    ensures { λ r. ⌜ r ≡ kindNumber (fact-of key) ⌝ }
+    ensures { λ r. ⌜ r ≡ kindNumber (factOf key) ⌝ }
 {
     let kind = key::kind_of(key);
     match kind {
@@ -49,7 +49,7 @@ fn letter_at(chain: u64, hop: u64) -> u8
 }
 
 fn fill_kinds(plan: Plan, kinds: &mut [u8; 64])
-    requires { ⌜ Holds plan (facts plan) ⌝ }
+    requires { ⌜ HoldsLines plan (facts plan) ⌝ }
     ensures { λ _. ⌜ Filled (kindAt (planLines plan)) 64 (now (kinds .exit)) ⌝ }
 {
     let count = plan.count;
@@ -60,7 +60,7 @@ fn fill_kinds(plan: Plan, kinds: &mut [u8; 64])
 }
 
 fn fill_chains(plan: Plan, chains: &mut [u8; 1024])
-    requires { ⌜ Holds plan (facts plan) ⌝ }
+    requires { ⌜ HoldsLines plan (facts plan) ⌝ }
     ensures { λ _. ⌜ Filled (letterAt (planLines plan)) 1024 (now (chains .exit)) ⌝ }
 {
     let end = 16 * plan.count;
@@ -72,7 +72,7 @@ fn fill_chains(plan: Plan, chains: &mut [u8; 1024])
 }
 
 fn fill_rounds(plan: Plan, rounds: &mut [u8; 64])
-    requires { ⌜ Holds plan (facts plan) ⌝ }
+    requires { ⌜ HoldsLines plan (facts plan) ⌝ }
     ensures { λ _. ⌜ Filled (roundAt (planLines plan)) 64 (now (rounds .exit)) ⌝ }
 {
     let count = plan.count;
@@ -84,7 +84,7 @@ fn fill_rounds(plan: Plan, rounds: &mut [u8; 64])
 
 // The three arrays of a plan's lines.
 pub fn fill(plan: Plan, kinds: &mut [u8; 64], chains: &mut [u8; 1024], rounds: &mut [u8; 64])
-    requires { ⌜ Holds plan (facts plan) ⌝ }
+    requires { ⌜ HoldsLines plan (facts plan) ⌝ }
     ensures { λ _. ⌜ PlanArrays (planLines plan) (now (kinds .exit)) (now (chains .exit)) (now (rounds .exit)) ⌝ }
 {
     fill_kinds(plan, kinds);

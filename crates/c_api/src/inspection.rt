@@ -17,7 +17,7 @@ pub extern "C" fn plot_inspect(
 ) -> u32
     ensures { λ r. ⌜ InspectCalled (inspection (now (file .entry)) (now (text .entry)) step (length (now (values .entry))) (length (now (marks .entry)))) (now (file .entry)) t (now (values .entry)) (now (marks .entry)) (now (values .exit)) (now (marks .exit)) r (now (answer .exit)) ⌝ }
 {
-    let looked = op_inspect::inspect(file, text, step, t, values, marks);
-    *answer = api_answer::of_look(looked);
-    looked.refusal
+    let inspected = op_inspect::inspect(file, text, step, t, values, marks);
+    *answer = api_answer::of_inspection(inspected);
+    inspected.refusal
 }

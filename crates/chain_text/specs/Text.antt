@@ -36,8 +36,8 @@ form (b ∷ d ∷ rest) =
     (cond (isCapital b && eqb d 91) (closed b (form rest)) unformed)
 
 -- the field of a letter: A to H are 0 to 7, M to T 8 to 15
-unfoldable pub fieldOf : ℕ → ℕ
-fieldOf l = cond (ltb l 77) (l - 65) (l - 69)
+unfoldable pub letterField : ℕ → ℕ
+letterField l = cond (ltb l 77) (l - 65) (l - 69)
 
 -- letters of references come before M
 unfoldable pub isReferenceLetter : ℕ → Bool
@@ -63,4 +63,4 @@ lettersRefusal s ls =
 -- "Its hops are its letters from the inside out."
 unfoldable pub wordOf : List ℕ → List ℕ
 wordOf [] = []
-wordOf (l ∷ ls) = wordOf ls ++ (fieldOf l ∷ [])
+wordOf (l ∷ ls) = wordOf ls ++ (letterField l ∷ [])

@@ -7,7 +7,7 @@ use lib.IntN.{ℤ}
 use lib.ListN.{length}
 use Rattle.register.specs.declared.Sizes.{Sizes}
 use Rattle.register.specs.declared.cells.Cell.{Cell}
-use Rattle.plan_theory.specs.Plan.{Fact, last-round}
+use Rattle.plan_theory.specs.Plan.{Fact, lastRound}
 use Rattle.machine_messages.specs.Held.{heldAfter}
 use Rattle.machine_messages.specs.Counts.{planMessages}
 use Rattle.machine_messages.specs.declared.Machine.{Machine}
@@ -18,7 +18,7 @@ use Rattle.gather.specs.declared.counts.Counts.{Counts}
 -- the exchanges and messages that bring these lines about
 abbrev pub countedBy : Machine → Sizes → List Cell → List Fact → Counts
 countedBy Direct s cells l = record { exchanges = 0; messages = 0 }
-countedBy Messages s cells l = record { exchanges = last-round l; messages = planMessages (heldAfter s cells (last-round l)) l (s .records) }
+countedBy Messages s cells l = record { exchanges = lastRound l; messages = planMessages (heldAfter s cells (lastRound l)) l (s .records) }
 
 -- the places of every Read line that is wanted hold what is had by following, whichever machine it was
 pub record GatheredBy (m : Machine) (s : Sizes) (cells : List Cell) (l : List Fact) (wanted : List Bool)

@@ -4,8 +4,8 @@ ghost use Prim.Native.Nat.{_*_, _≤_};
 ghost use lib.ListN.{length};
 ghost use Rattle.register.specs.File.{cellsOfFile};
 ghost use Rattle.register.specs.Shape.{Register};
-ghost use Rattle.plan_lines.specs.Held.{facts-in, plan-of};
-ghost use Rattle.gather_exchanges.specs.Lines.{Planned};
+ghost use Rattle.plan_lines.specs.Held.{factsIn, planOf};
+ghost use Rattle.gather_exchanges.specs.Lines.{StepPlanned};
 ghost use Rattle.gather.specs.Gathered.{GatheredBy};
 use crate::counts::Counts;
 use gather_exchanges;
@@ -31,9 +31,9 @@ pub fn gather<'a>(
     wanted: &'a [bool; 64],
     count: usize,
 ) -> Counts
-    requires { ⌜ Register sizes (now file) × Planned sizes (plan-of (now keys) (now rounds) (now backs) (now reads) count) × (length (now wanted) ≡ 64)
+    requires { ⌜ Register sizes (now file) × StepPlanned sizes (planOf (now keys) (now rounds) (now backs) (now reads) count) × (length (now wanted) ≡ 64)
         × (count * sizes .records ≤ length (now values)) × (count * sizes .records ≤ length (now marks)) ⌝ }
-    ensures { λ r. ⌜ GatheredBy machine sizes (cellsOfFile sizes (now (file .entry))) (facts-in (now (keys .entry)) count) (now (wanted .entry))
+    ensures { λ r. ⌜ GatheredBy machine sizes (cellsOfFile sizes (now (file .entry))) (factsIn (now (keys .entry)) count) (now (wanted .entry))
         (now (values .entry)) (now (marks .entry)) (now (values .exit)) (now (marks .exit)) r ⌝ }
 {
     let cells = cells::values_part(file, sizes);

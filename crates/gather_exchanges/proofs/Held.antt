@@ -9,7 +9,7 @@ use lib.ListN.{length}
 use Rattle.register.specs.declared.Sizes.{Sizes}
 use Rattle.register.specs.declared.cells.Cell.{Cell}
 use Rattle.chain.specs.declared.reading.Reading.the-variants.{Value}
-use Rattle.plan_theory.specs.Plan.{Fact, read, word, hops, rest, back-need}
+use Rattle.plan_theory.specs.Plan.{Fact, read, word, hops, rest, backNeed}
 use Rattle.machine_messages.specs.Held.{Held, knows, writer, needed}
 
 module _ (s : Sizes) (cells : List Cell) where
@@ -25,7 +25,7 @@ pub writer-one : (held : Held) (f : Fact) (u : ℕ) → hops f < 2 → writer he
 unfolding writer
 writer-one held f u h = simp (lt-ltb (hops f) 2 h)
 
-pub writer-back : (held : Held) (f : Fact) (u : ℕ) → 2 ≤ hops f → writer held f u ≡ held (back-need f) u
+pub writer-back : (held : Held) (f : Fact) (u : ℕ) → 2 ≤ hops f → writer held f u ≡ held (backNeed f) u
 unfolding writer
 writer-back held f u h = simp (le-ltb (hops f) 2 h)
 

@@ -16,7 +16,7 @@ use Rattle.chain.specs.declared.reading.Reading.{Reading}
 use Rattle.chain.specs.declared.reading.Reading.the-variants.{Missing, Value}
 use Rattle.laws.specs.Lists.{every}
 use Rattle.chain.specs.Word.{hop, refersTo}
-use Rattle.plan_theory.specs.Plan.{Fact, read, word, hops, front, rest, back-need, round}
+use Rattle.plan_theory.specs.Plan.{Fact, read, word, hops, front, rest, backNeed, round}
 use Rattle.laws.proofs.Cases.{lt-or-le}
 use Rattle.plan_theory.proofs.Facts.{front-rest}
 use Rattle.machine.proofs.Readable.{referring}
@@ -55,12 +55,12 @@ module _ {s : Sizes} {cells : List Cell} (valid : Valid s cells) where
     written-refers f (Value z) r h = knows-refers (natAbs z) (needed f) (index-is (s .records) z r .1) h
 
     -- the writer is a record
-    writer-refers : (f : Fact) (u : ℕ) → u < s .records → referring s (word (back-need f)) ≡ true
+    writer-refers : (f : Fact) (u : ℕ) → u < s .records → referring s (word (backNeed f)) ≡ true
         → refersTo (s .records) (writer held f u) ≡ true
     writer-refers f u l h =
         ⊎-elim
         (λ (one : hops f < 2). rw (writer-one held f u one) (own-refers (s .records) u l))
-        (λ (two : 2 ≤ hops f). rw (writer-back held f u two) (told (back-need f) u l h))
+        (λ (two : 2 ≤ hops f). rw (writer-back held f u two) (told (backNeed f) u l h))
         (lt-or-le (hops f) 2)
 
     sent-refers : (f : Fact) (u : ℕ) → u < s .records → referring s (word f) ≡ true → refersTo (s .records) (sent s cells held f u) ≡ true

@@ -11,8 +11,8 @@ use Rattle.register.specs.declared.Sizes.{Sizes}
 use Rattle.register.specs.declared.cells.Cell.{Cell}
 use Rattle.chain.specs.declared.reading.Reading.{Reading}
 use Rattle.plan_theory.specs.Plan.{round, line}
-use Rattle.plan_lines.specs.Held.{facts, line-at}
-use Rattle.plan_lines.specs.Promised.{fact-at}
+use Rattle.plan_lines.specs.Held.{facts, lineAt}
+use Rattle.plan_lines.specs.Promised.{factAt}
 use Rattle.plan_lines.specs.declared.Plan.{Plan}
 use Rattle.machine_messages.specs.Held.{heldAfter}
 use Rattle.gather_exchanges.specs.Lines.{OneHop, Lines, PlanReady}
@@ -29,11 +29,11 @@ ready-kept r v m =
 
 module _ {s : Sizes} {cells : List Cell} {p : Plan} (valid : Valid s cells) {t : ℕ} {values values′ : List ℤ} {marks marks′ : List ℕ}
     (ready : PlanReady s p values marks) (held : HeldTo s cells (facts p) t values marks)
-    (i : ℕ) (b : i < p .count) (now : line-at p i .round ≡ suc t) {m : ℕ} (r : RoundSent s cells (facts p) (suc t) i values marks values′ marks′ m) where
+    (i : ℕ) (b : i < p .count) (now : lineAt p i .round ≡ suc t) {m : ℕ} (r : RoundSent s cells (facts p) (suc t) i values marks values′ marks′ m) where
   lines : Lines p
   lines = ready .lines
 
-  next : round (fact-at p i) ≡ suc t
+  next : round (factAt p i) ≡ suc t
   next = sym (lines .each i b .round-is) ∙ now
 
   room-values : i * s .records + s .records ≤ length values′
@@ -45,9 +45,9 @@ module _ {s : Sizes} {cells : List Cell} {p : Plan} (valid : Valid s cells) {t :
   earlier : Earlier s cells (facts p) t i values′ marks′
   earlier = round-earlier s cells (facts p) t held i (omega (arith, plan-count lines)) r
 
-  module _ (field : ℕ) (one : OneHop (fact-at p i) field) where
+  module _ (field : ℕ) (one : OneHop (factAt p i) field) where
     -- all that the line asks for
-    pub turn-ready : LineReady s values′ marks′ i (line-at p i .back) (line-at p i .read) field
+    pub turn-ready : LineReady s values′ marks′ i (lineAt p i .back) (lineAt p i .read) field
     turn-ready =
         record {
           values-room = room-values;
@@ -60,7 +60,7 @@ module _ {s : Sizes} {cells : List Cell} {p : Plan} (valid : Valid s cells) {t :
 
     -- the messages of the line, by the places of its needs
     abbrev message : ℕ → Reading
-    message = messageAt s cells values′ marks′ (line-at p i .back) (line-at p i .read) field
+    message = messageAt s cells values′ marks′ (lineAt p i .back) (lineAt p i .read) field
 
     message-is : (u : ℕ) → u < s .records → message u ≡ heldAfter s cells (suc t) (line (facts p) i) u
     message-is u h =

@@ -10,7 +10,7 @@ use Rattle.register.specs.declared.Sizes.{Sizes}
 use Rattle.laws.specs.Lists.{every}
 use Rattle.chain.specs.Word.{readable}
 use Rattle.plan_theory.specs.Plan.{Fact, back, read, hops, line}
-use Rattle.plan_lines.specs.Held.{facts, Keyed, Holds}
+use Rattle.plan_lines.specs.Held.{facts, Keyed, HoldsLines}
 use Rattle.plan_lines.specs.Promised.{LinePromise}
 use Rattle.plan_lines.specs.declared.Plan.{Plan}
 use Rattle.program.specs.Program.{Rule, stepPlan}
@@ -40,7 +40,7 @@ pub record PlanReady (s : Sizes) (p : Plan) (values : List ℤ) (marks : List �
   pub marks-room : p .count * s .records ≤ length marks
 
 -- a plan of rules that pass
-pub record Planned (s : Sizes) (p : Plan) : Type 0 where
+pub record StepPlanned (s : Sizes) (p : Plan) : Type 0 where
   pub rules : List Rule
   pub passes : RulesPass s rules
-  pub holds : Holds p (stepPlan rules)
+  pub holds : HoldsLines p (stepPlan rules)

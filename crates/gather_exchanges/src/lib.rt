@@ -4,9 +4,9 @@ ghost use Prim.Native.Nat.{_-_, _≤_};
 ghost use lib.ListN.{length};
 ghost use Rattle.register.specs.Cells.{cellsOf};
 ghost use Rattle.register.specs.Shape.{Parts, Valid};
-ghost use Rattle.plan_theory.specs.Plan.{hops, line-from};
-ghost use Rattle.plan_keys.specs.Keys.{fact-of};
-ghost use Rattle.plan_lines.specs.Held.{facts-in, plan-of};
+ghost use Rattle.plan_theory.specs.Plan.{hops, lineFrom};
+ghost use Rattle.plan_keys.specs.Keys.{factOf};
+ghost use Rattle.plan_lines.specs.Held.{factsIn, planOf};
 ghost use Rattle.gather_exchanges.specs.Lines.{OneHop, PlanReady};
 ghost use Rattle.gather_exchanges.specs.Exchanged.{HeldTo, Exchanged, ExchangedTo, Cleared};
 use chain::packed;
@@ -19,8 +19,8 @@ use scratch;
 
 // The field of the word that a line's writer has to know, where that has one hop.
 fn field_of(key: u64) -> usize
-    requires { ⌜ (line-from (fact-of key) ≤ hops (fact-of key)) × (hops (fact-of key) ≤ 16) ⌝ }
-    ensures { λ r. ⌜ OneHop (fact-of key) r ⌝ }
+    requires { ⌜ (lineFrom (factOf key) ≤ hops (factOf key)) × (hops (factOf key) ≤ 16) ⌝ }
+    ensures { λ r. ⌜ OneHop (factOf key) r ⌝ }
 {
     if key <= ONE_HOP {
         return packed::first_hop(key::chain_of(key)) as usize;
@@ -43,9 +43,9 @@ pub fn exchange(
     t: u8,
 ) -> usize
     requires { ⌜ Parts sizes (now cells) (now filled) × Valid sizes (cellsOf (now cells) (now filled))
-        × PlanReady sizes (plan-of (now keys) (now rounds) (now backs) (now reads) count) (now values) (now marks)
-        × (1 ≤ t) × HeldTo sizes (cellsOf (now cells) (now filled)) (facts-in (now keys) count) (t - 1) (now values) (now marks) ⌝ }
-    ensures { λ r. ⌜ Exchanged sizes (cellsOf (now (cells .entry)) (now (filled .entry))) (facts-in (now (keys .entry)) count) t
+        × PlanReady sizes (planOf (now keys) (now rounds) (now backs) (now reads) count) (now values) (now marks)
+        × (1 ≤ t) × HeldTo sizes (cellsOf (now cells) (now filled)) (factsIn (now keys) count) (t - 1) (now values) (now marks) ⌝ }
+    ensures { λ r. ⌜ Exchanged sizes (cellsOf (now (cells .entry)) (now (filled .entry))) (factsIn (now (keys .entry)) count) t
         (now (values .entry)) (now (marks .entry)) (now (values .exit)) (now (marks .exit)) r ⌝ }
 {
     let mut sent = 0;
@@ -82,8 +82,8 @@ pub fn exchange_to(
     last: u8,
 ) -> usize
     requires { ⌜ Parts sizes (now cells) (now filled) × Valid sizes (cellsOf (now cells) (now filled))
-        × PlanReady sizes (plan-of (now keys) (now rounds) (now backs) (now reads) count) (now values) (now marks) ⌝ }
-    ensures { λ r. ⌜ ExchangedTo sizes (cellsOf (now (cells .entry)) (now (filled .entry))) (facts-in (now (keys .entry)) count) last
+        × PlanReady sizes (planOf (now keys) (now rounds) (now backs) (now reads) count) (now values) (now marks) ⌝ }
+    ensures { λ r. ⌜ ExchangedTo sizes (cellsOf (now (cells .entry)) (now (filled .entry))) (factsIn (now (keys .entry)) count) last
         (now (values .entry)) (now (marks .entry)) (now (values .exit)) (now (marks .exit)) r ⌝ }
 {
     let mut sent = 0;

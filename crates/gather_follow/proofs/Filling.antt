@@ -12,8 +12,8 @@ use Rattle.register.specs.declared.Sizes.{Sizes}
 use Rattle.register.specs.declared.cells.Cell.{Cell}
 use Rattle.chain.specs.Word.{valueAtRecord}
 use Rattle.plan_theory.specs.Plan.{Fact, back, read, word, line}
-use Rattle.plan_keys.specs.Keys.{fact-of, kind}
-use Rattle.plan_lines.specs.Held.{facts-in, Keyed}
+use Rattle.plan_keys.specs.Keys.{factOf, kind}
+use Rattle.plan_lines.specs.Held.{factsIn, Keyed}
 use Rattle.plan_keys.specs.declared.key.Kind.{Kind}
 use Rattle.plan_keys.specs.declared.key.Kind.the-variants.{Back, Read}
 use Rattle.plan_lines.proofs.Search.{facts-line}
@@ -23,20 +23,20 @@ use Rattle.scratch.proofs.Placed.{kept-same, kept-again, placeAt-kept}
 use Rattle.gather_follow.specs.Filled.{ReadAt, Filled}
 
 -- the fact of a kind and a word
-abbrev pub factOf : Kind → List ℕ → Fact
-factOf Back w = back w
-factOf Read w = read w
+abbrev pub kindFact : Kind → List ℕ → Fact
+kindFact Back w = back w
+kindFact Read w = read w
 
-fact-by-kind : (f : Fact) → f ≡ factOf (kind f) (word f)
+fact-by-kind : (f : Fact) → f ≡ kindFact (kind f) (word f)
 fact-by-kind (back w) = refl
 fact-by-kind (read w) = refl
 
 -- line i by the kind and the word of its key
 pub line-by-key : {k : Kind} {w : List ℕ} (keys : List ℕ) (count i : ℕ) → Keyed keys count → i < count
-    → k ≡ kind (fact-of (getD keys i 0)) → w ≡ word (fact-of (getD keys i 0))
-    → line (facts-in keys count) i ≡ factOf k w
+    → k ≡ kind (factOf (getD keys i 0)) → w ≡ word (factOf (getD keys i 0))
+    → line (factsIn keys count) i ≡ kindFact k w
 line-by-key keys count i keyed h e q =
-    facts-line keys count (omega (arith, keyed .places, keyed .taken≤)) i h ∙ fact-by-kind (fact-of (getD keys i 0)) ∙ sym (ap₂ factOf e q)
+    facts-line keys count (omega (arith, keyed .places, keyed .taken≤)) i h ∙ fact-by-kind (factOf (getD keys i 0)) ∙ sym (ap₂ kindFact e q)
 
 module _ (s : Sizes) (cells : List Cell) where
   -- a reading stays where its place is kept

@@ -3,7 +3,7 @@ use Prim.Native.Nat.{_≤_}
 use mathlib.Core.Path.{subst}
 use mathlib.Core.List.{List}
 use Rattle.register.specs.declared.Sizes.{Sizes}
-use Rattle.plan_theory.specs.Plan.{Fact, hops, line-from}
+use Rattle.plan_theory.specs.Plan.{Fact, hops, lineFrom}
 use Rattle.plan_theory.proofs.Kept.{plan-promise}
 use Rattle.program.specs.Program.{Rule, readings, stepPlan}
 use Rattle.program.specs.Passed.{RulesPass}
@@ -16,5 +16,5 @@ unfolding stepPlan
 lines-follow s {rs} k =
     record {
       each = λ i w h e. subst (Follows s) e (plan-follows s k i h);
-      two = λ i w h e. subst (λ (f : Fact). line-from f ≤ hops f) e (plan-promise (readings rs) .stands i h .has-line);
+      two = λ i w h e. subst (λ (f : Fact). lineFrom f ≤ hops f) e (plan-promise (readings rs) .stands i h .has-line);
     }

@@ -15,7 +15,7 @@ use Rattle.chain.specs.declared.reading.Reading.{Reading}
 use Rattle.chain.specs.declared.reading.Reading.the-variants.{Missing, Value}
 use Rattle.chain.specs.Word.{readable, readOf, hop, valueAtRecord, refersTo}
 use Rattle.plan_theory.specs.Plan.{Fact, read, line}
-use Rattle.plan_lines.specs.Held.{facts-in, Keyed}
+use Rattle.plan_lines.specs.Held.{factsIn, Keyed}
 use Rattle.scratch.specs.Places.{placeAt, Kept, StoredFrom}
 
 -- every Read line can be followed, and has two or more hops
@@ -27,7 +27,7 @@ pub record FollowLines (s : Sizes) (l : List Fact) : Type 0 where
 pub record FollowReady (s : Sizes) (keys : List ℕ) (wanted : List Bool) (count : ℕ) (values : List ℤ) (marks : List ℕ) : Type 0 where
   pub keyed : Keyed keys count
   pub wanted-length : length wanted ≡ 64
-  pub follow : FollowLines s (facts-in keys count)
+  pub follow : FollowLines s (factsIn keys count)
   pub values-room : count * s .records ≤ length values
   pub marks-room : count * s .records ≤ length marks
 

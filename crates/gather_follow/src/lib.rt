@@ -10,7 +10,7 @@ ghost use Rattle.register.specs.Cells.{cellsOf};
 ghost use Rattle.register.specs.File.{width};
 ghost use Rattle.register.specs.Shape.{Parts, Valid};
 ghost use Rattle.chain.specs.Word.{hasField, readable, unpack, valueAtRecord, refersTo};
-ghost use Rattle.plan_lines.specs.Held.{facts-in};
+ghost use Rattle.plan_lines.specs.Held.{factsIn};
 ghost use Rattle.scratch.specs.Places.{placeAt, StoredFrom};
 ghost use Rattle.gather_follow.specs.Filled.{FollowReady, referred, Referring, Hopped, Filled};
 use chain::follow;
@@ -109,7 +109,7 @@ pub fn fill(
     count: usize,
 )
     requires { ⌜ Parts sizes (now cells) (now filled) × Valid sizes (cellsOf (now cells) (now filled)) × FollowReady sizes (now keys) (now wanted) count (now values) (now marks) ⌝ }
-    ensures { λ _. ⌜ Filled sizes (cellsOf (now (cells .entry)) (now (filled .entry))) (facts-in (now (keys .entry)) count)
+    ensures { λ _. ⌜ Filled sizes (cellsOf (now (cells .entry)) (now (filled .entry))) (factsIn (now (keys .entry)) count)
         (now (wanted .entry)) count (now (values .entry)) (now (marks .entry)) (now (values .exit)) (now (marks .exit)) ⌝ }
 {
     for i in 0..count {

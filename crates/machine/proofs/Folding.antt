@@ -11,7 +11,7 @@ use Rattle.register.specs.declared.Sizes.{Sizes}
 use Rattle.register.specs.declared.cells.Cell.{Cell}
 use Rattle.chain.specs.declared.reading.Reading.{Reading}
 use Rattle.chain.specs.Word.{column}
-use Rattle.program.specs.Program.{Target, own, remote, Rule, isRemote, someTarget, hasRemote, fieldOf}
+use Rattle.program.specs.Program.{Target, own, remote, Rule, isRemote, someTarget, hasRemote, targetField}
 use Rattle.machine.specs.declared.message.Message.{Message}
 use Rattle.machine.specs.Value.{holds}
 use Rattle.machine.specs.Local.{stored, store, localRule, localRules, localRecords, offends, sumOffends}
@@ -26,7 +26,7 @@ localRules-more s read u [] r cells = refl
 localRules-more s read u (q ∷ rs) r cells = localRules-more s read u rs r (localRule s read u q cells)
 
 pub sumOffends-more : (s : Sizes) (read : List ℕ → Reading) (rs : List Rule) (r : Rule) (c : ℕ)
-    → sumOffends s read (rs ++ (r ∷ [])) c ≡ sumOffends s read rs c || (offends read r && eqb (column s (fieldOf (r .target))) c)
+    → sumOffends s read (rs ++ (r ∷ [])) c ≡ sumOffends s read rs c || (offends read r && eqb (column s (targetField (r .target))) c)
 unfolding sumOffends
 sumOffends-more s read [] r c = or-false _
 sumOffends-more s read (q ∷ rs) r c = simp (sumOffends-more s read rs r c, or-assoc)

@@ -22,7 +22,7 @@ use Rattle.chain.specs.Word.{isReference, Passes, readOf, refersTo, readingValu
 use Rattle.chain.proofs.ReadOf.{read-value}
 use Rattle.program.specs.declared.rule.Sort.{Sort}
 use Rattle.program.specs.declared.rule.Sort.the-variants.{Least, Total}
-use Rattle.program.specs.Program.{Expression, reading, constant, operation, Target, own, remote, Rule, fieldOf}
+use Rattle.program.specs.Program.{Expression, reading, constant, operation, Target, own, remote, Rule, targetField}
 use Rattle.laws.specs.Lists.{Each}
 use Rattle.program.specs.Passed.{isReferenceWord, isReferenceExpression, ExpressionPasses, TargetPasses, RulePasses, RulesPass}
 use Rattle.laws.proofs.Lists.{each-append}
@@ -90,13 +90,13 @@ module _ (s : Sizes) (lim : Limits s) (read : List ℕ → Reading)
   value-refers (operation op x y) k e = true-false e refl
 
   -- and what a rule writes to a reference
-  written : (r : Rule) → RulePasses s r → Change s (fieldOf (r .target)) (λ c. storedCell (value read (r .expression)))
+  written : (r : Rule) → RulePasses s r → Change s (targetField (r .target)) (λ c. storedCell (value read (r .expression)))
   written r k = record { field = k .field; refers = λ e c h. stored-refers _ _ ∙ value-refers (r .expression) (k .expression) (sym (k .alike) ∙ e) }
 
   -- what a local rule stores, one rule, and rules in order
-  store-refers : (u : ℕ) (t : Target) (x : Reading) → Change s (fieldOf t) (λ c. storedCell x) → (cells : List Cell) → Refers s cells
+  store-refers : (u : ℕ) (t : Target) (x : Reading) → Change s (targetField t) (λ c. storedCell x) → (cells : List Cell) → Refers s cells
       → Refers s (store s u (storedTo t x) cells)
-  unfolding store storedTo fieldOf
+  unfolding store storedTo targetField
   store-refers u (own f) x w cells h = change-refers s lim w u cells h
   store-refers u (remote k f c) x w cells h = h
 
@@ -110,8 +110,8 @@ module _ (s : Sizes) (lim : Limits s) (read : List ℕ → Reading)
   localRules-refers u (r ∷ rs) k cells h = localRules-refers u rs (k .1) _ (localRule-refers u r (k .0) cells h)
 
   -- the messages to a target, of a rule, and of rules
-  sentBy-sound : (t : Target) (x : Reading) → TargetPasses s t → Change s (fieldOf t) (λ c. storedCell x) → Each (Sound s) (sentBy read t x)
-  unfolding sentBy fieldOf
+  sentBy-sound : (t : Target) (x : Reading) → TargetPasses s t → Change s (targetField t) (λ c. storedCell x) → Each (Sound s) (sentBy read t x)
+  unfolding sentBy targetField
   sentBy-sound (own f) x p w = tt
   sentBy-sound (remote k f c) x p w = sent-sound s k f (read c) x (p .measure) w
 

@@ -19,7 +19,7 @@ use Rattle.chain.specs.declared.reading.Reading.the-variants.{Missing, Value}
 use Rattle.chain.specs.Word.{column, fieldAt}
 use Rattle.chain.proofs.Following.{column-below, field-column}
 use Rattle.program.specs.declared.rule.Sort.{Sort}
-use Rattle.program.specs.Program.{Target, own, remote, Rule, fieldOf, writes, someTarget}
+use Rattle.program.specs.Program.{Target, own, remote, Rule, targetField, writes, someTarget}
 use Rattle.laws.specs.Lists.{Each}
 use Rattle.program.specs.Passed.{RulePasses}
 use Rattle.laws.proofs.Lists.{each-append}
@@ -36,7 +36,7 @@ record Elsewhere (s : Sizes) (c f : ℕ) : Type 0 where
   other : column s f ≢ c
 
 abbrev AllElsewhere : Sizes → ℕ → List Rule → Type 0
-AllElsewhere s c rs = Each (λ (r : Rule). Elsewhere s c (fieldOf (r .target))) rs
+AllElsewhere s c rs = Each (λ (r : Rule). Elsewhere s c (targetField (r .target))) rs
 
 abbrev SentElsewhere : Sizes → ℕ → List Message → Type 0
 SentElsewhere s c ms = Each (λ (m : Message). Elsewhere s c (m .field)) ms
@@ -50,8 +50,8 @@ module _ (s : Sizes) (c : ℕ) where
   sent-elsewhere k f (Value v) (Value a) e = (e, tt)
 
   module _ (read : List ℕ → Reading) where
-    target-elsewhere : (t : Target) (x : Reading) → Elsewhere s c (fieldOf t) → SentElsewhere s c (sentBy read t x)
-    unfolding sentBy fieldOf
+    target-elsewhere : (t : Target) (x : Reading) → Elsewhere s c (targetField t) → SentElsewhere s c (sentBy read t x)
+    unfolding sentBy targetField
     target-elsewhere (own f) x e = tt
     target-elsewhere (remote k f d) x e = sent-elsewhere k f (read d) x e
 
@@ -80,8 +80,8 @@ module _ (s : Sizes) (c : ℕ) (b : c < width s) (u : ℕ) where
       getD-set-other cells (cellIndex s v (column s f)) (cellIndex s u c) x Unfilled (λ q. e .other (sym (place-column s u v c (column s f) b (e .below) q)))
 
   -- stays through the local rules
-  store-here : (v : ℕ) (t : Target) (x : Reading) (cells : List Cell) → Elsewhere s c (fieldOf t) → here (store s v (storedTo t x) cells) ≡ here cells
-  unfolding store storedTo fieldOf
+  store-here : (v : ℕ) (t : Target) (x : Reading) (cells : List Cell) → Elsewhere s c (targetField t) → here (store s v (storedTo t x) cells) ≡ here cells
+  unfolding store storedTo targetField
   store-here v (own f) x cells e = put-here cells v f (storedCell x) e
   store-here v (remote k f d) x cells e = refl
 
@@ -116,7 +116,7 @@ unwritten : (s : Sizes) → Limits s → (c : ℕ) (rs : List Rule) → Each (Ru
 unfolding someTarget writes
 unwritten s lim c [] k n = tt
 unwritten s lim c (r ∷ rs) k n =
-    let f = fieldOf (r .target) in
+    let f = targetField (r .target) in
     let field = k .0 .field in
     let not = or-neither (eqb (fieldAt s c) f) (someTarget (writes (fieldAt s c)) rs) n in (
       record {

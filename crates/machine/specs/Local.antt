@@ -12,7 +12,7 @@ use Rattle.register.specs.declared.cells.Cell.the-variants.{Missing as Unfilled
 use Rattle.chain.specs.declared.reading.Reading.{Reading}
 use Rattle.chain.specs.declared.reading.Reading.the-variants.{Missing, Value}
 use Rattle.chain.specs.Word.{column}
-use Rattle.program.specs.Program.{Target, own, remote, Rule, fieldOf}
+use Rattle.program.specs.Program.{Target, own, remote, Rule, targetField}
 use Rattle.machine.specs.Value.{value, overflows, holds}
 
 -- the cell that `:=` makes of a reading: "an unfilled reading makes the cell unfilled"
@@ -54,4 +54,4 @@ offends read r = holds read (r .test) && overflows read (r .expression)
 -- whether one of these rules is done and forms a sum for this column that leaves the range: "even where overwritten"
 unfoldable pub sumOffends : Sizes → (List ℕ → Reading) → List Rule → ℕ → Bool
 sumOffends s read [] c = false
-sumOffends s read (r ∷ rs) c = (offends read r && eqb (column s (fieldOf (r .target))) c) || sumOffends s read rs c
+sumOffends s read (r ∷ rs) c = (offends read r && eqb (column s (targetField (r .target))) c) || sumOffends s read rs c

@@ -1,4 +1,4 @@
--- A run: steps until none is left, the budget (document 01's allowance) is spent, or a step stops.
+-- A run: steps until none is left, the budget (document 01's allowance) is exhausted, or a step stops.
 use mathlib.Core.Bool.{Bool, true, false, cond, not, _&&_, _||_}
 use mathlib.Core.List.{List, [], _∷_}
 use Prim.Native.Nat.{ℕ, zero, suc, _+_, _*_}
@@ -60,7 +60,7 @@ following s g rest after p = cond (goesOn s g (p .before) after) rest (p .steps)
 
 -- how a run ends: no step is left; 20; 21, at this step over these cells
 pub data Ending : Type 0 where
-  complete spent : Ending
+  complete exhausted : Ending
   offended : List Rule → List Cell → Ending
 
 -- the cells at the end, the finished steps, each with the cells before it, and how it ends
@@ -88,10 +88,10 @@ stepFirst s reader goOn (x ∷ rest) p cells =
     (behind x cells (goOn (following s (x .setting) rest after pass) pass after))
 
 -- the run of the steps to come, with a budget for this many more: "Before each step, if the finished steps equal the
--- allowance .. the run is stopped as spent"
+-- allowance .. the run is stopped as exhausted"
 unfoldable pub runFrom : Sizes → Reader → ℕ → List Step → Pass → List Cell → Run
 runFrom s reader zero [] p cells = ended cells complete
-runFrom s reader zero (x ∷ rest) p cells = ended cells spent
+runFrom s reader zero (x ∷ rest) p cells = ended cells exhausted
 runFrom s reader (suc budget) steps p cells = stepFirst s reader (runFrom s reader budget) steps p cells
 
 -- the run of a program over the cells of a register

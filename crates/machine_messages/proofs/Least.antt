@@ -6,7 +6,7 @@ use mathlib.Core.List.{List, List·Memᴰ}
 use native.Mathlib.Omega.{arith}
 use lib.ListN.{length}
 use Rattle.plan_theory.specs.Knows.{LeastRounds}
-use Rattle.plan_theory.specs.Plan.{Fact, read, hops, line-from, round, place, line}
+use Rattle.plan_theory.specs.Plan.{Fact, read, hops, lineFrom, round, lineIndex, line}
 use Rattle.laws.proofs.Cases.{lt-or-le}
 use Rattle.plan_theory.proofs.Facts.{round-none}
 use Rattle.plan_theory.proofs.Least.{round-least}
@@ -22,18 +22,18 @@ pub data RoundsInPlan (l : List Fact) (w : List ℕ) : ℕ → Type 0 where
 
 module _ {ws : List (List ℕ)} {l : List Fact} (p : Promise ws l) {w : List ℕ} (m : List·Memᴰ w ws) where
   -- a reading has its Read line exactly if it has two or more hops
-  reading-line : 2 ≤ length w → (place l (read w) < length l) × (line l (place l (read w)) ≡ read w)
+  reading-line : 2 ≤ length w → (lineIndex l (read w) < length l) × (line l (lineIndex l (read w)) ≡ read w)
   reading-line h = let b = p .has-reading m h in (b, place-line l (read w) b)
 
   no-line : length w < 2 → (i : ℕ) → i < length l → line l i ≡ read w → ⊥
-  no-line h i b e = omega (arith, subst (λ f. line-from f ≤ hops f) e (p .stands i b .has-line))
+  no-line h i b e = omega (arith, subst (λ f. lineFrom f ≤ hops f) e (p .stands i b .has-line))
 
   -- so its rounds in the plan are the round of its fact, and nothing else is
   pub round-in-plan : RoundsInPlan l w (round (read w))
   round-in-plan =
       ⊎-elim
       (λ (h : length w < 2). rw (round-none (read w) h) (unlisted (no-line h)))
-      (λ (h : 2 ≤ length w). let (b, e) = reading-line h in subst (RoundsInPlan l w) (ap round e) (listed (place l (read w)) b e))
+      (λ (h : 2 ≤ length w). let (b, e) = reading-line h in subst (RoundsInPlan l w) (ap round e) (listed (lineIndex l (read w)) b e))
       (lt-or-le (length w) 2)
 
   pub in-plan-round : {n : ℕ} → RoundsInPlan l w n → n ≡ round (read w)
@@ -41,7 +41,7 @@ module _ {ws : List (List ℕ)} {l : List Fact} (p : Promise ws l) {w : List ℕ
   in-plan-round (unlisted none) =
       ⊎-elim
       (λ (h : length w < 2). sym (round-none (read w) h))
-      (λ (h : 2 ≤ length w). let (b, e) = reading-line h in absurd (none (place l (read w)) b e))
+      (λ (h : 2 ≤ length w). let (b, e) = reading-line h in absurd (none (lineIndex l (read w)) b e))
       (lt-or-le (length w) 2)
 
 -- each reading of a step: the plan derives it in that many rounds, and "every other derivation .. has at least as many rounds

@@ -5,7 +5,7 @@ use mathlib.Core.List.{List, [], _∷_, List·Memᴰ, List·Memᴰ·head, List·
 use mathlib.Core.Logic.{⊎-elim}
 use native.Mathlib.Omega.{arith}
 use lib.ListN.{length}
-use Rattle.plan_theory.specs.Plan.{Fact, read, round, place, plan, last-round}
+use Rattle.plan_theory.specs.Plan.{Fact, read, round, lineIndex, plan, lastRound}
 use Rattle.plan_theory.specs.Promise.{Needed, Promise}
 use Rattle.laws.proofs.Cases.{lt-or-le}
 use Rattle.plan_theory.proofs.Facts.{round-none, round-both, needed-ind}
@@ -31,25 +31,25 @@ needed-round {f} n = needed-ind (λ g. round g ≤ round f) (λ g h q. (omega (a
 
 module _ {ws : List (List ℕ)} {l : List Fact} (p : Promise ws l) where
   -- a reading's Read line is one of the plan's lines, and where it has none it has no round
-  reading-last : (w : List ℕ) → List·Memᴰ w ws → round (read w) ≤ last-round l
+  reading-last : (w : List ℕ) → List·Memᴰ w ws → round (read w) ≤ lastRound l
   reading-last w m =
       ⊎-elim
       (λ (h : length w < 2). omega (arith, round-none (read w) h))
       (λ (h : 2 ≤ length w).
       let b = p .has-reading m h in
-      omega (arith, p .to-last (place l (read w)) b, ap round (place-line l (read w) b)))
+      omega (arith, p .to-last (lineIndex l (read w)) b, ap round (place-line l (read w) b)))
       (lt-or-le (length w) 2)
 
   -- a line of the last round is needed for a reading
-  last-most : 1 ≤ last-round l → last-round l ≤ mostRounds ws
+  last-most : 1 ≤ lastRound l → lastRound l ≤ mostRounds ws
   last-most h =
-      let r = p .no-gap (last-round l) h (omega arith) in
+      let r = p .no-gap (lastRound l) h (omega arith) in
       let x = p .wanted (r .index) (r .index<) in
       omega (arith, r .round-is, needed-round (x .needed), rounds-most (x .among))
 
 -- the rounds that a step's plan takes
-pub most-last : (ws : List (List ℕ)) → mostRounds ws ≡ last-round (plan ws)
+pub most-last : (ws : List (List ℕ)) → mostRounds ws ≡ lastRound (plan ws)
 most-last ws =
     let p = plan-promise ws in
-    let up = most-within ws (last-round (plan ws)) (reading-last p) in
-    ⊎-elim (λ h. omega arith) (λ h. omega (arith, last-most p h)) (lt-or-le (last-round (plan ws)) 1)
+    let up = most-within ws (lastRound (plan ws)) (reading-last p) in
+    ⊎-elim (λ h. omega arith) (λ h. omega (arith, last-most p h)) (lt-or-le (lastRound (plan ws)) 1)

@@ -17,8 +17,8 @@ use Rattle.chain.specs.declared.reading.Reading.{Reading}
 use Rattle.chain.specs.declared.reading.Reading.the-variants.{Missing, Value}
 use Rattle.chain.specs.Word.{hop, follow, valueAtRecord, refersTo}
 use Rattle.laws.specs.Lists.{every}
-use Rattle.chain.proofs.Following.{follow-missing}
-use Rattle.plan_theory.specs.Plan.{Fact, back, read, word, hops, front, rest, line-from, back-need, read-need, round, line}
+use Rattle.chain.proofs.Following.{follow-missing, own-refers, hop-refers}
+use Rattle.plan_theory.specs.Plan.{Fact, back, read, word, hops, front, rest, lineFrom, backNeed, readNeed, round, line}
 use Rattle.plan_theory.proofs.Half.{half-pos}
 use Rattle.plan_theory.proofs.Facts.{front-rest, front-length, round-one, round-both, fact-ind}
 use Rattle.plan_theory.proofs.Kept.{plan-promise}
@@ -26,7 +26,6 @@ use Rattle.program.specs.Program.{Rule, readings, stepPlan}
 use Rattle.program.specs.Passed.{RulesPass}
 use Rattle.machine.proofs.Readable.{referring, Follows, back-follows, read-follows}
 use Rattle.machine.proofs.Readings.{plan-follows}
-use Rattle.chain.proofs.Following.{own-refers, hop-refers}
 use Rattle.machine_messages.specs.Held.{knows, writer, needed, written, sent, heldAfter}
 use Rattle.machine_messages.proofs.Settling.{held-now, held-settled}
 
@@ -38,7 +37,7 @@ follow-append s cells x (f ∷ v) w = follow-append s cells (hop s cells x f) v 
 
 -- once the exchange of its round is done, a fact with a line is held for each record as following its word reads there
 abbrev pub Told : Sizes → List Cell → Fact → Type 0
-Told s cells f = Follows s f → line-from f ≤ hops f → (t u : ℕ) → round f ≤ t → u < s .records → heldAfter s cells t f u ≡ valueAtRecord s cells (word f) u
+Told s cells f = Follows s f → lineFrom f ≤ hops f → (t u : ℕ) → round f ≤ t → u < s .records → heldAfter s cells t f u ≡ valueAtRecord s cells (word f) u
 
 module _ {s : Sizes} {cells : List Cell} (valid : Valid s cells) where
   -- references lead from record to record
@@ -58,7 +57,7 @@ module _ {s : Sizes} {cells : List Cell} (valid : Valid s cells) where
   knows-value (f ∷ g ∷ w) told k t u ht hu = told k (omega arith) t u ht hu
 
   -- .. and writes what following on reads
-  written-value : (f : Fact) → 2 ≤ hops f → Told s cells (read-need f) → Follows s (read-need f) → (t : ℕ) → round (read-need f) ≤ t
+  written-value : (f : Fact) → 2 ≤ hops f → Told s cells (readNeed f) → Follows s (readNeed f) → (t : ℕ) → round (readNeed f) ≤ t
       → (x : Reading) → refersTo (s .records) x ≡ true → written s cells (heldAfter s cells t) f x ≡ follow s cells x (rest (word f))
   unfolding written needed refersTo valueAtRecord
   written-value f h told k t ht Missing r = sym (follow-missing s cells (rest (word f)))
@@ -68,8 +67,8 @@ module _ {s : Sizes} {cells : List Cell} (valid : Valid s cells) where
       (knows-value (rest (word f)) told k t (natAbs z) ht (i .1) ∙ ap (λ x. follow s cells x (rest (word f))) (ap Value (sym (i .0))))
 
   -- so from the messages of its needs comes the message of a fact
-  sent-value : (f : Fact) → 2 ≤ hops f → Told s cells (back-need f) → Told s cells (read-need f) → Follows s f
-      → (t u : ℕ) → round (back-need f) ≤ t → round (read-need f) ≤ t → u < s .records
+  sent-value : (f : Fact) → 2 ≤ hops f → Told s cells (backNeed f) → Told s cells (readNeed f) → Follows s f
+      → (t u : ℕ) → round (backNeed f) ≤ t → round (readNeed f) ≤ t → u < s .records
       → sent s cells (heldAfter s cells t) f u ≡ valueAtRecord s cells (word f) u
   unfolding sent writer valueAtRecord
   sent-value f h b r k t u hb hr hu =
@@ -81,7 +80,7 @@ module _ {s : Sizes} {cells : List Cell} (valid : Valid s cells) where
       ∙ ap (follow s cells (Value (pos u))) (front-rest (word f)))
 
   -- and u writes its own number to the record at one hop
-  sent-one : (f : Fact) → line-from f ≤ hops f → hops f < 2 → (t u : ℕ) → sent s cells (heldAfter s cells t) f u ≡ valueAtRecord s cells (word f) u
+  sent-one : (f : Fact) → lineFrom f ≤ hops f → hops f < 2 → (t u : ℕ) → sent s cells (heldAfter s cells t) f u ≡ valueAtRecord s cells (word f) u
   unfolding sent writer written needed knows valueAtRecord follow hop
   sent-one (back []) l h t u = absurd (omega arith)
   sent-one (back (f ∷ [])) l h t u = refl
@@ -99,7 +98,7 @@ module _ {s : Sizes} {cells : List Cell} (valid : Valid s cells) where
       (λ f h k l. absurd (omega arith))
       (λ f l h k m t u ht hu. held-sent f 0 t u (round-one f l h) (omega (arith, round-one f l h)) (sent-one f l h 0 u))
       (λ f h b r k l t u ht hu.
-      let m = max (round (back-need f)) (round (read-need f)) in
+      let m = max (round (backNeed f)) (round (readNeed f)) in
       held-sent f m t u (round-both f h) (omega (arith, round-both f h)) (sent-value f h b r k m u (omega arith) (omega arith) hu))
 
   -- every line of the plan of rules that pass

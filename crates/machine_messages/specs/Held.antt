@@ -9,7 +9,7 @@ use Rattle.register.specs.declared.cells.Cell.{Cell}
 use Rattle.chain.specs.declared.reading.Reading.{Reading}
 use Rattle.chain.specs.declared.reading.Reading.the-variants.{Missing, Value}
 use Rattle.chain.specs.Word.{readCell}
-use Rattle.plan_theory.specs.Plan.{Fact, read, word, hops, rest, back-need, round}
+use Rattle.plan_theory.specs.Plan.{Fact, read, word, hops, rest, backNeed, round}
 
 -- What was sent so far for a fact and its origin u: "the value read (Read) or the addressee (Back)", missing where no message
 -- was sent. A message for Back(w) is held by its addressee, one for Read(w) by u.
@@ -24,7 +24,7 @@ knows s cells held v (f ∷ g ∷ w) = held (read (f ∷ g ∷ w)) v
 
 -- the writer of a fact's message: "Back of one hop: u writes"; otherwise the record at a, to which Back(a) has come
 unfoldable pub writer : Held → Fact → ℕ → Reading
-writer held f u = cond (ltb (hops f) 2) (Value (pos u)) (held (back-need f) u)
+writer held f u = cond (ltb (hops f) 2) (Value (pos u)) (held (backNeed f) u)
 
 -- the word that it has to know: the one hop, or b
 unfoldable pub needed : Fact → List ℕ

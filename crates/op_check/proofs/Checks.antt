@@ -12,13 +12,13 @@ use Rattle.register.specs.declared.Sizes.{Sizes}
 use Rattle.register.specs.declared.Refusal.{Refusal}
 use Rattle.register.specs.declared.Refusal.the-variants.{Length, SizeLimit, Mark, MissingValue, Reference}
 use Rattle.plan_theory.specs.Plan.{Fact, round, line, result}
-use Rattle.plan_lines.specs.Held.{Holds}
+use Rattle.plan_lines.specs.Held.{HoldsLines}
 use Rattle.plan_lines.specs.declared.Plan.{Plan}
 use Rattle.plan_lines.proofs.Adding.{holds-facts}
 use Rattle.plan_lines.proofs.Appending.{holds-count}
 use Rattle.program.specs.declared.setting.Setting.the-variants.{Single}
 use Rattle.program.specs.Program.{Step, Program, mostLines, stepPlan}
-use Rattle.text_rules.specs.Text.{lines, start, readFrom, textProgram, check, rulesAt, Planned, planned, planOfStep}
+use Rattle.text_rules.specs.Text.{lines, start, readFrom, textProgram, check, rulesAt, PlanResult, planResult, planOfStep}
 use Rattle.program.specs.Kept.{programOf, Framed}
 use Rattle.text_reader.specs.Answers.{outcomeOf, Answers}
 use Rattle.op_check.specs.StepPlan.{zip, linesOf, planOutcome, PlanAnswers, StepFound, RefusedPlan}
@@ -93,16 +93,16 @@ zip-rounds [] ns b h = refl
 zip-rounds (f ∷ l) [] b h = absurd (omega arith)
 zip-rounds (f ∷ l) (n ∷ ns) b h = ap₂ (λ (m : ℕ) (r : List (Fact × ℕ)). (f, m) ∷ r) (h 0 (omega arith)) (zip-rounds l ns (omega arith) (λ i c. h (suc i) (omega arith)))
 
-pub holds-lines : {p : Plan} {l : List Fact} → Holds p l → linesOf p ≡ map (λ f. (f, round f)) l
+pub holds-lines : {p : Plan} {l : List Fact} → HoldsLines p l → linesOf p ≡ map (λ f. (f, round f)) l
 unfolding linesOf
 holds-lines {p} {l} h = ap (λ (m : List Fact). zip m (p .rounds)) (h .facts-are) ∙ zip-rounds l (p .rounds) (omega (arith, holds-count h, h .keyed, h .rounds-are .places)) (h .rounds-are .entry)
 
 -- an answer with a plan
-pub planned-answer : {o : Outcome Planned} {r : StepPlan} → PlanAnswers o r → r .refusal ≡ 0 → o ≡ O.done (record { plan-lines = linesOf (r .plan); remote = r .remote })
+pub planned-answer : {o : Outcome PlanResult} {r : StepPlan} → PlanAnswers o r → r .refusal ≡ 0 → o ≡ O.done (record { plan-lines = linesOf (r .plan); remote = r .remote })
 unfolding planOutcome unless
 planned-answer a h = sym (a .outcome-is) ∙ rw h
 
-pub refused-answer : {o : Outcome Planned} {r : StepPlan} → PlanAnswers o r → (r .refusal ≡ 0 → ⊥) → o ≡ refused (r .refusal) (r .line)
+pub refused-answer : {o : Outcome PlanResult} {r : StepPlan} → PlanAnswers o r → (r .refusal ≡ 0 → ⊥) → o ≡ refused (r .refusal) (r .line)
 unfolding planOutcome
 refused-answer {o} {r} a h = sym (a .outcome-is) ∙ refuse-none (r .refusal) (r .line) _ h
 
@@ -134,7 +134,7 @@ module _ (file t : List ℕ) (k : ℕ) where
 
     pub step-there : (fs : List Frame) (d : Frame) {most : ℕ} → Framed fs xs → 1 ≤ k → k ≤ length xs → most ≡ mostLines xs
         → Answer (record { refusal = 0; line = 0; plan = getD fs (k - 1) d .plan; remote = getD fs (k - 1) d .remote; most = most })
-    unfolding planOfStep after planned planOutcome unless result stepPlan
+    unfolding planOfStep after planResult planOutcome unless result stepPlan
     step-there fs d h p b m =
         let none : Step = record { rules = []; setting = Single } in
         let at : suc (k - 1) ≡ k = omega arith in

@@ -27,19 +27,19 @@ same-refusal (refused a b) {n = n} {k = k} h e = let x : a ≡ n = cc in let y :
 
 module _ (file text : List ℕ) (step values marks : ℕ) where
   -- the plan of the step is refused
-  pub look-refused : {n k : ℕ} → planOfStep file text step ≡ refused n k → inspection file text step values marks ≡ refused n k
+  pub inspect-refused : {n k : ℕ} → planOfStep file text step ≡ refused n k → inspection file text step values marks ≡ refused n k
   unfolding planOfStep inspection stepLines
-  look-refused = same-refusal (check file text) (λ p. same-refusal (rulesAt p step) (λ rs e. absurd (let z : _≡_ {A = ℕ} 0 1 = cc in omega arith)))
+  inspect-refused = same-refusal (check file text) (λ p. same-refusal (rulesAt p step) (λ rs e. absurd (let z : _≡_ {A = ℕ} 0 1 = cc in omega arith)))
 
   -- the step is there: by the lengths of the buffers
   module _ {p : Program} (e : check file text ≡ done p) {rs : List Rule} (there : rulesAt p step ≡ done rs) where
-    pub look-short : isShort (scratch (sizesOf file) (mostLines p)) values marks ≡ true → inspection file text step values marks ≡ refused 19 0
+    pub inspect-short : isShort (scratch (sizesOf file) (mostLines p)) values marks ≡ true → inspection file text step values marks ≡ refused 19 0
     unfolding inspection stepLines after
-    look-short h = rw (e, there, h)
+    inspect-short h = rw (e, there, h)
 
-    pub look-done : isShort (scratch (sizesOf file) (mostLines p)) values marks ≡ false → inspection file text step values marks ≡ done (stepPlan rs)
+    pub inspect-done : isShort (scratch (sizesOf file) (mostLines p)) values marks ≡ false → inspection file text step values marks ≡ done (stepPlan rs)
     unfolding inspection stepLines after
-    look-done h = rw (e, there, h)
+    inspect-done h = rw (e, there, h)
 
 -- both buffers have room for the lines of a step
 pub lines-room : (s : Sizes) {lines most values marks : ℕ} → lines ≤ most → isShort (scratch s most) values marks ≡ false

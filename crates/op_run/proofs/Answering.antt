@@ -16,7 +16,7 @@ use Rattle.register.specs.declared.cells.Cell.{Cell}
 use Rattle.register.proofs.Roundtrip.{Bytes, encode-decode, cells-valid}
 use Rattle.program.specs.Program.{Program, mostLines}
 use Rattle.text_rules.specs.Text.{check}
-use Rattle.machine.specs.Run.{Ending, complete, spent, offended, Run, direct, run, scratch, isShort}
+use Rattle.machine.specs.Run.{Ending, complete, exhausted, offended, Run, direct, run, scratch, isShort}
 use Rattle.op_check.proofs.Passed.{loaded}
 use Rattle.machine_messages.specs.declared.Machine.{Machine}
 use Rattle.run_steps.specs.Answer.{EndsBy, EndsAs}
@@ -60,12 +60,12 @@ module _ (file text : List ℕ) {p : Program} (e : check file text ≡ done p) w
 module _ (s : Sizes) (cells : List Cell) (file out : List ℕ) (r : RunAnswer) where
   ended-complete : (x : Ending) → EndsBy s x cells out r → r .refusal ≡ 0 → Ended s x cells file out r
   ended-complete complete h z = h
-  ended-complete spent h z = absurd (omega (arith, ap (λ (x : RunAnswer). x .refusal) h))
+  ended-complete exhausted h z = absurd (omega (arith, ap (λ (x : RunAnswer). x .refusal) h))
   ended-complete (offended rs before) h z = absurd (omega (arith, h .0))
 
   ended-refused : (x : Ending) → EndsBy s x cells out r → r .refusal ≢ 0 → Ended s x cells file file r
   ended-refused complete h z = absurd (z (ap (λ (x : RunAnswer). x .refusal) (h .0)))
-  ended-refused spent h z = (h, refl)
+  ended-refused exhausted h z = (h, refl)
   ended-refused (offended rs before) h z = (h .0, h .1, refl, h .2)
 
 -- a run, as the code tells it, and the register copied over a refusal

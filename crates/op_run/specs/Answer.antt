@@ -8,7 +8,7 @@ use Rattle.laws.specs.Outcome.{Outcome, done, refused}
 use Rattle.register.specs.File.{sizesOf, fileOf}
 use Rattle.register.specs.declared.Sizes.{Sizes}
 use Rattle.register.specs.declared.cells.Cell.{Cell}
-use Rattle.machine.specs.Run.{Ending, complete, spent, offended, Run}
+use Rattle.machine.specs.Run.{Ending, complete, exhausted, offended, Run}
 use Rattle.machine_messages.specs.declared.Machine.{Machine}
 use Rattle.gather.specs.Counted.{noCounts}
 use Rattle.run_steps.specs.Answer.{countsOf, endedWith, Offence}
@@ -26,7 +26,7 @@ refusedWith refusal line = record { refusal = refusal; line = line; finished = 0
 -- how a run ended: "The file holds the cells at the end; after 20 or 21 it is the register as loaded."
 abbrev pub Ended : Sizes → Ending → List Cell → List ℕ → List ℕ → RunAnswer → Type 0
 Ended s complete cells file out r = (r ≡ endedWith 0 (r .finished) (r .counts)) × (out ≡ fileOf s cells)
-Ended s spent cells file out r = (r ≡ endedWith 20 (r .finished) (r .counts)) × (out ≡ file)
+Ended s exhausted cells file out r = (r ≡ endedWith 20 (r .finished) (r .counts)) × (out ≡ file)
 Ended s (offended rs before) cells file out r = (r .refusal ≡ 21) × (r .line ≡ 0) × (out ≡ file) × Offence s rs before (r .row) (r .column)
 
 -- a run: its finished steps, what they count by this machine, how it ended, and the output; the scratch buffers keep their lengths

@@ -4,8 +4,8 @@ ghost use Prim.Native.Nat.{_+_, _*_, _≤_, min};
 ghost use lib.ListN.{length};
 ghost use Rattle.register.specs.File.{cellCount, cellsOfFile};
 ghost use Rattle.register.specs.Shape.{Valid};
-ghost use Rattle.plan_lines.specs.Held.{facts-in, plan-of};
-ghost use Rattle.gather_exchanges.specs.Lines.{Planned};
+ghost use Rattle.plan_lines.specs.Held.{factsIn, planOf};
+ghost use Rattle.gather_exchanges.specs.Lines.{StepPlanned};
 ghost use Rattle.op_show.specs.Shown.{Shown};
 use gather_exchanges;
 use plan_lines;
@@ -36,9 +36,9 @@ pub fn show<'a>(
     t: u16,
 )
     requires { ⌜ Valid sizes (cellsOfFile sizes (now file)) × (length (now file) ≡ 12 + 5 * cellCount sizes)
-        × Planned sizes (plan-of (now keys) (now rounds) (now backs) (now reads) count)
+        × StepPlanned sizes (planOf (now keys) (now rounds) (now backs) (now reads) count)
         × (count * sizes .records ≤ length (now values)) × (count * sizes .records ≤ length (now marks)) ⌝ }
-    ensures { λ _. ⌜ Shown sizes (cellsOfFile sizes (now (file .entry))) (facts-in (now (keys .entry)) count) t
+    ensures { λ _. ⌜ Shown sizes (cellsOfFile sizes (now (file .entry))) (factsIn (now (keys .entry)) count) t
         (now (values .entry)) (now (marks .entry)) (now (values .exit)) (now (marks .exit)) ⌝ }
 {
     let cells = cells::values_part(file, sizes);

@@ -6,18 +6,18 @@ use Rattle.register.specs.File.{width, cellIndex}
 use Rattle.register.specs.declared.Sizes.{Sizes}
 use Rattle.register.specs.declared.cells.Cell.{Cell}
 use Rattle.chain.specs.Word.{isReference, column, readOf, readCell}
-use Rattle.plan_theory.specs.Plan.{Fact, back, read, round, rounds, tree, tree-within, half, doubled, front, rest, plan, add, add-readings, lines, listed, place}
+use Rattle.plan_theory.specs.Plan.{Fact, back, read, round, rounds, tree, treeWithin, half, doubled, front, rest, plan, add, addReadings, withTree, listed, lineIndex}
 use Rattle.program.specs.Program.{Step, Program, stepPlan, readings, ruleReadings, targetReadings, testReadings, expressionReadings, someTarget, isRemote, hasRemote}
 use Rattle.machine.specs.Run.{Run, run}
 use Rattle.machine_messages.specs.Held.{knows, writer, needed, written, sent, heldAfter}
 use Rattle.machine_messages.specs.Counts.{mostRounds, heldIn, byMessages, lineMessages, planMessages, stepExchanges, stepMessages, exchanges, messages}
 use Rattle.paper_examples.specs.Printed.{printedSizes, printedCells}
 use Rattle.paper_examples.specs.Programs.{printedStep}
-use Rattle.paper_examples.specs.Runs.{directRun, printedRun, printedResult}
+use Rattle.paper_examples.specs.Runs.{exampleRun, exampleMessages, printedResult}
 
 -- the lines of a step's plan, each with its messages over the cells before the step
 unfoldable pub lineCounts : Sizes → Step → List Cell → List (Fact × ℕ)
-unfolding width cellIndex isReference column readOf readCell round rounds tree tree-within half doubled front rest plan add add-readings lines listed place stepPlan readings ruleReadings targetReadings testReadings expressionReadings knows writer needed written sent heldAfter mostRounds heldIn lineMessages
+unfolding width cellIndex isReference column readOf readCell round rounds tree treeWithin half doubled front rest plan add addReadings withTree listed lineIndex stepPlan readings ruleReadings targetReadings testReadings expressionReadings knows writer needed written sent heldAfter mostRounds heldIn lineMessages
 lineCounts s x cells = map (λ f. (f, lineMessages (heldIn s (x .rules) cells f) (s .records))) (stepPlan (x .rules))
 
 -- the exchanges and the messages of a run
@@ -27,7 +27,7 @@ counted s x = (exchanges (x .trace), messages s (x .trace))
 
 -- the run of the message machine
 unfoldable pub messageRun : Sizes → Program → ℕ → List Cell → Run
-unfolding directRun lineCounts byMessages
+unfolding exampleRun lineCounts byMessages
 messageRun s program budget cells = run s (byMessages s) program budget cells
 
 -- "Lines of this plan: Back(A) 2 letters, Back(AA) 1, Read(AAM) 1."
@@ -37,8 +37,8 @@ unfolding lineCounts printedSizes printedCells
 printed-lines = refl
 
 -- "3 exchanges 4 letters"
-pub printed-counts : counted printedSizes (printedRun (printedStep ∷ [])) ≡ (3, 4)
-unfolding counted printedRun
+pub printed-counts : counted printedSizes (exampleMessages (printedStep ∷ [])) ≡ (3, 4)
+unfolding counted exampleMessages
 printed-counts = refl
 
 -- the printed values, by messages
@@ -50,11 +50,11 @@ printed-messages = refl
 abbrev pub noRecords : Sizes
 noRecords = record { records = 0; references = 1; measures = 1 }
 
-pub no-records-counts : counted noRecords (directRun noRecords (printedStep ∷ []) 1000 []) ≡ (3, 0)
-unfolding counted directRun
+pub no-records-counts : counted noRecords (exampleRun noRecords (printedStep ∷ []) 1000 []) ≡ (3, 0)
+unfolding counted exampleRun
 no-records-counts = refl
 
 -- "Empty text, allowance 0", over any register
-pub empty-counts : (s : Sizes) (cells : List Cell) → counted s (directRun s [] 0 cells) ≡ (0, 0)
-unfolding counted directRun
+pub empty-counts : (s : Sizes) (cells : List Cell) → counted s (exampleRun s [] 0 cells) ≡ (0, 0)
+unfolding counted exampleRun
 empty-counts s cells = refl

@@ -11,7 +11,7 @@ use Rattle.register.specs.File.{width, cellCount, cellIndex, sizesOf, valuesPar
 use Rattle.register.specs.Load.{withinLimits, cellRefusal, refusalAt, recordRefusal, cellsRefusal, loadSized, load}
 use Rattle.chain.specs.declared.reading.Reading.the-variants.{Missing, Value}
 use Rattle.chain.specs.Word.{isReference, column, readOf, readCell, hop, follow, valueAtRecord}
-use Rattle.chain_text.specs.Text.{isCapital, closed, form, fieldOf, isReferenceLetter, names, innerReferences, lettersRefusal, wordOf}
+use Rattle.chain_text.specs.Text.{isCapital, closed, form, letterField, isReferenceLetter, names, innerReferences, lettersRefusal, wordOf}
 use Rattle.laws.specs.Lists.{every}
 use Rattle.op_read.specs.Reading.{wordOfForm, atRecord, readingLoaded, reading}
 use Rattle.paper_examples.specs.Printed.{printedSizes, printedCells, printedFile}
@@ -21,5 +21,5 @@ unfoldable pub depth : List ℕ
 depth = 77 ∷ 91 ∷ 117 ∷ 93 ∷ []
 
 pub depth-readings : map (reading printedFile depth) (0 ∷ 1 ∷ []) ≡ done Missing ∷ done (Value (pos 0)) ∷ []
-unfolding printedSizes printedCells printedFile depth word wordAt wordBytes valueAt valueBytes eqZ isIndex unless after orElse first valueOf markOf cellOf cellsOf valuesOf marksOf width cellCount cellIndex sizesOf valuesPart marksPart cellsOfFile fileOf withinLimits cellRefusal refusalAt recordRefusal cellsRefusal loadSized load isReference column readOf readCell hop follow valueAtRecord isCapital closed form fieldOf isReferenceLetter names every innerReferences lettersRefusal wordOf wordOfForm atRecord readingLoaded reading
+unfolding printedSizes printedCells printedFile depth word wordAt wordBytes valueAt valueBytes eqZ isIndex unless after orElse first valueOf markOf cellOf cellsOf valuesOf marksOf width cellCount cellIndex sizesOf valuesPart marksPart cellsOfFile fileOf withinLimits cellRefusal refusalAt recordRefusal cellsRefusal loadSized load isReference column readOf readCell hop follow valueAtRecord isCapital closed form letterField isReferenceLetter names every innerReferences lettersRefusal wordOf wordOfForm atRecord readingLoaded reading
 depth-readings = refl

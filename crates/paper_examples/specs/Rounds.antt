@@ -4,7 +4,7 @@ use mathlib.Core.Path.{_≡_, refl, sym, _∙_}
 use mathlib.Core.List.{List, [], _∷_}
 use native.Mathlib.Omega.{arith}
 use lib.ListN.{length, getD, replicate, length-replicate}
-use Rattle.plan_theory.specs.Plan.{back, read, round, rounds, tree, tree-within, half, doubled, front, rest, plan, result, add, add-readings, lines, listed, place, same, same-word}
+use Rattle.plan_theory.specs.Plan.{back, read, round, rounds, tree, treeWithin, half, doubled, front, rest, plan, result, add, addReadings, withTree, listed, lineIndex, sameFact, sameWord}
 use Rattle.plan_theory.proofs.Least.{round-length}
 
 -- g 0, g 1, up to g (n - 1)
@@ -24,7 +24,7 @@ table = 0 ∷ 0 ∷ 2 ∷ 3 ∷ 3 ∷ 4 ∷ 4 ∷ 4 ∷ 4 ∷ 5 ∷ 5 ∷ 5 ∷ 
 
 -- they are those of the plan, at words of 0 to 16 hops ..
 pub table-rounds : tabulate (λ k. round (read (replicate k 0))) 17 ≡ table
-unfolding tabulate round rounds tree tree-within half doubled front rest
+unfolding tabulate round rounds tree treeWithin half doubled front rest
 table-rounds = refl
 
 -- .. and so at every word of at most 16
@@ -36,5 +36,5 @@ table-round c h =
 
 -- the printed plan, A being field 0 and M field 8: Back(A) in round 1, Back(AA) in round 2, Read(AAM) in round 3
 pub printed-plan : result ((0 ∷ 0 ∷ 8 ∷ []) ∷ []) ≡ (back (0 ∷ []), 1) ∷ (back (0 ∷ 0 ∷ []), 2) ∷ (read (0 ∷ 0 ∷ 8 ∷ []), 3) ∷ []
-unfolding result round rounds plan add add-readings lines listed place same same-word tree tree-within half doubled front rest
+unfolding result round rounds plan add addReadings withTree listed lineIndex sameFact sameWord tree treeWithin half doubled front rest
 printed-plan = refl

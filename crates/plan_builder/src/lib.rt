@@ -3,8 +3,8 @@ ghost use Prim.Native.Nat.{_≤_};
 ghost use lib.ListN.{length};
 ghost use Rattle.chain.specs.Word.{unpack};
 ghost use Rattle.plan_theory.specs.Plan.{read, hops, add as addOf};
-ghost use Rattle.plan_keys.specs.Keys.{fact-of};
-ghost use Rattle.plan_lines.specs.Held.{facts-in, facts, Holds, plan-of as planOf, ExtendedTo, AddedTo};
+ghost use Rattle.plan_keys.specs.Keys.{factOf};
+ghost use Rattle.plan_lines.specs.Held.{factsIn, facts, HoldsLines, planOf, ExtendedTo, AddedTo};
 use plan_keys::key;
 use plan_keys::key::ONE_HOP;
 use plan_lines::Added;
@@ -13,7 +13,7 @@ use plan_lines::lines;
 
 // The plan with the lines of a reading behind its own, or as it was where a 65th line would be needed.
 pub fn add(plan: Plan, chain: u64) -> Added
-    requires { ⌜ Holds plan (facts plan) × (length (unpack chain) ≤ 16) ⌝ }
+    requires { ⌜ HoldsLines plan (facts plan) × (length (unpack chain) ≤ 16) ⌝ }
     ensures { λ r. ⌜ AddedTo plan (addOf (facts plan) (read (unpack chain))) r ⌝ }
 {
     let mut keys = plan.keys;
@@ -55,8 +55,8 @@ fn add_fact(
     count: usize,
     key: u64,
 ) -> usize
-    requires { ⌜ Holds (planOf (now keys) (now rounds) (now backs) (now reads) count) (facts-in (now keys) count) × (hops (fact-of key) ≤ 16) ⌝ }
-    ensures { λ r. ⌜ ExtendedTo (addOf (facts-in (now (keys .entry)) count) (fact-of key)) (planOf (now (keys .exit)) (now (rounds .exit)) (now (backs .exit)) (now (reads .exit)) r) ⌝ }
+    requires { ⌜ HoldsLines (planOf (now keys) (now rounds) (now backs) (now reads) count) (factsIn (now keys) count) × (hops (factOf key) ≤ 16) ⌝ }
+    ensures { λ r. ⌜ ExtendedTo (addOf (factsIn (now (keys .entry)) count) (factOf key)) (planOf (now (keys .exit)) (now (rounds .exit)) (now (backs .exit)) (now (reads .exit)) r) ⌝ }
 {
     if lines::is_settled(keys, count, key) {
         return count;

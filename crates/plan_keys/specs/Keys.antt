@@ -5,7 +5,7 @@ use mathlib.Core.List.{List}
 use Prim.Native.Nat.{ℕ, _/_, _%_}
 use lib.Dec.{eqb}
 use Rattle.chain.specs.Word.{unpack}
-use Rattle.plan_theory.specs.Plan.{Fact, back, read, front as frontOf, rest as restOf, back-need, read-need}
+use Rattle.plan_theory.specs.Plan.{Fact, back, read, front as frontOf, rest as restOf, backNeed, readNeed}
 use Rattle.plan_keys.specs.declared.word.Halves.{Halves}
 use Rattle.plan_keys.specs.declared.key.Needs.{Needs}
 use Rattle.plan_keys.specs.declared.key.Kind.{Kind}
@@ -17,8 +17,8 @@ pub record HalvesOf (w : List ℕ) (r : Halves) : Type 0 where
   pub rest-is : unpack (r .rest) ≡ restOf w
 
 -- the fact of a line's key: an even key is Back, an odd one Read, of the word that half of it packs
-unfoldable pub fact-of : ℕ → Fact
-fact-of k = elim (eqb (k % 2) 0) [ true ↦ back (unpack (k / 2)) | false ↦ read (unpack (k / 2)) ]
+unfoldable pub factOf : ℕ → Fact
+factOf k = elim (eqb (k % 2) 0) [ true ↦ back (unpack (k / 2)) | false ↦ read (unpack (k / 2)) ]
 
 -- the kind of a fact
 abbrev pub kind : Fact → Kind
@@ -27,5 +27,5 @@ kind (read w) = Read
 
 -- the keys of a fact's two needs
 pub record NeedsOf (f : Fact) (r : Needs) : Type 0 where
-  pub back-is : fact-of (r .back) ≡ back-need f
-  pub read-is : fact-of (r .read) ≡ read-need f
+  pub back-is : factOf (r .back) ≡ backNeed f
+  pub read-is : factOf (r .read) ≡ readNeed f

@@ -4,8 +4,8 @@ ghost use Prim.Native.Nat.{_≤_};
 ghost use lib.Dec.{leb};
 ghost use lib.ListN.{length};
 ghost use Rattle.chain.specs.Word.{unpack};
-ghost use Rattle.plan_theory.specs.Plan.{read as readOf, word, hops, line-from};
-ghost use Rattle.plan_keys.specs.Keys.{fact-of, kind, NeedsOf};
+ghost use Rattle.plan_theory.specs.Plan.{read as readOf, word, hops, lineFrom};
+ghost use Rattle.plan_keys.specs.Keys.{factOf, kind, NeedsOf};
 use crate::word::split;
 
 // The largest key of a chain of at most one hop.
@@ -24,32 +24,32 @@ pub struct Needs {
 
 pub fn read(chain: u64) -> u64
     requires { ⌜ length (unpack chain) ≤ 16 ⌝ }
-    ensures { λ r. ⌜ fact-of r ≡ readOf (unpack chain) ⌝ }
+    ensures { λ r. ⌜ factOf r ≡ readOf (unpack chain) ⌝ }
 {
     2 * chain + 1
 }
 
 pub fn kind_of(key: u64) -> Kind
-    ensures { λ r. ⌜ r ≡ kind (fact-of key) ⌝ }
+    ensures { λ r. ⌜ r ≡ kind (factOf key) ⌝ }
 {
     if key % 2 == 0 { Kind::Back } else { Kind::Read }
 }
 
 pub fn chain_of(key: u64) -> u64
-    ensures { λ r. ⌜ unpack r ≡ word (fact-of key) ⌝ }
+    ensures { λ r. ⌜ unpack r ≡ word (factOf key) ⌝ }
 {
     key / 2
 }
 
 pub fn has_line(key: u64) -> bool
-    ensures { λ r. ⌜ r ≡ leb (line-from (fact-of key)) (hops (fact-of key)) ⌝ }
+    ensures { λ r. ⌜ r ≡ leb (lineFrom (factOf key)) (hops (factOf key)) ⌝ }
 {
     if key % 2 == 0 { 1 < key } else { ONE_HOP < key }
 }
 
 pub fn needs_of(key: u64) -> Needs
-    requires { ⌜ (2 ≤ hops (fact-of key)) × (hops (fact-of key) ≤ 16) ⌝ }
-    ensures { λ r. ⌜ NeedsOf (fact-of key) r ⌝ }
+    requires { ⌜ (2 ≤ hops (factOf key)) × (hops (factOf key) ≤ 16) ⌝ }
+    ensures { λ r. ⌜ NeedsOf (factOf key) r ⌝ }
 {
     let halves = split(key / 2);
     Needs {

@@ -6,22 +6,22 @@ use native.Mathlib.Omega.{arith}
 use native.Mathlib.Numerals.{add-one}
 use lib.ListN.{length, getD, take}
 use lib.Seq.{take-all}
-use Rattle.plan_theory.specs.Plan.{Fact, round, last-round, line}
-use Rattle.plan_lines.specs.Held.{Column, LastOf}
+use Rattle.plan_theory.specs.Plan.{Fact, round, lastRound, line}
+use Rattle.plan_lines.specs.Held.{LineColumn, LastOf}
 
-pub last-round-none : (l : List Fact) → last-round (take 0 l) ≡ 0
-unfolding last-round
+pub last-round-none : (l : List Fact) → lastRound (take 0 l) ≡ 0
+unfolding lastRound
 last-round-none l = omega arith
 
-pub last-round-more : (l : List Fact) (i : ℕ) → i < length l → last-round (take (suc i) l) ≡ max (last-round (take i l)) (round (line l i))
-unfolding last-round
+pub last-round-more : (l : List Fact) (i : ℕ) → i < length l → lastRound (take (suc i) l) ≡ max (lastRound (take i l)) (round (line l i))
+unfolding lastRound
 last-round-more [] i h = absurd (omega arith)
 last-round-more (f ∷ l) zero h = omega arith
 last-round-more (f ∷ l) (suc i) h = omega (arith, last-round-more l i (omega arith))
 
 -- the first i rounds, and one more
 abbrev pub LastTo : List ℕ → ℕ → ℕ → ℕ → Type 0
-LastTo rounds n i r = (l : List Fact) → length l ≡ n → Column rounds l round → r ≡ last-round (take i l)
+LastTo rounds n i r = (l : List Fact) → length l ≡ n → LineColumn rounds l round → r ≡ lastRound (take i l)
 
 pub last-next : (rounds : List ℕ) (n r r′ i : ℕ) → i < n → r′ ≡ max r (getD rounds i 0) → LastTo rounds n i r → LastTo rounds n (i + 1) r′
 last-next rounds n r r′ i b e h l k c =
@@ -29,4 +29,4 @@ last-next rounds n r r′ i b e h l k c =
     rw add-one (omega (arith, last-round-more l i j, c .entry i j, h l k c))
 
 pub last-all : (rounds : List ℕ) (n r i : ℕ) → i ≡ n → LastTo rounds n i r → LastOf rounds n r
-last-all rounds n r i e h = record { last-is = λ l k c. h l k c ∙ ap last-round (take-all i l (omega arith)) }
+last-all rounds n r i e h = record { last-is = λ l k c. h l k c ∙ ap lastRound (take-all i l (omega arith)) }

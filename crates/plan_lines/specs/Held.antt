@@ -5,10 +5,9 @@ use mathlib.Core.List.{List, map}
 use Prim.Native.Nat.{ℕ, _≤_, _<_}
 use lib.Dec.{ltb}
 use lib.ListN.{length, getD, take}
-use Rattle.plan_theory.specs.Plan.{Fact, hops, line-from, back-need, read-need, round, place, listed, last-round, line}
-use Rattle.plan_theory.proofs.Lines.{Next}
-use Rattle.plan_theory.proofs.Kept.{Ordered}
-use Rattle.plan_keys.specs.Keys.{fact-of, NeedsOf}
+use Rattle.plan_theory.specs.Plan.{Fact, hops, lineFrom, backNeed, readNeed, round, lineIndex, listed, lastRound, line}
+use Rattle.plan_theory.specs.Promise.{Next, Ordered}
+use Rattle.plan_keys.specs.Keys.{factOf, NeedsOf}
 use Rattle.plan_lines.specs.declared.Plan.{Plan}
 use Rattle.plan_lines.specs.declared.Added.{Added}
 use Rattle.plan_lines.specs.declared.Line.{Line}
@@ -17,36 +16,36 @@ use Rattle.plan_lines.specs.declared.Found.the-variants.{At, Nothing}
 use Rattle.plan_keys.specs.declared.key.Needs.{Needs}
 
 -- the facts of the first n keys
-unfoldable pub facts-in : List ℕ → ℕ → List Fact
-facts-in keys n = map fact-of (take n keys)
+unfoldable pub factsIn : List ℕ → ℕ → List Fact
+factsIn keys n = map factOf (take n keys)
 
 -- the facts of a plan's lines
 abbrev pub facts : Plan → List Fact
-facts p = facts-in (p .keys) (p .count)
+facts p = factsIn (p .keys) (p .count)
 
 -- line i of a plan, counted from 0
-abbrev pub line-at : Plan → ℕ → Line
-line-at p i = record { key = getD (p .keys) i 0; round = getD (p .rounds) i 0; back = getD (p .backs) i 0; read = getD (p .reads) i 0 }
+abbrev pub lineAt : Plan → ℕ → Line
+lineAt p i = record { key = getD (p .keys) i 0; round = getD (p .rounds) i 0; back = getD (p .backs) i 0; read = getD (p .reads) i 0 }
 
 -- the line of Back of one hop, which needs no line
-abbrev pub first-line : ℕ → Line
-first-line k = record { key = k; round = 1; back = 64; read = 64 }
+abbrev pub firstLine : ℕ → Line
+firstLine k = record { key = k; round = 1; back = 64; read = 64 }
 
 -- whether f adds no line to l: it has none, or is listed
 unfoldable pub settled : List Fact → Fact → Bool
-settled l f = ltb (hops f) (line-from f) || listed l f
+settled l f = ltb (hops f) (lineFrom f) || listed l f
 
 -- the line of l that brings f about, counted from 0; 64 where none does
 unfoldable pub index : List Fact → Fact → ℕ
-index l f = elim (listed l f) [ true ↦ place l f | false ↦ 64 ]
+index l f = elim (listed l f) [ true ↦ lineIndex l f | false ↦ 64 ]
 
 -- the same as an answer
 unfoldable pub found : List Fact → Fact → Found
-found l f = elim (listed l f) [ true ↦ At (place l f) | false ↦ Nothing ]
+found l f = elim (listed l f) [ true ↦ At (lineIndex l f) | false ↦ Nothing ]
 
 -- the line of l that f has for its need g; 64 where f needs no line
-unfoldable pub need-index : List Fact → Fact → Fact → ℕ
-need-index l f g = elim (ltb (hops f) 2) [ true ↦ 64 | false ↦ index l g ]
+unfoldable pub needIndex : List Fact → Fact → Fact → ℕ
+needIndex l f g = elim (ltb (hops f) 2) [ true ↦ 64 | false ↦ index l g ]
 
 -- 64 places for keys, of which n are taken
 pub record Keyed (keys : List ℕ) (n : ℕ) : Type 0 where
@@ -54,46 +53,46 @@ pub record Keyed (keys : List ℕ) (n : ℕ) : Type 0 where
   pub taken≤ : n ≤ 64
 
 -- xs has 64 places, and holds g of each line of l
-pub record Column (xs : List ℕ) (l : List Fact) (g : Fact → ℕ) : Type 0 where
+pub record LineColumn (xs : List ℕ) (l : List Fact) (g : Fact → ℕ) : Type 0 where
   pub places : length xs ≡ 64
   pub entry : (i : ℕ) → i < length l → getD xs i 0 ≡ g (line l i)
 
 -- r is the last round of any n lines with these rounds
 pub record LastOf (rounds : List ℕ) (n r : ℕ) : Type 0 where
-  pub last-is : (l : List Fact) → length l ≡ n → Column rounds l round → r ≡ last-round l
+  pub last-is : (l : List Fact) → length l ≡ n → LineColumn rounds l round → r ≡ lastRound l
 
 -- the plan p holds the lines l
-pub record Holds (p : Plan) (l : List Fact) : Type 0 where
+pub record HoldsLines (p : Plan) (l : List Fact) : Type 0 where
   pub facts-are : facts p ≡ l
   pub keyed : Keyed (p .keys) (p .count)
   -- each stands after its needs and only once
   pub ordered : Ordered l
-  pub rounds-are : Column (p .rounds) l round
-  pub backs-are : Column (p .backs) l (λ f. need-index l f (back-need f))
-  pub reads-are : Column (p .reads) l (λ f. need-index l f (read-need f))
+  pub rounds-are : LineColumn (p .rounds) l round
+  pub backs-are : LineColumn (p .backs) l (λ f. needIndex l f (backNeed f))
+  pub reads-are : LineColumn (p .reads) l (λ f. needIndex l f (readNeed f))
 
 -- x may stand as the next line behind l, with its round and the lines of its needs
 pub record LineOf (l : List Fact) (x : Line) : Type 0 where
-  pub next : Next l (fact-of (x .key))
-  pub round-is : x .round ≡ round (fact-of (x .key))
-  pub back-is : x .back ≡ need-index l (fact-of (x .key)) (back-need (fact-of (x .key)))
-  pub read-is : x .read ≡ need-index l (fact-of (x .key)) (read-need (fact-of (x .key)))
+  pub next : Next l (factOf (x .key))
+  pub round-is : x .round ≡ round (factOf (x .key))
+  pub back-is : x .back ≡ needIndex l (factOf (x .key)) (backNeed (factOf (x .key)))
+  pub read-is : x .read ≡ needIndex l (factOf (x .key)) (readNeed (factOf (x .key)))
 
 -- the fact of key k, of 2 to 16 hops, may stand as the next line behind l, and its needs have these keys
-pub record Ready (l : List Fact) (k : ℕ) (needs : Needs) : Type 0 where
-  pub next : Next l (fact-of k)
-  pub needs-are : NeedsOf (fact-of k) needs
-  pub two : 2 ≤ hops (fact-of k)
-  pub short : hops (fact-of k) ≤ 16
+pub record NeedsReady (l : List Fact) (k : ℕ) (needs : Needs) : Type 0 where
+  pub next : Next l (factOf k)
+  pub needs-are : NeedsOf (factOf k) needs
+  pub two : 2 ≤ hops (factOf k)
+  pub short : hops (factOf k) ≤ 16
 
 -- the answer for the lines l: full where they are more than 64, otherwise a plan that holds them
 pub record Extended (l : List Fact) (r : Added) : Type 0 where
   pub full-is : r .full ≡ ltb 64 (length l)
-  pub holds : length l ≤ 64 → Holds (r .plan) l
+  pub holds : length l ≤ 64 → HoldsLines (r .plan) l
 
 -- a plan by its arrays and the number of its lines
-abbrev pub plan-of : List ℕ → List ℕ → List ℕ → List ℕ → ℕ → Plan
-plan-of keys rounds backs reads n = record { keys = keys; rounds = rounds; backs = backs; reads = reads; count = n }
+abbrev pub planOf : List ℕ → List ℕ → List ℕ → List ℕ → ℕ → Plan
+planOf keys rounds backs reads n = record { keys = keys; rounds = rounds; backs = backs; reads = reads; count = n }
 
 -- the same answer as a plan whose number of lines is above 64 where there is no room
 abbrev pub ExtendedTo : List Fact → Plan → Type 0

@@ -5,7 +5,7 @@ ghost use Prim.Native.Nat.{_≤_};
 ghost use lib.ListN.{length};
 ghost use Rattle.chain.specs.Word.{unpack};
 ghost use Rattle.plan_theory.specs.Plan.{read};
-ghost use Rattle.plan_lines.specs.Held.{facts-in, settled, found, Keyed, LastOf, Holds};
+ghost use Rattle.plan_lines.specs.Held.{factsIn, settled, found, Keyed, LastOf, HoldsLines};
 
 pub mod lines;
 
@@ -42,7 +42,7 @@ pub enum Found {
 
 impl Plan {
     pub fn empty() -> Plan
-        ensures { λ r. ⌜ Holds r [] ⌝ }
+        ensures { λ r. ⌜ HoldsLines r [] ⌝ }
     {
         Plan {
             keys: [0; 64],
@@ -69,7 +69,7 @@ pub fn last_round(rounds: &[u8; 64], count: usize) -> u8
 // Whether a reading adds no line to a plan of these keys. Unlike `add`, it copies no plan.
 pub fn is_planned(keys: &[u64; 64], count: usize, chain: u64) -> bool
     requires { ⌜ Keyed (now keys) count × (length (unpack chain) ≤ 16) ⌝ }
-    ensures { λ r. ⌜ r ≡ settled (facts-in (now (keys .entry)) count) (read (unpack chain)) ⌝ }
+    ensures { λ r. ⌜ r ≡ settled (factsIn (now (keys .entry)) count) (read (unpack chain)) ⌝ }
 {
     lines::is_settled(keys, count, key::read(chain))
 }
@@ -77,7 +77,7 @@ pub fn is_planned(keys: &[u64; 64], count: usize, chain: u64) -> bool
 // The line of a reading in a plan of these keys.
 pub fn find_read(keys: &[u64; 64], count: usize, chain: u64) -> Found
     requires { ⌜ Keyed (now keys) count × (length (unpack chain) ≤ 16) ⌝ }
-    ensures { λ r. ⌜ r ≡ found (facts-in (now (keys .entry)) count) (read (unpack chain)) ⌝ }
+    ensures { λ r. ⌜ r ≡ found (factsIn (now (keys .entry)) count) (read (unpack chain)) ⌝ }
 {
     let at = lines::find(keys, count, key::read(chain));
     if at < count {

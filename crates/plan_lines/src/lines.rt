@@ -3,9 +3,9 @@ ghost use mathlib.Core.Path.{_≡_};
 ghost use mathlib.Core.List.{[], _∷_, _++_};
 ghost use Prim.Native.Nat.{suc, _<_, max};
 ghost use lib.ListN.{length, getD};
-ghost use Rattle.plan_theory.specs.Plan.{round as roundOf, place};
-ghost use Rattle.plan_keys.specs.Keys.{fact-of};
-ghost use Rattle.plan_lines.specs.Held.{facts-in, settled, index, first-line as firstLine, Keyed, Column, LineOf, Ready, Holds, plan-of as planOf, ExtendedTo};
+ghost use Rattle.plan_theory.specs.Plan.{round as roundOf, lineIndex};
+ghost use Rattle.plan_keys.specs.Keys.{factOf};
+ghost use Rattle.plan_lines.specs.Held.{factsIn, settled, index, firstLine, Keyed, LineColumn, LineOf, NeedsReady, HoldsLines, planOf, ExtendedTo};
 use crate::Line;
 use plan_keys::key::Needs;
 use plan_keys::key::has_line;
@@ -16,7 +16,7 @@ const NO_LINE: u8 = 64;
 // The place of a line; the count where it is not listed.
 pub fn find(keys: &[u64; 64], count: usize, key: u64) -> usize
     requires { ⌜ Keyed (now keys) count ⌝ }
-    ensures { λ r. ⌜ r ≡ place (facts-in (now (keys .entry)) count) (fact-of key) ⌝ }
+    ensures { λ r. ⌜ r ≡ lineIndex (factsIn (now (keys .entry)) count) (factOf key) ⌝ }
 {
     for i in 0..count {
         if keys[i] == key {
@@ -29,7 +29,7 @@ pub fn find(keys: &[u64; 64], count: usize, key: u64) -> usize
 // Whether a fact adds no line: it has none, or is listed.
 pub fn is_settled(keys: &[u64; 64], count: usize, key: u64) -> bool
     requires { ⌜ Keyed (now keys) count ⌝ }
-    ensures { λ r. ⌜ r ≡ settled (facts-in (now (keys .entry)) count) (fact-of key) ⌝ }
+    ensures { λ r. ⌜ r ≡ settled (factsIn (now (keys .entry)) count) (factOf key) ⌝ }
 {
     if has_line(key) {
         return find(keys, count, key) < count;
@@ -39,7 +39,7 @@ pub fn is_settled(keys: &[u64; 64], count: usize, key: u64) -> bool
 
 fn index_of(keys: &[u64; 64], count: usize, key: u64) -> u8
     requires { ⌜ Keyed (now keys) count ⌝ }
-    ensures { λ r. ⌜ r ≡ index (facts-in (now (keys .entry)) count) (fact-of key) ⌝ }
+    ensures { λ r. ⌜ r ≡ index (factsIn (now (keys .entry)) count) (factOf key) ⌝ }
 {
     let at = find(keys, count, key);
     if at < count { at as u8 } else { NO_LINE }
@@ -85,8 +85,8 @@ pub fn first_line(key: u64) -> Line
 
 // The line of a fact whose two needs are had.
 pub fn line_after(keys: &[u64; 64], rounds: &[u8; 64], count: usize, key: u64, needs: Needs) -> Line
-    requires { ⌜ Keyed (now keys) count × Column (now rounds) (facts-in (now keys) count) roundOf × Ready (facts-in (now keys) count) key needs ⌝ }
-    ensures { λ r. ⌜ (r .key ≡ key) × LineOf (facts-in (now (keys .entry)) count) r ⌝ }
+    requires { ⌜ Keyed (now keys) count × LineColumn (now rounds) (factsIn (now keys) count) roundOf × NeedsReady (factsIn (now keys) count) key needs ⌝ }
+    ensures { λ r. ⌜ (r .key ≡ key) × LineOf (factsIn (now (keys .entry)) count) r ⌝ }
 {
     let back = index_of(keys, count, needs.back);
     let read = index_of(keys, count, needs.read);
@@ -108,8 +108,8 @@ pub fn append(
     count: usize,
     line: Line,
 ) -> usize
-    requires { ⌜ Holds (planOf (now keys) (now rounds) (now backs) (now reads) count) (facts-in (now keys) count) × LineOf (facts-in (now keys) count) line ⌝ }
-    ensures { λ r. ⌜ ExtendedTo (facts-in (now (keys .entry)) count ++ (fact-of (line .key) ∷ [])) (planOf (now (keys .exit)) (now (rounds .exit)) (now (backs .exit)) (now (reads .exit)) r) ⌝ }
+    requires { ⌜ HoldsLines (planOf (now keys) (now rounds) (now backs) (now reads) count) (factsIn (now keys) count) × LineOf (factsIn (now keys) count) line ⌝ }
+    ensures { λ r. ⌜ ExtendedTo (factsIn (now (keys .entry)) count ++ (factOf (line .key) ∷ [])) (planOf (now (keys .exit)) (now (rounds .exit)) (now (backs .exit)) (now (reads .exit)) r) ⌝ }
 {
     if count == 64 {
         return 65;

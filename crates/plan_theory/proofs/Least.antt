@@ -7,7 +7,7 @@ use native.Mathlib.Nat.{max-comm}
 use lib.ListN.{length}
 use Rattle.plan_theory.specs.Knows.{Knows, own-number, own-cell, told, LeastRounds}
 use Rattle.plan_theory.proofs.Bound.{reading-bound}
-use Rattle.plan_theory.specs.Plan.{half, front, rest, Fact, back, read, word, hops, line-from, back-need, read-need, round}
+use Rattle.plan_theory.specs.Plan.{half, front, rest, Fact, back, read, word, hops, lineFrom, backNeed, readNeed, round}
 use Rattle.plan_theory.proofs.Half.{half-next, half-double, half-below}
 use Rattle.plan_theory.proofs.Facts.{front-rest, front-length, rest-length, round-none, round-one, round-both, fact-ind, fact-cases, line-from-pos, line-from-le}
 
@@ -26,20 +26,20 @@ knows-from p (told w d e) = told (p ++ w) (knows-from p d) (knows-from p e)
 knows-rest : (c : List ℕ) {k : ℕ} → Knows [] (rest c) k → Knows (front c) c k
 knows-rest c d = simp (append-nil, front-rest) at (knows-from (front c) d)
 
-derives-none : (f : Fact) → hops f < line-from f → Derives f 0
+derives-none : (f : Fact) → hops f < lineFrom f → Derives f 0
 derives-none (back []) h = own-number []
 derives-none (back (x ∷ w)) h = absurd (omega arith)
 derives-none (read []) h = own-number []
 derives-none (read (x ∷ [])) h = own-cell [] x
 derives-none (read (x ∷ y ∷ w)) h = absurd (omega arith)
 
-derives-one : (f : Fact) → line-from f ≤ hops f → hops f < 2 → Derives f 1
+derives-one : (f : Fact) → lineFrom f ≤ hops f → hops f < 2 → Derives f 1
 derives-one (back []) h l = absurd (omega arith)
 derives-one (back (x ∷ [])) h l = told [] (own-number []) (own-cell [] x)
 derives-one (back (x ∷ y ∷ w)) h l = absurd (omega arith)
 derives-one (read w) h l = absurd (omega arith)
 
-derives-both : (f : Fact) (i j : ℕ) → Derives (back-need f) i → Derives (read-need f) j → Derives f (suc (max i j))
+derives-both : (f : Fact) (i j : ℕ) → Derives (backNeed f) i → Derives (readNeed f) j → Derives f (suc (max i j))
 derives-both (back c) i j s t = told (front c) s (knows-rest c t)
 derives-both (read c) i j s t = rw max-comm (told (front c) (knows-rest c t) s)
 
@@ -49,10 +49,10 @@ plan-derives =
     fact-ind (λ f. Derives f (round f))
     (λ f h. rw (round-none f h) (derives-none f h))
     (λ f h l. rw (round-one f h l) (derives-one f h l))
-    (λ f h s t. rw (round-both f h) (derives-both f (round (back-need f)) (round (read-need f)) s t))
+    (λ f h s t. rw (round-both f h) (derives-both f (round (backNeed f)) (round (readNeed f)) s t))
 
 -- a Back of at most 2 ^ k / 2 hops, or a Read of at most (2 ^ k + 1) / 2, has at most k rounds
-round-bound : (k : ℕ) (f : Fact) → 2 * hops f < 2 ^ k + line-from f → round f ≤ k
+round-bound : (k : ℕ) (f : Fact) → 2 * hops f < 2 ^ k + lineFrom f → round f ≤ k
 round-bound zero f h = omega (arith, round-none f (omega (arith, line-from-pos f)))
 round-bound (suc k) f h =
     fact-cases (round f ≤ suc k) f
@@ -63,8 +63,8 @@ round-bound (suc k) f h =
     omega (
       arith,
       round-both f l,
-      round-bound k (back-need f) (omega (arith, front-length (word f) l)),
-      round-bound k (read-need f) (omega (arith, rest-length (word f), half-double (hops f))),
+      round-bound k (backNeed f) (omega (arith, front-length (word f) l)),
+      round-bound k (readNeed f) (omega (arith, rest-length (word f), half-double (hops f))),
     ))
 
 -- least: every derivation of "u knows c" has at least the rounds of c in the plan

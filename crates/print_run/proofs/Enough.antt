@@ -13,7 +13,7 @@ use Rattle.register.specs.File.{width, cellCount, sizesOf}
 use Rattle.register.specs.declared.Sizes.{Sizes}
 use Rattle.register.proofs.Bounds.{limits}
 use Rattle.chain.specs.Word.{readable, Passes}
-use Rattle.plan_theory.specs.Plan.{read, add-readings, plan}
+use Rattle.plan_theory.specs.Plan.{read, addReadings, plan}
 use Rattle.plan_theory.proofs.Lines.{add-none}
 use Rattle.program.specs.Program.{Program, readings, stepPlan, mostLines}
 use Rattle.laws.specs.Lists.{Each}
@@ -36,8 +36,8 @@ module _ (s : Sizes) (none : s .references ≡ 0) where
   few-hops (f ∷ g ∷ w) e = absurd (omega (arith, none, ltb-true f (s .references) (and-both _ _ e .0)))
 
   -- no reading adds a line
-  no-line : (ws : List (List ℕ)) → Each (Passes s) ws → add-readings [] ws ≡ []
-  unfolding add-readings
+  no-line : (ws : List (List ℕ)) → Each (Passes s) ws → addReadings [] ws ≡ []
+  unfolding addReadings
   no-line [] h = refl
   no-line (w ∷ ws) h = rw (add-none [] (read w) (few-hops w (h .0 .follows))) (no-line ws (h .1))
 

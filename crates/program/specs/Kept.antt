@@ -5,7 +5,7 @@ use mathlib.Core.Bool.{false}
 use mathlib.Core.List.{List, [], _∷_}
 use lib.ListN.{length, getD, take, drop}
 use Rattle.laws.specs.Lists.{Each}
-use Rattle.plan_lines.specs.Held.{facts, Holds}
+use Rattle.plan_lines.specs.Held.{facts, HoldsLines}
 use Rattle.program.specs.Program.{Rule, Step, Program, stepPlan, writes, hasRemote, mostLines, someTarget}
 use Rattle.program.specs.declared.location.Located.{Located}
 use Rattle.program.specs.Stored.{rulesIn}
@@ -27,7 +27,7 @@ pub record FrameOf (f : Frame) (rs : List Rule) : Type 0 where
   pub few : f .rules ≤ 32
   pub remote-is : f .remote ≡ hasRemote rs
   pub fields-are : (i : ℕ) → getD (f .fields) i false ≡ someTarget (writes i) rs
-  pub holds : Holds (f .plan) (stepPlan rs)
+  pub holds : HoldsLines (f .plan) (stepPlan rs)
   pub wanted-length : length (f .wanted) ≡ 64
 
 -- each step has its frame

@@ -5,7 +5,7 @@ use mathlib.Core.Bool.{Bool, true, false}
 use mathlib.Core.List.{List, [], _∷_}
 use lib.ListN.{getD}
 use Rattle.chain.specs.Word.{unpack}
-use Rattle.plan_theory.specs.Plan.{Fact, read, place}
+use Rattle.plan_theory.specs.Plan.{Fact, read, lineIndex}
 use Rattle.program.specs.declared.term.Term.{Term}
 use Rattle.program.specs.declared.term.Term.the-variants.{Chain, Number}
 use Rattle.program.specs.declared.rule.Test.{Test}
@@ -43,7 +43,7 @@ slotChains x = record { test = testChains (x .test); rule = ruleChains (x .rule)
 unfoldable pub locationOf : List Fact → List ℕ → Location
 locationOf l [] = Own
 locationOf l (f ∷ []) = Cell f
-locationOf l (f ∷ g ∷ w) = Line (place l (read (f ∷ g ∷ w)))
+locationOf l (f ∷ g ∷ w) = Line (lineIndex l (read (f ∷ g ∷ w)))
 
 -- where these chains are found
 abbrev pub placesIn : List Fact → Pair → Places

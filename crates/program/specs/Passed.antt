@@ -13,7 +13,7 @@ use Rattle.program.specs.declared.setting.Setting.{Setting}
 use Rattle.program.specs.declared.setting.Setting.the-variants.{Single, Looped}
 use Rattle.program.specs.declared.rule.Sort.{Sort}
 use Rattle.program.specs.declared.rule.Sort.the-variants.{Total}
-use Rattle.program.specs.Program.{Expression, reading, constant, operation, Test, always, when, Target, own, remote, Rule, Step, Program, stepPlan, fieldOf, someTarget, isLeast, isTotal}
+use Rattle.program.specs.Program.{Expression, reading, constant, operation, Test, always, when, Target, own, remote, Rule, Step, Program, stepPlan, targetField, someTarget, isLeast, isTotal}
 use Rattle.laws.specs.Lists.{Each}
 
 -- "Its kind is that of the outermost letter, `u` being a reference"
@@ -51,10 +51,10 @@ TargetPasses s (remote k f c) = RemotePasses s k f c
 
 pub record RulePasses (s : Sizes) (r : Rule) : Type 0 where
   pub test : TestPasses s (r .test)
-  pub field : hasField s (fieldOf (r .target)) ≡ true
+  pub field : hasField s (targetField (r .target)) ≡ true
   pub target : TargetPasses s (r .target)
   pub expression : ExpressionPasses s (r .expression)
-  pub alike : isReference (fieldOf (r .target)) ≡ isReferenceExpression (r .expression)
+  pub alike : isReference (targetField (r .target)) ≡ isReferenceExpression (r .expression)
 
 -- the rules of a step: "32 rules a step", "one field takes one sort of remote write"
 pub record RulesPass (s : Sizes) (rs : List Rule) : Type 0 where

@@ -73,13 +73,13 @@ mostLines [] = 0
 mostLines (x ∷ xs) = max (length (stepPlan (x .rules))) (mostLines xs)
 
 -- the field that a rule writes
-unfoldable pub fieldOf : Target → ℕ
-fieldOf (own f) = f
-fieldOf (remote k f c) = f
+unfoldable pub targetField : Target → ℕ
+targetField (own f) = f
+targetField (remote k f c) = f
 
 -- whether that is field f
 unfoldable pub writes : ℕ → Target → Bool
-writes f t = eqb f (fieldOf t)
+writes f t = eqb f (targetField t)
 
 -- whether a rule is a remote write to field f: by `<?=`, by `+=`
 unfoldable pub isLeast : ℕ → Target → Bool

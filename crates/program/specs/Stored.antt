@@ -14,27 +14,27 @@ use Rattle.program.specs.declared.location.Located.{Located}
 use Rattle.program.specs.Program as P
 
 -- a term, a test, where a rule writes and what, as the program has them
-unfoldable pub termOf : Term → P.Expression
-termOf (Chain n) = P.reading (unpack n)
-termOf (Number z) = P.constant z
+unfoldable pub termIn : Term → P.Expression
+termIn (Chain n) = P.reading (unpack n)
+termIn (Number z) = P.constant z
 
-unfoldable pub testOf : Test → P.Test
-testOf Always = P.always
-testOf (When x c y) = P.when (termOf x) c (termOf y)
+unfoldable pub testIn : Test → P.Test
+testIn Always = P.always
+testIn (When x c y) = P.when (termIn x) c (termIn y)
 
-unfoldable pub targetOf : Rule → P.Target
-targetOf (Set f x) = P.own f
-targetOf (Combine f op x y) = P.own f
-targetOf (Remote k f c x) = P.remote k f (unpack c)
+unfoldable pub targetIn : Rule → P.Target
+targetIn (Set f x) = P.own f
+targetIn (Combine f op x y) = P.own f
+targetIn (Remote k f c x) = P.remote k f (unpack c)
 
-unfoldable pub expressionOf : Rule → P.Expression
-expressionOf (Set f x) = termOf x
-expressionOf (Combine f op x y) = P.operation op (termOf x) (termOf y)
-expressionOf (Remote k f c x) = termOf x
+unfoldable pub expressionIn : Rule → P.Expression
+expressionIn (Set f x) = termIn x
+expressionIn (Combine f op x y) = P.operation op (termIn x) (termIn y)
+expressionIn (Remote k f c x) = termIn x
 
-unfoldable pub ruleOf : Slot → P.Rule
-ruleOf x = record { test = testOf (x .test); target = targetOf (x .rule); expression = expressionOf (x .rule) }
+unfoldable pub ruleIn : Slot → P.Rule
+ruleIn x = record { test = testIn (x .test); target = targetIn (x .rule); expression = expressionIn (x .rule) }
 
 -- the first n rules of a step's 32 places
 unfoldable pub rulesIn : ℕ → List Located → List P.Rule
-rulesIn n places = map (λ x. ruleOf (x .slot)) (take n places)
+rulesIn n places = map (λ x. ruleIn (x .slot)) (take n places)

@@ -12,7 +12,7 @@ use Rattle.machine.specs.Run.{sameReading}
 use Rattle.machine.proofs.Columns.{sameAt}
 use Rattle.scratch.specs.Places.{placeAt, StoredFrom}
 use Rattle.scratch.proofs.Placed.{kept-same}
-use Rattle.run_loop.specs.Column.{Column, Behind}
+use Rattle.run_loop.specs.Column.{LoopColumn, Behind}
 
 -- places behind a column: nothing is stored ..
 pub behind-same : {s : Sizes} {at : ℕ} {values : List ℤ} {marks : List ℕ} → Behind s at values marks values marks
@@ -26,10 +26,10 @@ behind-stored k = record { values-length = k .values-length; marks-length = k .m
 module _ (s : Sizes) (f : ℕ) (cells : List Cell) (at : ℕ) where
   -- a column that is stored stands at its places
   pub column-stored : {values values′ : List ℤ} {marks marks′ : List ℕ} → StoredFrom at (s .records) (λ u. readCell s cells u f) values marks values′ marks′
-      → Column s f cells at values′ marks′
+      → LoopColumn s f cells at values′ marks′
   column-stored k = record { column = record { fits = k .fits }; place-is = k .place-is }
 
   -- what is kept for a record and what is read of its cell now, compared
   pub same-told : {values : List ℤ} {marks : List ℕ} {x y : Reading} {r : Bool} (after : List Cell) (u : ℕ) → u < s .records
-      → x ≡ placeAt values marks (at + u) → y ≡ readCell s after u f → r ≡ sameReading x y → Column s f cells at values marks → sameAt s f cells after u ≡ r
+      → x ≡ placeAt values marks (at + u) → y ≡ readCell s after u f → r ≡ sameReading x y → LoopColumn s f cells at values marks → sameAt s f cells after u ≡ r
   same-told after u h ex ey er k = sym (er ∙ ap₂ sameReading (ex ∙ k .place-is u h) ey)

@@ -25,18 +25,18 @@ pub record HasColumn (s : Sizes) (at : ℕ) (values : List ℤ) : Type 0 where
   pub fits : (u : ℕ) → u < s .records → SFits w32 (getD values (at + u) (pos 0))
 
 -- field f of these cells stands from `at` on
-pub record Column (s : Sizes) (f : ℕ) (cells : List Cell) (at : ℕ) (values : List ℤ) (marks : List ℕ) : Type 0 where
+pub record LoopColumn (s : Sizes) (f : ℕ) (cells : List Cell) (at : ℕ) (values : List ℤ) (marks : List ℕ) : Type 0 where
   pub column : HasColumn s at values
   pub place-is : (u : ℕ) → u < s .records → placeAt values marks (at + u) ≡ readCell s cells u f
 
 -- the answer whether field f of these cells is as it was kept
 pub record SameAs (s : Sizes) (f : ℕ) (after : List Cell) (at : ℕ) (values : List ℤ) (marks : List ℕ) (r : Bool) : Type 0 where
-  pub same-is : (before : List Cell) → Column s f before at values marks → r ≡ sameColumn s f before after (s .records)
+  pub same-is : (before : List Cell) → LoopColumn s f before at values marks → r ≡ sameColumn s f before after (s .records)
 
 -- the column of a step's loop as the pass began, where the step stands in one
 abbrev pub InPass : Sizes → Setting → List Cell → ℕ → List ℤ → List ℕ → Type 0
 InPass s Single before at values marks = Unit {0}
-InPass s (Looped f first last) before at values marks = Column s f before at values marks
+InPass s (Looped f first last) before at values marks = LoopColumn s f before at values marks
 
 -- and that its places hold values of 32 bits
 abbrev pub HasPass : Sizes → Setting → ℕ → List ℤ → Type 0

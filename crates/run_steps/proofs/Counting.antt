@@ -8,7 +8,7 @@ use lib.ListN.{length}
 use Rattle.register.specs.Shape.{Valid}
 use Rattle.register.specs.declared.Sizes.{Sizes}
 use Rattle.register.specs.declared.cells.Cell.{Cell}
-use Rattle.plan_theory.specs.Plan.{Fact, last-round}
+use Rattle.plan_theory.specs.Plan.{Fact, lastRound}
 use Rattle.program.specs.Program.{Step, readings, stepPlan, hasRemote}
 use Rattle.program.specs.Passed.{RulesPass}
 use Rattle.machine.specs.Remote.{recordMessages}
@@ -41,12 +41,12 @@ unfolding exchangesBy messagesBy stepExchanges stepMessages heldIn stepPlan
 counts-more Direct trace x k v = refl
 counts-more Messages {s} trace x {cells} k v =
     let rs = x .rules in
-    let last : mostRounds (readings rs) ≡ last-round (stepPlan rs) = most-last (readings rs) in
-    let held = planMessages (heldAfter s cells (last-round (stepPlan rs))) (stepPlan rs) (s .records) in
+    let last : mostRounds (readings rs) ≡ lastRound (stepPlan rs) = most-last (readings rs) in
+    let held = planMessages (heldAfter s cells (lastRound (stepPlan rs))) (stepPlan rs) (s .records) in
     let writes = length (recordMessages (direct s rs cells) rs (s .records)) in
     rw (exchanges-more trace x cells, messages-more s trace x cells, last, ap length (step-writes k v))
     (ap₂ (λ (a b : ℕ). record { exchanges = a; messages = b })
-    (add-assoc (exchanges trace) (last-round (stepPlan rs)) (cond (hasRemote rs) 1 0))
+    (add-assoc (exchanges trace) (lastRound (stepPlan rs)) (cond (hasRemote rs) 1 0))
     (add-assoc (messages s trace) held writes))
 
 -- the same, by what the code has of them

@@ -17,7 +17,7 @@ use Rattle.register.specs.Shape.{Valid}
 use Rattle.register.specs.declared.Sizes.{Sizes}
 use Rattle.register.specs.declared.cells.Cell.{Cell}
 use Rattle.chain.specs.Word.{Passes, readable, unpack, hop, follow, valueAtRecord}
-use Rattle.plan_theory.specs.Plan.{Fact, read, place, line}
+use Rattle.plan_theory.specs.Plan.{Fact, read, lineIndex, line}
 use Rattle.plan_theory.proofs.Kept.{plan-promise}
 use Rattle.plan_theory.proofs.Places.{place-line}
 use Rattle.program.specs.declared.term.Term.{Term}
@@ -32,7 +32,7 @@ use Rattle.program.specs.declared.location.Located.{Located}
 use Rattle.program.specs.Program as P
 use Rattle.program.specs.Program.{Target, own, remote, expressionReadings, testReadings, targetReadings, ruleReadings, readings, stepPlan}
 use Rattle.program.specs.Passed.{TargetPasses, RulePasses, RulesPass}
-use Rattle.program.specs.Stored.{termOf, testOf, targetOf, expressionOf, ruleOf, rulesIn}
+use Rattle.program.specs.Stored.{termIn, testIn, targetIn, expressionIn, ruleIn, rulesIn}
 use Rattle.program.specs.Location.{chainIn, testChains, ruleChains, slotChains, locationOf, placesIn, Wants, PlacesWanted, LocatedAmong}
 use Rattle.machine.specs.Run.{direct}
 use Rattle.machine.proofs.Readings.{rule-pass}
@@ -40,7 +40,7 @@ use Rattle.machine.proofs.Direct.{direct-refers}
 use Rattle.scratch.specs.Places.{placeAt, storedAt}
 use Rattle.gather_follow.specs.Filled.{Filled}
 use Rattle.step_terms.specs.Found.{foundAt, followed, Reaches, WordFound, TermFound, TestFound, RuleFound, RuleReads}
-use Rattle.step_rules.specs.Ready.{Targets, Ready, AllReady}
+use Rattle.step_rules.specs.Ready.{Targets, RuleReady, AllReady}
 
 -- the places of the lines that are wanted hold what is had by following
 pub record LinesHold (s : Sizes) (l : List Fact) (wanted : List Bool) (cells : List Cell) (values : List ℤ) (marks : List ℕ) : Type 0 where
@@ -70,25 +70,25 @@ module _ (s : Sizes) (l : List Fact) (wanted : List Bool) {cells : List Cell} {v
       }
 
 -- a word that passes and, where it has two or more hops, its Read line
-pub record Planned (s : Sizes) (l : List Fact) (w : List ℕ) : Type 0 where
+pub record WordPlanned (s : Sizes) (l : List Fact) (w : List ℕ) : Type 0 where
   pub passes : Passes s w
-  pub has-line : 2 ≤ length w → place l (read w) < length l
+  pub has-line : 2 ≤ length w → lineIndex l (read w) < length l
 
 -- each of some words
 abbrev AllPlanned : Sizes → List Fact → List (List ℕ) → Type 0
-AllPlanned s l ws = (w : List ℕ) → List·Memᴰ w ws → Planned s l w
+AllPlanned s l ws = (w : List ℕ) → List·Memᴰ w ws → WordPlanned s l w
 
 parts-planned : (s : Sizes) (l : List Fact) (vs ws : List (List ℕ)) → AllPlanned s l (vs ++ ws) → AllPlanned s l vs × AllPlanned s l ws
 parts-planned s l vs ws h = (λ w m. h w (Memᴰ·append-left ws m), λ w m. h w (Memᴰ·append-right vs m))
 
 module _ (s : Sizes) (l : List Fact) (wanted : List Bool) (cells : List Cell) (values : List ℤ) (marks : List ℕ)
     (lines : LinesHold s l wanted cells values marks) (u : ℕ) (inside : u < s .records) where
-  word-found : (w : List ℕ) → Planned s l w → Wants wanted (locationOf l w) → WordFound s cells values marks u (locationOf l w) w
+  word-found : (w : List ℕ) → WordPlanned s l w → Wants wanted (locationOf l w) → WordFound s cells values marks u (locationOf l w) w
   unfolding locationOf foundAt readable valueAtRecord follow hop
   word-found [] p h = record { reaches = tt; found-is = refl }
   word-found (f ∷ []) p h = record { reaches = p .passes .follows; found-is = refl }
   word-found (f ∷ g ∷ w) p h =
-      let i = place l (read (f ∷ g ∷ w)) in
+      let i = lineIndex l (read (f ∷ g ∷ w)) in
       let b : i < length l = p .has-line (omega arith) in
       let below = place-below (length l) (s .records) i u b inside in
       let e = place-line l (read (f ∷ g ∷ w)) b in
@@ -101,28 +101,28 @@ module _ (s : Sizes) (l : List Fact) (wanted : List Bool) (cells : List Cell) (v
         found-is = lines .holds i u (f ∷ g ∷ w) b inside e h;
       }
 
-  chain-found : (c : ℕ) {at : Location} → at ≡ locationOf l (unpack c) → Wants wanted at → Planned s l (unpack c) → WordFound s cells values marks u at (unpack c)
+  chain-found : (c : ℕ) {at : Location} → at ≡ locationOf l (unpack c) → Wants wanted at → WordPlanned s l (unpack c) → WordFound s cells values marks u at (unpack c)
   chain-found c e h p = rw e (word-found (unpack c) p (rw e at h))
 
-  term-found : (x : Term) {at : Location} → at ≡ locationOf l (unpack (chainIn x)) → Wants wanted at → AllPlanned s l (expressionReadings (termOf x)) → TermFound s cells values marks u at x
-  unfolding chainIn termOf expressionReadings
+  term-found : (x : Term) {at : Location} → at ≡ locationOf l (unpack (chainIn x)) → Wants wanted at → AllPlanned s l (expressionReadings (termIn x)) → TermFound s cells values marks u at x
+  unfolding chainIn termIn expressionReadings
   term-found (Chain c) e h p = chain-found c e h (p (unpack c) (List·Memᴰ·head refl))
   term-found (Number z) e h p = tt
 
   terms-found : (x y : Term) {at : Places} → at ≡ placesIn l (record { first = chainIn x; second = chainIn y }) → PlacesWanted wanted at
-      → AllPlanned s l (expressionReadings (termOf x) ++ expressionReadings (termOf y)) → TermFound s cells values marks u (at .first) x × TermFound s cells values marks u (at .second) y
+      → AllPlanned s l (expressionReadings (termIn x) ++ expressionReadings (termIn y)) → TermFound s cells values marks u (at .first) x × TermFound s cells values marks u (at .second) y
   terms-found x y e h p =
       let (a, b) = parts-planned s l _ _ p in
       (term-found x (ap (λ (q : Places). q .first) e) (h .first) a, term-found y (ap (λ (q : Places). q .second) e) (h .second) b)
 
-  test-found : (t : Test) {at : Places} → at ≡ placesIn l (testChains t) → PlacesWanted wanted at → AllPlanned s l (testReadings (testOf t)) → TestFound s cells values marks u at t
-  unfolding testChains testOf testReadings
+  test-found : (t : Test) {at : Places} → at ≡ placesIn l (testChains t) → PlacesWanted wanted at → AllPlanned s l (testReadings (testIn t)) → TestFound s cells values marks u at t
+  unfolding testChains testIn testReadings
   test-found Always e h p = tt
   test-found (When x c y) e h p = terms-found x y e h p
 
   rule-found : (x : Rule) {at : Places} → at ≡ placesIn l (ruleChains x) → PlacesWanted wanted at
-      → AllPlanned s l (targetReadings (targetOf x) ++ expressionReadings (expressionOf x)) → RuleFound s cells values marks u at x
-  unfolding ruleChains targetOf expressionOf targetReadings expressionReadings
+      → AllPlanned s l (targetReadings (targetIn x) ++ expressionReadings (expressionIn x)) → RuleFound s cells values marks u at x
+  unfolding ruleChains targetIn expressionIn targetReadings expressionReadings
   rule-found (Set f x) e h p = term-found x (ap (λ (q : Places). q .first) e) (h .first) p
   rule-found (Combine f op x y) e h p = terms-found x y e h p
   rule-found (Remote k f c x) e h p = (
@@ -130,8 +130,8 @@ module _ (s : Sizes) (l : List Fact) (wanted : List Bool) (cells : List Cell) (v
     term-found x (ap (λ (q : Places). q .second) e) (h .second) (λ w m. p w (List·Memᴰ·tail m)),
   )
 
-  rule-reads : (x : Located) → LocatedAmong l wanted x → AllPlanned s l (ruleReadings (ruleOf (x .slot))) → RuleReads s cells values marks u x
-  unfolding slotChains ruleOf ruleReadings
+  rule-reads : (x : Located) → LocatedAmong l wanted x → AllPlanned s l (ruleReadings (ruleIn (x .slot))) → RuleReads s cells values marks u x
+  unfolding slotChains ruleIn ruleReadings
   rule-reads x a p =
       let (t, r) = parts-planned s l _ _ p in
       record {
@@ -162,12 +162,12 @@ rule-planned {s} {rs} {r} k m w i = record {
 module _ (s : Sizes) (n : ℕ) (slots : List Located) (passes : RulesPass s (rulesIn n slots)) (wanted : List Bool) where
   pub all-ready : Each (LocatedAmong (stepPlan (rulesIn n slots)) wanted) (take n slots) → {cells : List Cell} {values : List ℤ} {marks : List ℕ}
       → LinesHold s (stepPlan (rulesIn n slots)) wanted cells values marks → Valid s cells → AllReady s cells values marks (take n slots)
-  unfolding rulesIn ruleOf
-  all-ready located {cells} {values} {marks} lines v = each-all (Ready s cells values marks) (take n slots) (λ x m.
-      let here = mem-map (λ (y : Located). ruleOf (y .slot)) m in
+  unfolding rulesIn ruleIn
+  all-ready located {cells} {values} {marks} lines v = each-all (RuleReady s cells values marks) (take n slots) (λ x m.
+      let here = mem-map (λ (y : Located). ruleIn (y .slot)) m in
       let pass = each-of (RulePasses s) (passes .each) here in
       record {
         found = λ u h. rule-reads s (stepPlan (rulesIn n slots)) wanted cells values marks lines u h x (each-of _ located m) (rule-planned passes here);
         field = pass .field;
-        targets = λ u h. target-refers v u h (targetOf (x .slot .rule)) (pass .target);
+        targets = λ u h. target-refers v u h (targetIn (x .slot .rule)) (pass .target);
       })

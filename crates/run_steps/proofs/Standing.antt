@@ -22,13 +22,13 @@ use Rattle.program.specs.Passed.{openBehind, ProgramPasses}
 use Rattle.machine.specs.Step.{stepCells}
 use Rattle.machine.specs.Run.{begins, goesOn, direct, scratch}
 use Rattle.machine.proofs.RunningPass.{openBefore}
-use Rattle.machine.proofs.Running.{Trace, Running, running-start, running-complete, running-around, running-spent, running-offended, running-step}
+use Rattle.machine.proofs.Running.{Trace, Running, running-start, running-complete, running-around, running-exhausted, running-offended, running-step}
 use Rattle.machine.proofs.Stops.{stops-at}
 use Rattle.scratch.specs.Places.{Kept}
 use Rattle.scratch.proofs.Placed.{placeAt-kept}
-use Rattle.step_cells.specs.Work.{Holds}
+use Rattle.step_cells.specs.Work.{HoldsCells}
 use Rattle.step_rules.specs.Stepped.{GoesThrough, StopsAt}
-use Rattle.run_loop.specs.Column.{Column, InPass, HasPass, Entered, NextIs}
+use Rattle.run_loop.specs.Column.{LoopColumn, InPass, HasPass, Entered, NextIs}
 use Rattle.machine_messages.specs.declared.Machine.{Machine}
 use Rattle.gather.specs.Counted.{noCounts}
 use Rattle.run_steps.specs.Answer.{countsOf, endedWith, Scratch, Ends}
@@ -68,9 +68,9 @@ pub record Stands (m : Machine) (s : Sizes) (p : Program) (at budget : ℕ) (fil
   pub counts-are : counts ≡ countsOf m s trace
   pub few : Few finished counts
   pub register : Register s out
-  pub working : Holds (at + s .records) (cellsOfFile s out) values marks
+  pub working : HoldsCells (at + s .records) (cellsOfFile s out) values marks
   pub room : Behind s at values marks
-  pub column : (f : ℕ) → around ≡ some f → Column s f before at values marks
+  pub column : (f : ℕ) → around ≡ some f → LoopColumn s f before at values marks
 
 some-is : {i j : ℕ} → some i ≡ some j → i ≡ j
 some-is e = cc
@@ -89,7 +89,7 @@ has-pass s Single before at values marks h = tt
 has-pass s (Looped f first last) before at values marks h = h .column
 
 module _ {m : Machine} {s : Sizes} {p : Program} {at budget : ℕ} {file : List ℕ} where
-  pub stands-start : {values : List ℤ} {marks : List ℕ} → Register s file → Holds (at + s .records) (cellsOfFile s file) values marks → Behind s at values marks → ProgramPasses s p
+  pub stands-start : {values : List ℤ} {marks : List ℕ} → Register s file → HoldsCells (at + s .records) (cellsOfFile s file) values marks → Behind s at values marks → ProgramPasses s p
       → {steps : ℕ} → steps ≡ length p → Stands m s p at budget file 0 steps 0 noCounts file values marks
   stands-start g w c q e = record {
     trace = [];
@@ -121,9 +121,9 @@ module _ {m : Machine} {s : Sizes} {p : Program} {at budget : ℕ} {file : List 
       comes = drop-cons p step noStep l
 
       -- the budget is spent
-      pub stands-spent : finished ≡ budget → Ends m s p budget file out (endedWith 20 finished counts)
-      stands-spent q =
-          let e = running-spent (t .running) comes q in
+      pub stands-exhausted : finished ≡ budget → Ends m s p budget file out (endedWith 20 finished counts)
+      stands-exhausted q =
+          let e = running-exhausted (t .running) comes q in
           record { finished-is = rw e (sym (t .running .count)); counts-are = rw e (t .counts-are); ends-by = rw e refl }
 
       -- a sum or total is out of range
@@ -163,11 +163,11 @@ module _ {m : Machine} {s : Sizes} {p : Program} {at budget : ℕ} {file : List 
         pub passed-column : HasPass s g at values₂
         passed-column = has-pass s g before′ at values₂ marks₂ stepped-pass
 
-        behind-column : (g : Setting) (i : ℕ) → openBehind g ≡ some i → InPass s g before′ at values₂ marks₂ → Column s i before′ at values₂ marks₂
+        behind-column : (g : Setting) (i : ℕ) → openBehind g ≡ some i → InPass s g before′ at values₂ marks₂ → LoopColumn s i before′ at values₂ marks₂
         unfolding openBehind
         behind-column Single i o h = absurd (let z : _≡_ {A = ℕ} 0 1 = cc in omega arith)
         behind-column (Looped f first true) i o h = absurd (let z : _≡_ {A = ℕ} 0 1 = cc in omega arith)
-        behind-column (Looped f first false) i o h = subst (λ (j : ℕ). Column s j before′ at values₂ marks₂) (some-is o) h
+        behind-column (Looped f first false) i o h = subst (λ (j : ℕ). LoopColumn s j before′ at values₂ marks₂) (some-is o) h
 
         pub stands-next : finished < budget → ProgramPasses s p → length out′ ≡ length out → Behind s at values₂ marks₂ → {first′ next finished′ : ℕ} {counts′ : Counts}
             → first′ ≡ cond (begins g) step first → NextIs s g (cellsOfFile s out′) at values₂ marks₂ step first′ next → finished′ ≡ suc finished → counts′ ≡ countsOf m s trace′ → Few (suc finished) counts′

@@ -17,7 +17,7 @@ use Rattle.plan_lines.proofs.Appending.{holds-count}
 use Rattle.program.specs.declared.location.Located.{Located}
 use Rattle.program.specs.Program.{Rule, Step, Program, stepPlan, hasRemote, mostLines}
 use Rattle.program.specs.Passed.{SettingPasses, StepPasses, ProgramPasses}
-use Rattle.program.specs.Stored.{ruleOf, rulesIn}
+use Rattle.program.specs.Stored.{ruleIn, rulesIn}
 use Rattle.program.specs.declared.frame.Frame.{Frame}
 use Rattle.program.specs.Kept.{programOf, Complete}
 use Rattle.program.specs.declared.Program as R
@@ -30,7 +30,7 @@ use Rattle.machine_messages.specs.declared.Machine.{Machine}
 use Rattle.scratch.specs.Places.{Kept}
 use Rattle.scratch.proofs.Placed.{kept-again, storedAt-kept}
 use Rattle.gather_follow.specs.Filled.{Filled}
-use Rattle.step_cells.specs.Work.{Room, Holds, Same}
+use Rattle.step_cells.specs.Work.{Room, HoldsCells, Same}
 use Rattle.step_rules.specs.Ready.{AllReady, LocalDone, LocalStops}
 use Rattle.step_rules.specs.Delivered.{Delivered}
 use Rattle.step_commit.specs.Committed.{isWritten, AllCommitted, CommitStops}
@@ -40,7 +40,7 @@ use Rattle.step_rules.proofs.Stepping.{AllDone, all-done, local-stops, goes-thr
 use Rattle.step_commit.proofs.Committing.{stop-out-of-range, committed-in-range, committed-file}
 use Rattle.machine.proofs.Folding.{stepCells-length}
 use Rattle.run_loop.specs.Column.{Entered}
-use Rattle.gather_exchanges.specs.Lines.{Planned}
+use Rattle.gather_exchanges.specs.Lines.{StepPlanned}
 use Rattle.gather.specs.Gathered.{GatheredBy}
 use Rattle.gather.specs.Counted.{countsAfter}
 use Rattle.run_steps.specs.Answer.{countsOf}
@@ -108,7 +108,7 @@ module _ {m : Machine} {s : Sizes} {p : R.Program} {budget : ℕ} {file : List �
   setting-passes = subst (SettingPasses s) (at-step .setting-is) (step-passes .field)
 
   -- its plan, and the room that it needs
-  pub planned : Planned s (frame .plan)
+  pub planned : StepPlanned s (frame .plan)
   planned = record { rules = here t inside .rules; passes = step-passes .rules; holds = at-step .frame .holds }
 
   pub lines-room : frame .plan .count * s .records ≤ at
@@ -141,7 +141,7 @@ module _ {m : Machine} {s : Sizes} {p : R.Program} {budget : ℕ} {file : List �
 
     rules-taken : ls ≡ rs
     unfolding rulesIn
-    rules-taken = ap (map (λ (x : Located). ruleOf (x .slot))) (b .is-taken) ∙ sym (at-step .rules-are)
+    rules-taken = ap (map (λ (x : Located). ruleIn (x .slot))) (b .is-taken) ∙ sym (at-step .rules-are)
 
     filled : Filled s cells (stepPlan rs) (frame .wanted) (length (stepPlan rs)) values₁ marks₁ values₂ marks₂
     filled = rw (at-step .frame .holds .facts-are) at (b .gathered .filled)
@@ -172,7 +172,7 @@ module _ {m : Machine} {s : Sizes} {p : R.Program} {budget : ℕ} {file : List �
           marks-room = room-marks;
         }
 
-    pub step-working : Holds base cells values₂ marks₂
+    pub step-working : HoldsCells base cells values₂ marks₂
     step-working =
         record {
           place-is = λ j h.
@@ -207,7 +207,7 @@ module _ {m : Machine} {s : Sizes} {p : R.Program} {budget : ℕ} {file : List �
       after-count : length after ≡ cellCount s
       after-count = stepCells-length s (direct s rs cells) rs cells ∙ t .register .valid .count
 
-      after-held : Holds base after values₄ marks₄
+      after-held : HoldsCells base after values₄ marks₄
       unfolding direct
       after-held = all .holds
 

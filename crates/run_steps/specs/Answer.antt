@@ -10,7 +10,7 @@ use Rattle.register.specs.declared.Sizes.{Sizes}
 use Rattle.register.specs.declared.cells.Cell.{Cell}
 use Rattle.program.specs.Program.{Rule, Step, Program}
 use Rattle.machine.specs.Step.{offendsAt}
-use Rattle.machine.specs.Run.{Ending, complete, spent, offended, Run, direct, run, scratch}
+use Rattle.machine.specs.Run.{Ending, complete, exhausted, offended, Run, direct, run, scratch}
 use Rattle.machine_messages.specs.By.{exchangesBy, messagesBy}
 use Rattle.machine_messages.specs.declared.Machine.{Machine}
 use Rattle.gather.specs.declared.counts.Counts.{Counts}
@@ -43,7 +43,7 @@ countsOf m s trace = record { exchanges = exchangesBy m trace; messages = messag
 -- the refusal, and no place but for 21; where there is none the file holds the cells at the end
 abbrev pub EndsBy : Sizes → Ending → List Cell → List ℕ → RunAnswer → Type 0
 EndsBy s complete cells file r = (r ≡ endedWith 0 (r .finished) (r .counts)) × (file ≡ fileOf s cells)
-EndsBy s spent cells file r = r ≡ endedWith 20 (r .finished) (r .counts)
+EndsBy s exhausted cells file r = r ≡ endedWith 20 (r .finished) (r .counts)
 EndsBy s (offended rs before) cells file r = (r .refusal ≡ 21) × (r .line ≡ 0) × Offence s rs before (r .row) (r .column)
 
 -- a run as the code tells it

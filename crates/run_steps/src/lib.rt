@@ -3,7 +3,7 @@ ghost use Prim.Native.Nat.{_+_, _*_};
 ghost use mathlib.Core.Path.{_≡_};
 ghost use Rattle.register.specs.File.{cellsOfFile};
 ghost use Rattle.register.specs.Shape.{Register};
-ghost use Rattle.step_cells.specs.Work.{Holds};
+ghost use Rattle.step_cells.specs.Work.{HoldsCells};
 ghost use Rattle.program.specs.Passed.{ProgramPasses};
 ghost use Rattle.program.specs.Kept.{programOf, Complete};
 ghost use Rattle.run_steps.specs.Answer.{endedWith, stoppedAt, Scratch, Ends};
@@ -69,7 +69,7 @@ fn run_steps(
     machine: Machine,
     budget: u16,
 ) -> RunAnswer
-    requires { ⌜ Register sizes (now out) × Scratch sizes (program .lines) (now values) (now marks) × Complete program × ProgramPasses sizes (programOf program) × Holds (program .lines * sizes .records + sizes .records) (cellsOfFile sizes (now out)) (now values) (now marks) ⌝ }
+    requires { ⌜ Register sizes (now out) × Scratch sizes (program .lines) (now values) (now marks) × Complete program × ProgramPasses sizes (programOf program) × HoldsCells (program .lines * sizes .records + sizes .records) (cellsOfFile sizes (now out)) (now values) (now marks) ⌝ }
     ensures { λ r. ⌜ Ends machine sizes (programOf program) budget (now (out .entry)) (now (out .exit)) r ⌝ }
 {
     let slots = program.slots;

@@ -17,7 +17,7 @@ use Rattle.register.specs.declared.cells.Cell.{Cell}
 use Rattle.register.specs.declared.cells.Cell.the-variants.{Missing}
 use Rattle.register.proofs.Arrays.{cellOf-kept}
 use Rattle.scratch.specs.Places.{storedAt}
-use Rattle.step_cells.specs.Work.{Room, Holds, Same, Put, Small}
+use Rattle.step_cells.specs.Work.{Room, HoldsCells, Same, Put, Small}
 
 -- nothing is stored
 pub same-refl : {base : ℕ} {values : List ℤ} {marks : List ℕ} → Same base values marks values marks
@@ -101,7 +101,7 @@ module _ (base j : ℕ) {c : Cell} {values values′ : List ℤ} {marks marks′
       (ap (λ (l : List ℕ). getD l i 0) (p .marks-are) ∙ getD-set-other marks (base + j) i (p .mark) 0 h)
 
   -- the cells with another one at j
-  pub holds-put : {k : ℕ} {d : List Cell} → Room base k values marks → j < k → length d ≡ k → Holds base d values marks → Holds base (set d j c) values′ marks′
+  pub holds-put : {k : ℕ} {d : List Cell} → Room base k values marks → j < k → length d ≡ k → HoldsCells base d values marks → HoldsCells base (set d j c) values′ marks′
   holds-put {k} {d} r h l e = record { place-is = λ i i<. at i (ℕ-discrete i j) (rw (length-set d j c) at i<) }
     where
       at : (i : ℕ) → Dec (i ≡ j) → i < length d → storedAt values′ marks′ (base + i) ≡ getD (set d j c) i Missing
@@ -125,5 +125,5 @@ module _ (base j : ℕ) {c : Cell} {values values′ : List ℤ} {marks marks′
 
 -- cells of 32 bits
 pub small-held : {base k : ℕ} {d : List Cell} {values : List ℤ} {marks : List ℕ} → length d ≡ k
-    → ((j : ℕ) → SFits w32 (valueOf (getD d j Missing))) → Holds base d values marks → Small 2147483648 base k values marks
+    → ((j : ℕ) → SFits w32 (valueOf (getD d j Missing))) → HoldsCells base d values marks → Small 2147483648 base k values marks
 small-held l fits h = record { below = λ j j<. rw (h .place-is j (omega arith)) (fits j .sfits) }

@@ -17,7 +17,7 @@ pub record Room (base k : ℕ) (values : List ℤ) (marks : List ℕ) : Type 0 w
   pub marks-room : base + k ≤ length marks
 
 -- the buffers hold these cells from `base` on
-pub record Holds (base : ℕ) (cells : List Cell) (values : List ℤ) (marks : List ℕ) : Type 0 where
+pub record HoldsCells (base : ℕ) (cells : List Cell) (values : List ℤ) (marks : List ℕ) : Type 0 where
   pub place-is : (j : ℕ) → j < length cells → storedAt values marks (base + j) ≡ getD cells j Missing
 
 -- the buffers keep their lengths and what stands below `base`

@@ -13,7 +13,7 @@ ghost use Rattle.chain.specs.Word.{hasField, column as columnOf};
 ghost use Rattle.scratch.specs.Places.{storedAt};
 ghost use Rattle.machine.specs.Remote.{merged};
 ghost use Rattle.program.specs.declared.rule.Sort.the-variants.{Least, Total};
-ghost use Rattle.step_cells.specs.Work.{Room, Holds, Put, Same};
+ghost use Rattle.step_cells.specs.Work.{Room, HoldsCells, Put, Same};
 use chain::follow;
 use program::rule::Sort;
 use register::Sizes;
@@ -24,7 +24,7 @@ use scratch;
 // They begin as the cells of the register in `out`.
 pub fn begin(out: &[u8], values: &mut [i64], marks: &mut [u8], sizes: Sizes, base: usize)
     requires { ⌜ Limits sizes × (length (now out) ≡ 12 + 5 * cellCount sizes) × Room base (cellCount sizes) (now values) (now marks) ⌝ }
-    ensures { λ _. ⌜ Holds base (cellsOfFile sizes (now (out .entry))) (now (values .exit)) (now (marks .exit)) ⌝ }
+    ensures { λ _. ⌜ HoldsCells base (cellsOfFile sizes (now (out .entry))) (now (values .exit)) (now (marks .exit)) ⌝ }
     ensures { λ _. ⌜ Same base (now (values .entry)) (now (marks .entry)) (now (values .exit)) (now (marks .exit)) ⌝ }
 {
     let cells = cells::values_part(out, sizes);

@@ -23,7 +23,7 @@ use Rattle.register.specs.declared.cells.Cell.the-variants.{Missing}
 use Rattle.register.proofs.Arrays.{putCell-file}
 use Rattle.register.proofs.Bounds.{cellIndex-below, place-row, place-column, place-is}
 use Rattle.laws.proofs.Cases.{true-or-false, lt-or-le}
-use Rattle.step_cells.specs.Work.{Holds}
+use Rattle.step_cells.specs.Work.{HoldsCells}
 use Rattle.machine.specs.Value.{cellInRange}
 use Rattle.machine.proofs.Keeping.{fits-in-range}
 use Rattle.step_commit.specs.Committed.{OneCommitted, working, putColumn, isWritten, putColumns, OneColumn, AllCommitted, CommitStops}
@@ -181,7 +181,7 @@ module _ (s : Sizes) (d : List Cell) where
 
 -- the working cells d in the columns that are written, and in the others the cells that d has there too
 columns-file : (s : Sizes) (fields : List Bool) (base : ℕ) (values : List ℤ) (marks file : List ℕ) (cells d : List Cell)
-    → length cells ≡ cellCount s → length d ≡ cellCount s → file ≡ fileOf s cells → Holds base d values marks
+    → length cells ≡ cellCount s → length d ≡ cellCount s → file ≡ fileOf s cells → HoldsCells base d values marks
     → ((u c : ℕ) → u < s .records → c < width s → isWritten s fields c ≡ false → getD cells (cellIndex s u c) Missing ≡ getD d (cellIndex s u c) Missing)
     → putColumns s (working base values marks) fields (width s) file ≡ fileOf s d
 columns-file s fields base values marks file cells d k l e h same =
@@ -191,7 +191,7 @@ columns-file s fields base values marks file cells d k l e h same =
     (record { cells = cells; count = k; agree = same; file-is = e })))
 
 -- the working cells hold the cells d of a register
-module _ (s : Sizes) (d : List Cell) (count : length d ≡ cellCount s) (base : ℕ) {values : List ℤ} {marks : List ℕ} (held : Holds base d values marks) where
+module _ (s : Sizes) (d : List Cell) (count : length d ≡ cellCount s) (base : ℕ) {values : List ℤ} {marks : List ℕ} (held : HoldsCells base d values marks) where
   working-is : (u c : ℕ) → u < s .records → c < width s → working base values marks (cellIndex s u c) ≡ getD d (cellIndex s u c) Missing
   working-is u c row col = held .place-is (cellIndex s u c) (omega (arith, cellIndex-below s u c row col))
 

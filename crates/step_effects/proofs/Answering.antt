@@ -21,8 +21,8 @@ use Rattle.program.specs.declared.rule.Operator.{Operator}
 use Rattle.program.specs.declared.rule.Rule.{Rule}
 use Rattle.program.specs.declared.rule.Rule.the-variants.{Set, Combine, Remote}
 use Rattle.program.specs.declared.rule.Slot.{Slot}
-use Rattle.program.specs.Program.{operation, isRemote, fieldOf}
-use Rattle.program.specs.Stored.{termOf, testOf, targetOf, expressionOf, ruleOf}
+use Rattle.program.specs.Program.{operation, isRemote, targetField}
+use Rattle.program.specs.Stored.{termIn, testIn, targetIn, expressionIn, ruleIn}
 use Rattle.machine.specs.Value.{operate, combined, value, readingInRange, overflows, holds}
 use Rattle.machine.specs.Local.{storedCell, storedTo, stored, offends}
 use Rattle.machine.specs.Remote.{sentBy, ruleMessages}
@@ -66,65 +66,65 @@ module _ (read : List ℕ → Reading) where
   -- what a rule stores where its test holds
   unfoldable pub done : Rule → Write
   done r =
-      cond (overflows read (expressionOf r)) (W.OutOfRange (fieldOf (targetOf r)))
-      (writeStored (storedTo (targetOf r) (value read (expressionOf r))))
+      cond (overflows read (expressionIn r)) (W.OutOfRange (targetField (targetIn r)))
+      (writeStored (storedTo (targetIn r) (value read (expressionIn r))))
 
   -- a term forms no sum
-  term-formed : (x : Term) → overflows read (termOf x) ≡ false
-  unfolding overflows termOf
+  term-formed : (x : Term) → overflows read (termIn x) ≡ false
+  unfolding overflows termIn
   term-formed (Chain c) = refl
   term-formed (Number z) = refl
 
-  pub set-done : (f : ℕ) (x : Term) → readingWrite f (value read (termOf x)) ≡ done (Set f x)
-  unfolding done expressionOf targetOf storedTo writeStored
+  pub set-done : (f : ℕ) (x : Term) → readingWrite f (value read (termIn x)) ≡ done (Set f x)
+  unfolding done expressionIn targetIn storedTo writeStored
   set-done f x = simp (term-formed x)
 
-  pub combine-done : (f : ℕ) (op : Operator) (x y : Term) → sumWrite f (value read (operation op (termOf x) (termOf y))) ≡ done (Combine f op x y)
-  unfolding done expressionOf targetOf fieldOf storedTo writeStored overflows value sumWrite
-  combine-done f op x y = simp (term-formed x, term-formed y) (go (readingInRange (combined op (value read (termOf x)) (value read (termOf y)))) _ _)
+  pub combine-done : (f : ℕ) (op : Operator) (x y : Term) → sumWrite f (value read (operation op (termIn x) (termIn y))) ≡ done (Combine f op x y)
+  unfolding done expressionIn targetIn targetField storedTo writeStored overflows value sumWrite
+  combine-done f op x y = simp (term-formed x, term-formed y) (go (readingInRange (combined op (value read (termIn x)) (value read (termIn y)))) _ _)
     where
       go : (i : Bool) (v w : Write) → cond i w v ≡ cond (not i) v w
       go true v w = refl
       go false v w = refl
 
   -- a remote write stores nothing
-  remote-done : (r : Rule) → isRemote (targetOf r) ≡ true → done r ≡ W.Nothing
-  unfolding isRemote done expressionOf targetOf storedTo writeStored
+  remote-done : (r : Rule) → isRemote (targetIn r) ≡ true → done r ≡ W.Nothing
+  unfolding isRemote done expressionIn targetIn storedTo writeStored
   remote-done (Set f x) e = true-false e refl
   remote-done (Combine f op x y) e = true-false e refl
   remote-done (Remote k f c x) e = simp (term-formed x)
 
   module _ (x : Slot) where
     -- what a rule stores, by its test
-    write-is : writeOf read (ruleOf x) ≡ cond (holds read (testOf (x .test))) (done (x .rule)) W.Nothing
-    unfolding writeOf ruleOf stored offends done
-    write-is = go (holds read (testOf (x .test))) (overflows read (expressionOf (x .rule))) _ _ _
+    write-is : writeOf read (ruleIn x) ≡ cond (holds read (testIn (x .test))) (done (x .rule)) W.Nothing
+    unfolding writeOf ruleIn stored offends done
+    write-is = go (holds read (testIn (x .test))) (overflows read (expressionIn (x .rule))) _ _ _
       where
         go : (t o : Bool) (v w n : Write) → cond (t && o) v (cond t w n) ≡ cond t (cond o v w) n
         go true o v w n = refl
         go false o v w n = refl
 
     -- a rule of the other sort
-    pub write-remote : isRemote (targetOf (x .rule)) ≡ true → W.Nothing ≡ writeOf read (ruleOf x)
-    write-remote e = sym (write-is ∙ cond-both (λ w. w ≡ W.Nothing) (holds read (testOf (x .test))) _ _ (remote-done (x .rule) e) refl)
+    pub write-remote : isRemote (targetIn (x .rule)) ≡ true → W.Nothing ≡ writeOf read (ruleIn x)
+    write-remote e = sym (write-is ∙ cond-both (λ w. w ≡ W.Nothing) (holds read (testIn (x .test))) _ _ (remote-done (x .rule) e) refl)
 
-    pub send-local : isRemote (targetOf (x .rule)) ≡ false → [] ≡ ruleMessages read (ruleOf x)
-    unfolding ruleOf
-    send-local e = sym (ruleMessages-local read (ruleOf x) e)
+    pub send-local : isRemote (targetIn (x .rule)) ≡ false → [] ≡ ruleMessages read (ruleIn x)
+    unfolding ruleIn
+    send-local e = sym (ruleMessages-local read (ruleIn x) e)
 
     -- a rule, by what the code found for its test
-    module _ {t : Bool} (ran : t ≡ holds read (testOf (x .test))) where
-      pub write-nothing : not t ≡ true → W.Nothing ≡ writeOf read (ruleOf x)
+    module _ {t : Bool} (ran : t ≡ holds read (testIn (x .test))) where
+      pub write-nothing : not t ≡ true → W.Nothing ≡ writeOf read (ruleIn x)
       write-nothing h = sym (write-is ∙ simp (sym ran ∙ not-true t h))
 
-      pub send-nothing : not t ≡ true → [] ≡ ruleMessages read (ruleOf x)
-      unfolding ruleMessages ruleOf
+      pub send-nothing : not t ≡ true → [] ≡ ruleMessages read (ruleIn x)
+      unfolding ruleMessages ruleIn
       send-nothing h = simp (sym ran ∙ not-true t h)
 
       module _ (h : not t ≡ false) {r : Rule} (is : x .rule ≡ r) where
-        pub write-done : done r ≡ writeOf read (ruleOf x)
+        pub write-done : done r ≡ writeOf read (ruleIn x)
         write-done = sym (write-is ∙ simp (sym ran ∙ not-false t h) (ap done is))
 
-        pub send-done : sentBy read (targetOf r) (value read (expressionOf r)) ≡ ruleMessages read (ruleOf x)
-        unfolding ruleMessages ruleOf
-        send-done = sym (simp (sym ran ∙ not-false t h) (ap (λ (r : Rule). sentBy read (targetOf r) (value read (expressionOf r))) is))
+        pub send-done : sentBy read (targetIn r) (value read (expressionIn r)) ≡ ruleMessages read (ruleIn x)
+        unfolding ruleMessages ruleIn
+        send-done = sym (simp (sym ran ∙ not-false t h) (ap (λ (r : Rule). sentBy read (targetIn r) (value read (expressionIn r))) is))

@@ -8,7 +8,7 @@ use Rattle.integers.specs.declared.Sum.the-variants.{InRange, OutOfRange}
 use Rattle.register.specs.declared.cells.Cell.{Cell}
 use Rattle.register.specs.declared.cells.Cell.the-variants.{Missing, Value}
 use Rattle.chain.specs.declared.reading.Reading.{Reading}
-use Rattle.program.specs.Program.{Rule, fieldOf}
+use Rattle.program.specs.Program.{Rule, targetField}
 use Rattle.machine.specs.declared.message.Message.{Message}
 use Rattle.machine.specs.Value.{holds, readingInRange}
 use Rattle.machine.specs.Local.{storedCell, stored, offends}
@@ -42,7 +42,7 @@ writeStored (some (f, c)) = cellWrite f c
 -- what a rule stores
 unfoldable pub writeOf : (List ℕ → Reading) → Rule → Write
 writeOf read r =
-    cond (offends read r) (W.OutOfRange (fieldOf (r .target)))
+    cond (offends read r) (W.OutOfRange (targetField (r .target)))
     (cond (holds read (r .test)) (writeStored (stored read r)) W.Nothing)
 
 -- the messages of an answer

@@ -4,12 +4,12 @@ pub mod stored;
 
 ghost use mathlib.Core.Path.{_≡_};
 ghost use Rattle.program.specs.Program.{isRemote};
-ghost use Rattle.program.specs.Stored.{targetOf};
+ghost use Rattle.program.specs.Stored.{targetIn};
 use program::rule::Rule;
 
 // Whether a rule is a remote write.
 fn is_remote(rule: Rule) -> bool
-    ensures { λ r. ⌜ r ≡ isRemote (targetOf rule) ⌝ }
+    ensures { λ r. ⌜ r ≡ isRemote (targetIn rule) ⌝ }
 {
     match rule {
         Rule::Set(_, _) => false,

@@ -5,7 +5,7 @@ ghost use Rattle.register.specs.Cells.{cellsOf};
 ghost use Rattle.register.specs.Shape.{Parts};
 ghost use Rattle.chain.specs.Word.{unpack};
 ghost use Rattle.program.specs.declared.rule.Rule.the-variants.{Remote};
-ghost use Rattle.program.specs.Stored.{ruleOf, targetOf, termOf};
+ghost use Rattle.program.specs.Stored.{ruleIn, targetIn, termIn};
 ghost use Rattle.machine.specs.Value.{value};
 ghost use Rattle.machine.specs.Remote.{sentTo, ruleMessages};
 ghost use Rattle.step_terms.specs.Found.{readsOf, RuleFound, RuleReads, Names, Points};
@@ -42,7 +42,7 @@ fn send(
 ) -> Sent
     requires { ⌜ Parts sizes (now cells) (now filled) × (u < sizes .records) × RuleFound sizes (cellsOf (now cells) (now filled)) (now values) (now marks) u at (Remote sort field target x) ⌝ }
     requires { ⌜ Names (readsOf sizes (now cells) (now filled) u (unpack target)) ⌝ }
-    ensures { λ r. let read = readsOf sizes (now (cells .entry)) (now (filled .entry)) u in ⌜ messagesIn r ≡ sentTo sort field (read (unpack target)) (value read (termOf x)) ⌝ }
+    ensures { λ r. let read = readsOf sizes (now (cells .entry)) (now (filled .entry)) u in ⌜ messagesIn r ≡ sentTo sort field (read (unpack target)) (value read (termIn x)) ⌝ }
 {
     let first = at.first;
     let Reading::Value(to) = term::found_at(cells, filled, values, marks, sizes, u, first) else {
@@ -72,8 +72,8 @@ pub fn message_of(
     located: Located,
 ) -> Sent
     requires { ⌜ Parts sizes (now cells) (now filled) × (u < sizes .records) × RuleReads sizes (cellsOf (now cells) (now filled)) (now values) (now marks) u located ⌝ }
-    requires { ⌜ Points (readsOf sizes (now cells) (now filled) u) (targetOf (located .slot .rule)) ⌝ }
-    ensures { λ r. ⌜ messagesIn r ≡ ruleMessages (readsOf sizes (now (cells .entry)) (now (filled .entry)) u) (ruleOf (located .slot)) ⌝ }
+    requires { ⌜ Points (readsOf sizes (now cells) (now filled) u) (targetIn (located .slot .rule)) ⌝ }
+    ensures { λ r. ⌜ messagesIn r ≡ ruleMessages (readsOf sizes (now (cells .entry)) (now (filled .entry)) u) (ruleIn (located .slot)) ⌝ }
 {
     let slot = located.slot;
     let rule = slot.rule;

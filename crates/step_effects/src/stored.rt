@@ -6,7 +6,7 @@ ghost use Rattle.register.specs.Shape.{Parts};
 ghost use Rattle.integers.specs.Range.{sumOf};
 ghost use Rattle.program.specs.declared.rule.Rule.the-variants.{Combine};
 ghost use Rattle.program.specs.Program.{operation};
-ghost use Rattle.program.specs.Stored.{ruleOf, termOf};
+ghost use Rattle.program.specs.Stored.{ruleIn, termIn};
 ghost use Rattle.machine.specs.Value.{operate as operateOn, value};
 ghost use Rattle.step_terms.specs.Found.{readsOf, RuleFound, RuleReads};
 ghost use Rattle.step_effects.specs.Answers.{readingWrite, sumAnswer, sumWrite, writeOf};
@@ -71,7 +71,7 @@ fn combine(
     at: Places,
 ) -> Write
     requires { ⌜ Parts sizes (now cells) (now filled) × (u < sizes .records) × RuleFound sizes (cellsOf (now cells) (now filled)) (now values) (now marks) u at (Combine field operator x y) ⌝ }
-    ensures { λ r. ⌜ r ≡ sumWrite field (value (readsOf sizes (now (cells .entry)) (now (filled .entry)) u) (operation operator (termOf x) (termOf y))) ⌝ }
+    ensures { λ r. ⌜ r ≡ sumWrite field (value (readsOf sizes (now (cells .entry)) (now (filled .entry)) u) (operation operator (termIn x) (termIn y))) ⌝ }
 {
     let first = at.first;
     let Reading::Value(a) = term::term_value(cells, filled, values, marks, sizes, u, x, first)
@@ -97,7 +97,7 @@ pub fn local_write(
     located: Located,
 ) -> Write
     requires { ⌜ Parts sizes (now cells) (now filled) × (u < sizes .records) × RuleReads sizes (cellsOf (now cells) (now filled)) (now values) (now marks) u located ⌝ }
-    ensures { λ r. ⌜ r ≡ writeOf (readsOf sizes (now (cells .entry)) (now (filled .entry)) u) (ruleOf (located .slot)) ⌝ }
+    ensures { λ r. ⌜ r ≡ writeOf (readsOf sizes (now (cells .entry)) (now (filled .entry)) u) (ruleIn (located .slot)) ⌝ }
 {
     let slot = located.slot;
     let rule = slot.rule;

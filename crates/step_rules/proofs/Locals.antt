@@ -22,16 +22,16 @@ use Rattle.chain.specs.declared.reading.Reading.{Reading}
 use Rattle.chain.specs.Word.{hasField, column}
 use Rattle.chain.proofs.Following.{column-below}
 use Rattle.program.specs.declared.location.Located.{Located}
-use Rattle.program.specs.Program.{Rule, fieldOf}
+use Rattle.program.specs.Program.{Rule, targetField}
 use Rattle.laws.specs.Lists.{Each}
-use Rattle.program.specs.Stored.{ruleOf, rulesIn}
+use Rattle.program.specs.Stored.{ruleIn, rulesIn}
 use Rattle.machine.specs.Local.{offends, localRules, localRecords, sumOffends}
 use Rattle.machine.proofs.Folding.{localRules-more, localRules-length, localRecords-length, sumOffends-more}
 use Rattle.step_terms.specs.Found.{followed}
 use Rattle.step_effects.specs.Answers.{cellWrite, writeOf}
 use Rattle.step_effects.specs.declared.stored.Write.the-variants.{Nothing, OutOfRange}
-use Rattle.step_cells.specs.Work.{Room, Holds, Same, Put, Small}
-use Rattle.step_rules.specs.Ready.{Ready, AllReady, LocalRule, RuleStops, LocalDone, LocalStops}
+use Rattle.step_cells.specs.Work.{Room, HoldsCells, Same, Put, Small}
+use Rattle.step_rules.specs.Ready.{RuleReady, AllReady, LocalRule, RuleStops, LocalDone, LocalStops}
 use Rattle.step_cells.specs.declared.stop.Stop.the-variants.{Nowhere, At}
 use Rattle.step_cells.proofs.Working.{same-refl, same-then, same-put, holds-put, small-put}
 use Rattle.step_rules.proofs.Writing.{told, told-cell}
@@ -48,7 +48,7 @@ module _ (s : Sizes) (cells : List Cell) (u : ℕ) (r : Rule) where
   read = followed s cells u
 
   -- the field that it stores to, or whose sum it forms
-  module _ (field : hasField s (fieldOf (r .target)) ≡ true) where
+  module _ (field : hasField s (targetField (r .target)) ≡ true) where
     pub stores-field : (f : ℕ) (c : Cell) → writeOf read r ≡ cellWrite f c → hasField s f ≡ true
     stores-field f c e = ap (hasField s) (told-cell read r f c e .field-is) ∙ field
 
@@ -68,7 +68,7 @@ module _ (s : Sizes) (cells : List Cell) (u : ℕ) (r : Rule) where
         (same-refl, record { row = refl; column-is = ap (column s) (t .field-is); out-of-range = t .out-of-range })
 
     pub rule-stores : (f : ℕ) (c : Cell) {values′ : List ℤ} {marks′ : List ℕ} → writeOf read r ≡ cellWrite f c → Limits s → u < s .records
-        → hasField s (fieldOf (r .target)) ≡ true → Room base (cellCount s) values marks
+        → hasField s (targetField (r .target)) ≡ true → Room base (cellCount s) values marks
         → Put (base + cellIndex s u (column s f)) c values marks values′ marks′ → SFits w32 (valueOf c)
         → LocalRule s cells base u r values marks values′ marks′ Nowhere
     rule-stores f c e limits row field room p fits =
@@ -85,7 +85,7 @@ module _ (s : Sizes) (cells : List Cell) (u : ℕ) (r : Rule) where
 
 -- the rule of a place
 abbrev pub ruleAt : Located → Rule
-ruleAt x = ruleOf (x .slot)
+ruleAt x = ruleIn (x .slot)
 
 -- rule k of the places
 module _ (places : List Located) (k : ℕ) (x : Located) (h : k < length places) where
@@ -107,26 +107,26 @@ module _ (places : List Located) (k : ℕ) (x : Located) (h : k < length places)
 
   -- and is ready where they all are
   pub ready-at : {s : Sizes} {cells : List Cell} {values : List ℤ} {marks : List ℕ} {n : ℕ} → k < n → AllReady s cells values marks (take n places)
-      → Ready s cells values marks (getD places k x)
+      → RuleReady s cells values marks (getD places k x)
   ready-at {s} {cells} {values} {marks} {n} l r =
-      subst (Ready s cells values marks) (getD-take n places k x l)
-      (each-at (Ready s cells values marks) (take n places) k x (omega (arith, length-take n places)) r)
+      subst (RuleReady s cells values marks) (getD-take n places k x l)
+      (each-at (RuleReady s cells values marks) (take n places) k x (omega (arith, length-take n places)) r)
 
 -- one offending rule among others
 offends-among : (s : Sizes) (read : List ℕ → Reading) (r : Rule) → offends read r ≡ true
-    → (before behind : List Rule) → sumOffends s read (before ++ r ∷ behind) (column s (fieldOf (r .target))) ≡ true
+    → (before behind : List Rule) → sumOffends s read (before ++ r ∷ behind) (column s (targetField (r .target))) ≡ true
 unfolding sumOffends
-offends-among s read r h [] behind = simp (h, eq-eqb (column s (fieldOf (r .target))) (column s (fieldOf (r .target))) refl)
+offends-among s read r h [] behind = simp (h, eq-eqb (column s (targetField (r .target))) (column s (targetField (r .target))) refl)
 offends-among s read r h (x ∷ before) behind =
-    rw (offends-among s read r h before behind) (or-true (offends read x && eqb (column s (fieldOf (x .target))) (column s (fieldOf (r .target)))))
+    rw (offends-among s read r h before behind) (or-true (offends read x && eqb (column s (targetField (x .target))) (column s (targetField (r .target)))))
 
 -- what the first k rules leave at record u
 pub record RecordDone (s : Sizes) (cells : List Cell) (base : ℕ) (places : List Located) (u k : ℕ) (values : List ℤ) (marks : List ℕ)
     (values′ : List ℤ) (marks′ : List ℕ) : Type 0 where
   pub same : Same base values marks values′ marks′
   pub in-range : (c : ℕ) → sumOffends s (followed s cells u) (rulesIn k places) c ≡ false
-  pub holds : (d : List Cell) → length d ≡ cellCount s → Holds base d values marks
-      → Holds base (localRules s (followed s cells u) u (rulesIn k places) d) values′ marks′
+  pub holds : (d : List Cell) → length d ≡ cellCount s → HoldsCells base d values marks
+      → HoldsCells base (localRules s (followed s cells u) u (rulesIn k places) d) values′ marks′
   pub small : Small 2147483648 base (cellCount s) values marks → Small 2147483648 base (cellCount s) values′ marks′
 
 -- nothing is done yet
@@ -155,7 +155,7 @@ record-more {s} {cells} {base} {places} {u} {k} {values″ = values″} {marks�
       in-range = λ c.
           ap (λ (l : List Rule). sumOffends s read l c) (rules-more places k x h) ∙ sumOffends-more s read rs rule c ∙ simp (t .in-range c, done .in-range);
       holds = λ d l hd.
-          subst (λ (cs : List Cell). Holds base cs values″ marks″)
+          subst (λ (cs : List Cell). HoldsCells base cs values″ marks″)
           (sym (ap (λ (l : List Rule). localRules s read u l d) (rules-more places k x h) ∙ localRules-more s read u rs rule d))
           (done .holds (localRules s read u rs d) (localRules-length s read u rs d ∙ l) (t .holds d l hd));
       small = λ z. done .small (t .small z);
@@ -163,11 +163,11 @@ record-more {s} {cells} {base} {places} {u} {k} {values″ = values″} {marks�
 
 -- or its sum is out of range
 pub record-stops : {s : Sizes} {cells : List Cell} (places : List Located) {u : ℕ} (k : ℕ) (x : Located) → k < length places → {v c rules : ℕ} → k < rules
-    → Limits s → u < s .records → hasField s (fieldOf (ruleAt (getD places k x) .target)) ≡ true
+    → Limits s → u < s .records → hasField s (targetField (ruleAt (getD places k x) .target)) ≡ true
     → RuleStops s cells u (ruleAt (getD places k x)) v c → LocalStops s cells (rulesIn rules places) v c
 record-stops {s} {cells} places {u} k x h {rules = rules} l limits row field stop =
     let rule = ruleAt (getD places k x) in
-    let f = fieldOf (rule .target) in
+    let f = targetField (rule .target) in
     let read = followed s cells u in
     record {
       row = rw (stop .row) row;

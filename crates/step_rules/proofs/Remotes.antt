@@ -21,7 +21,7 @@ use Rattle.chain.specs.declared.reading.Reading.the-variants.{Missing, Value}
 use Rattle.chain.specs.Word.{hasField, column, refersTo}
 use Rattle.chain.proofs.Following.{column-below}
 use Rattle.program.specs.declared.location.Located.{Located}
-use Rattle.program.specs.Program.{Target, own, remote, Rule, hasRemote, fieldOf}
+use Rattle.program.specs.Program.{Target, own, remote, Rule, hasRemote, targetField}
 use Rattle.program.specs.Stored.{rulesIn}
 use Rattle.program.specs.declared.rule.Sort.{Sort}
 use Rattle.machine.specs.declared.message.Message.{Message}
@@ -33,7 +33,7 @@ use Rattle.step_terms.specs.Found.{followed, Names, Points}
 use Rattle.step_effects.specs.Answers.{messagesIn}
 use Rattle.step_effects.specs.declared.sent.Sent.{Sent}
 use Rattle.step_effects.specs.declared.sent.Sent.the-variants as S
-use Rattle.step_cells.specs.Work.{Room, Holds, Same, Put, Small}
+use Rattle.step_cells.specs.Work.{Room, HoldsCells, Same, Put, Small}
 use Rattle.step_rules.specs.Ready.{Targets}
 use Rattle.step_rules.specs.Delivered.{RuleDelivered, Delivered}
 use Rattle.step_cells.proofs.Working.{same-refl, same-then, same-put, holds-put, small-put}
@@ -82,17 +82,17 @@ sent-addressed n k f (Value v) (Value a) {m} h e =
     record { target< = rw q (index-is n v h .1); field-is = ap (λ (x : Message). x .field) q }
 
 target-addressed : (n : ℕ) (read : List ℕ → Reading) (t : Target) (x : Reading) {m : Message} → Targets n read t
-    → m ∷ [] ≡ sentBy read t x → Addressed n (fieldOf t) m
-unfolding sentBy fieldOf
+    → m ∷ [] ≡ sentBy read t x → Addressed n (targetField t) m
+unfolding sentBy targetField
 target-addressed n read (own f) x h e = absurd (let z : _≡_ {A = ℕ} 0 1 = cc in omega arith)
 target-addressed n read (remote k f c) x h e = sent-addressed n k f (read c) x h e
 
 rule-addressed : (n : ℕ) (read : List ℕ → Reading) (r : Rule) {m : Message} → Targets n read (r .target)
-    → m ∷ [] ≡ ruleMessages read r → Addressed n (fieldOf (r .target)) m
+    → m ∷ [] ≡ ruleMessages read r → Addressed n (targetField (r .target)) m
 unfolding ruleMessages
 rule-addressed n read r {m} h e = go (holds read (r .test)) e
   where
-    go : (t : Bool) → m ∷ [] ≡ cond t (sentBy read (r .target) (value read (r .expression))) [] → Addressed n (fieldOf (r .target)) m
+    go : (t : Bool) → m ∷ [] ≡ cond t (sentBy read (r .target) (value read (r .expression))) [] → Addressed n (targetField (r .target)) m
     go true e = target-addressed n read (r .target) _ h e
     go false e = absurd (let z : _≡_ {A = ℕ} 0 1 = cc in omega arith)
 
@@ -112,7 +112,7 @@ module _ (s : Sizes) (cells : List Cell) (u : ℕ) (x : Located) where
     pub below : cellIndex s (m .target) (column s (m .field)) < cellCount s
 
   pub rule-place : {m : Message} → m ∷ [] ≡ ruleMessages read (ruleAt x) → Limits s → Targets (s .records) read (ruleAt x .target)
-      → hasField s (fieldOf (ruleAt x .target)) ≡ true → Placed m
+      → hasField s (targetField (ruleAt x .target)) ≡ true → Placed m
   rule-place {m} e limits targets field =
       let a = rule-addressed (s .records) read (ruleAt x) targets e in
       let f = ap (hasField s) (a .field-is) ∙ field in
@@ -124,7 +124,7 @@ module _ (s : Sizes) (cells : List Cell) (u : ℕ) (x : Located) where
     unfolding deliverAll
     rule-silent e = record {
       same = same-refl;
-      holds = λ d l h. subst (λ (ms : List Message). Holds base (deliverAll s d ms) values marks) e h;
+      holds = λ d l h. subst (λ (ms : List Message). HoldsCells base (deliverAll s d ms) values marks) e h;
       sent-is = ap length e;
       sent≤ = omega arith;
       small = λ b h. small-within (omega arith) h;
@@ -144,8 +144,8 @@ module _ (s : Sizes) (cells : List Cell) (u : ℕ) (x : Located) where
         record {
           same = same-put base k p′;
           holds = λ d l h.
-              subst (λ (ms : List Message). Holds base (deliverAll s d ms) values′ marks′) e
-              (subst (λ (c : Cell). Holds base (set d k (merged (m .sort) c (m .amount))) values′ marks′) (h .place-is k (omega arith))
+              subst (λ (ms : List Message). HoldsCells base (deliverAll s d ms) values′ marks′) e
+              (subst (λ (c : Cell). HoldsCells base (set d k (merged (m .sort) c (m .amount))) values′ marks′) (h .place-is k (omega arith))
               (holds-put base k p′ room below l h));
           sent-is = ap length e;
           sent≤ = omega arith;
@@ -157,7 +157,7 @@ module _ (s : Sizes) (cells : List Cell) (u : ℕ) (x : Located) where
 -- the n before, and a value grows by one amount for each
 pub record Sends (s : Sizes) (ms : List Message) (base b n : ℕ) (values : List ℤ) (marks : List ℕ) (values′ : List ℤ) (marks′ : List ℕ) (n′ : ℕ) : Type 0 where
   pub same : Same base values marks values′ marks′
-  pub holds : (d : List Cell) → length d ≡ cellCount s → Holds base d values marks → Holds base (deliverAll s d ms) values′ marks′
+  pub holds : (d : List Cell) → length d ≡ cellCount s → HoldsCells base d values marks → HoldsCells base (deliverAll s d ms) values′ marks′
   pub sent-is : n′ ≡ n + length ms
   pub small : Small b base (cellCount s) values′ marks′
 
@@ -174,7 +174,7 @@ pub sends-then : {s : Sizes} {ms ns : List Message} {base b b′ n n′ n″ : �
 sends-then {s} {ms} {ns} {base} {values″ = values″} {marks″ = marks″} a c = record {
   same = same-then (a .same) (c .same);
   holds = λ d l h.
-      subst (λ (cs : List Cell). Holds base cs values″ marks″) (sym (deliverAll-append s d ms ns))
+      subst (λ (cs : List Cell). HoldsCells base cs values″ marks″) (sym (deliverAll-append s d ms ns))
       (c .holds (deliverAll s d ms) (deliverAll-length s d ms ∙ l) (a .holds d l h));
   sent-is = omega (arith, a .sent-is, c .sent-is, length-append ms ns);
   small = c .small;
@@ -217,6 +217,6 @@ silent-step s cells rs {base} {values} {marks} e =
     let none = sym (recordMessages-local (followed s cells) rs (s .records) e) in
     record {
       same = same-refl;
-      holds = λ d l h. subst (λ (ms : List Message). Holds base (deliverAll s d ms) values marks) none h;
+      holds = λ d l h. subst (λ (ms : List Message). HoldsCells base (deliverAll s d ms) values marks) none h;
       sent-is = ap length none;
     }

@@ -19,7 +19,7 @@ use Rattle.machine.specs.Step.{stepCells, offendsAt}
 use Rattle.machine.proofs.Folding.{localRecords-length}
 use Rattle.machine.proofs.Stops.{stops-nowhere}
 use Rattle.step_terms.specs.Found.{followed}
-use Rattle.step_cells.specs.Work.{Holds}
+use Rattle.step_cells.specs.Work.{HoldsCells}
 use Rattle.step_rules.specs.Ready.{LocalDone, LocalStops}
 use Rattle.step_rules.specs.Delivered.{Delivered}
 use Rattle.step_rules.specs.Stepped.{GoesThrough, StopsAt}
@@ -27,11 +27,11 @@ use Rattle.step_rules.specs.Stepped.{GoesThrough, StopsAt}
 -- what all rules leave, local and remote: the working cells hold the cells behind the step
 pub record AllDone (s : Sizes) (cells : List Cell) (base : ℕ) (rs : List Rule) (values : List ℤ) (marks : List ℕ) (n : ℕ) : Type 0 where
   pub in-range : (u c : ℕ) → u < s .records → sumOffends s (followed s cells u) rs c ≡ false
-  pub holds : Holds base (stepCells s (followed s cells) rs cells) values marks
+  pub holds : HoldsCells base (stepCells s (followed s cells) rs cells) values marks
   pub sent-is : n ≡ length (recordMessages (followed s cells) rs (s .records))
 
 pub all-done : (s : Sizes) (cells : List Cell) (rs : List Rule) {base n : ℕ} {v v′ v″ : List ℤ} {m m′ m″ : List ℕ} → length cells ≡ cellCount s
-    → Holds base cells v m
+    → HoldsCells base cells v m
     → LocalDone s cells base rs (s .records) v m v′ m′ → Delivered s cells base rs v′ m′ v″ m″ n → AllDone s cells base rs v″ m″ n
 unfolding stepCells
 all-done s cells rs q h l r =

@@ -12,7 +12,7 @@ use Rattle.register.specs.declared.cells.Cell.{Cell}
 use Rattle.register.specs.declared.cells.Cell.the-variants.{Missing, Value}
 use Rattle.chain.specs.declared.reading.Reading.{Reading}
 use Rattle.chain.specs.Word.{column}
-use Rattle.program.specs.Program.{Target, own, remote, Rule, fieldOf}
+use Rattle.program.specs.Program.{Target, own, remote, Rule, targetField}
 use Rattle.machine.specs.Value.{holds}
 use Rattle.machine.specs.Local.{storedTo, stored, store, offends, localRule}
 use Rattle.step_effects.specs.Answers.{cellWrite, writeStored, writeOf}
@@ -27,13 +27,13 @@ pub record Idles (read : List ℕ → Reading) (r : Rule) : Type 0 where
 -- it stores c in field f
 pub record Stores (read : List ℕ → Reading) (r : Rule) (f : ℕ) (c : Cell) : Type 0 where
   pub in-range : offends read r ≡ false
-  pub field-is : f ≡ fieldOf (r .target)
+  pub field-is : f ≡ targetField (r .target)
   pub cells-are : (s : Sizes) (u : ℕ) (d : List Cell) → localRule s read u r d ≡ set d (cellIndex s u (column s f)) c
 
 -- its sum for field f is out of range
 pub record Offends (read : List ℕ → Reading) (r : Rule) (f : ℕ) : Type 0 where
   pub out-of-range : offends read r ≡ true
-  pub field-is : f ≡ fieldOf (r .target)
+  pub field-is : f ≡ targetField (r .target)
 
 abbrev pub Tells : (List ℕ → Reading) → Rule → Write → Type 0
 Tells read r Nothing = Idles read r
@@ -46,8 +46,8 @@ unfoldable fieldIn : Option (ℕ × Cell) → ℕ
 fieldIn none = 0
 fieldIn (some (f, c)) = f
 
-stored-field : (t : Target) (x : Reading) {f : ℕ} {c : Cell} → storedTo t x ≡ some (f, c) → f ≡ fieldOf t
-unfolding storedTo fieldOf fieldIn
+stored-field : (t : Target) (x : Reading) {f : ℕ} {c : Cell} → storedTo t x ≡ some (f, c) → f ≡ targetField t
+unfolding storedTo targetField fieldIn
 stored-field (own g) x e = sym (ap fieldIn e)
 stored-field (remote k g w) x e = absurd (let z : _≡_ {A = ℕ} 0 1 = cc in omega arith)
 
@@ -63,7 +63,7 @@ module _ (read : List ℕ → Reading) (r : Rule) where
   done h x k s u d = simp (h, k)
 
   tells : (o h : Bool) (x : Option (ℕ × Cell)) → offends read r ≡ o → holds read (r .test) ≡ h → stored read r ≡ x
-      → Tells read r (cond o (OutOfRange (fieldOf (r .target))) (cond h (writeStored x) Nothing))
+      → Tells read r (cond o (OutOfRange (targetField (r .target))) (cond h (writeStored x) Nothing))
   unfolding writeStored cellWrite stored store
   tells true h x p q k = record { out-of-range = p; field-is = refl }
   tells false false x p q k = record { in-range = p; cells-are = idle q }

@@ -11,12 +11,12 @@ use Rattle.register.specs.declared.cells.Cell.{Cell}
 use Rattle.chain.specs.declared.reading.Reading.{Reading}
 use Rattle.chain.specs.Word.{hasField, column, refersTo}
 use Rattle.program.specs.declared.location.Located.{Located}
-use Rattle.program.specs.Program.{Target, own, remote, Rule, fieldOf}
+use Rattle.program.specs.Program.{Target, own, remote, Rule, targetField}
 use Rattle.laws.specs.Lists.{Each}
-use Rattle.program.specs.Stored.{targetOf}
+use Rattle.program.specs.Stored.{targetIn}
 use Rattle.machine.specs.Local.{offends, localRule, localRecords, sumOffends}
 use Rattle.step_terms.specs.Found.{followed, RuleReads}
-use Rattle.step_cells.specs.Work.{Holds, Same, Small}
+use Rattle.step_cells.specs.Work.{HoldsCells, Same, Small}
 use Rattle.step_cells.specs.declared.stop.Stop.{Stop}
 use Rattle.step_cells.specs.declared.stop.Stop.the-variants.{Nowhere, At}
 
@@ -26,25 +26,25 @@ Targets n read (own f) = Unit {0}
 Targets n read (remote k f c) = refersTo n (read c) ≡ true
 
 -- a rule that every record can run: over these cells and these places of lines
-pub record Ready (s : Sizes) (cells : List Cell) (values : List ℤ) (marks : List ℕ) (x : Located) : Type 0 where
+pub record RuleReady (s : Sizes) (cells : List Cell) (values : List ℤ) (marks : List ℕ) (x : Located) : Type 0 where
   pub found : (u : ℕ) → u < s .records → RuleReads s cells values marks u x
-  pub field : hasField s (fieldOf (targetOf (x .slot .rule))) ≡ true
-  pub targets : (u : ℕ) → u < s .records → Targets (s .records) (followed s cells u) (targetOf (x .slot .rule))
+  pub field : hasField s (targetField (targetIn (x .slot .rule))) ≡ true
+  pub targets : (u : ℕ) → u < s .records → Targets (s .records) (followed s cells u) (targetIn (x .slot .rule))
 
 abbrev pub AllReady : Sizes → List Cell → List ℤ → List ℕ → List Located → Type 0
-AllReady s cells values marks xs = Each (Ready s cells values marks) xs
+AllReady s cells values marks xs = Each (RuleReady s cells values marks) xs
 
 -- what is left by one local rule at record u
 pub record RuleDone (s : Sizes) (cells : List Cell) (base u : ℕ) (r : Rule) (values : List ℤ) (marks : List ℕ)
     (values′ : List ℤ) (marks′ : List ℕ) : Type 0 where
   pub in-range : offends (followed s cells u) r ≡ false
-  pub holds : (d : List Cell) → length d ≡ cellCount s → Holds base d values marks → Holds base (localRule s (followed s cells u) u r d) values′ marks′
+  pub holds : (d : List Cell) → length d ≡ cellCount s → HoldsCells base d values marks → HoldsCells base (localRule s (followed s cells u) u r d) values′ marks′
   pub small : Small 2147483648 base (cellCount s) values marks → Small 2147483648 base (cellCount s) values′ marks′
 
 -- where it stops instead
 pub record RuleStops (s : Sizes) (cells : List Cell) (u : ℕ) (r : Rule) (v c : ℕ) : Type 0 where
   pub row : v ≡ u
-  pub column-is : c ≡ column s (fieldOf (r .target))
+  pub column-is : c ≡ column s (targetField (r .target))
   pub out-of-range : offends (followed s cells u) r ≡ true
 
 abbrev pub LocalRule : Sizes → List Cell → ℕ → ℕ → Rule → List ℤ → List ℕ → List ℤ → List ℕ → Stop → Type 0
@@ -55,7 +55,7 @@ LocalRule s cells base u r values marks values′ marks′ (At v c) = Same base 
 pub record LocalDone (s : Sizes) (cells : List Cell) (base : ℕ) (rs : List Rule) (n : ℕ) (values : List ℤ) (marks : List ℕ)
     (values′ : List ℤ) (marks′ : List ℕ) : Type 0 where
   pub in-range : (u c : ℕ) → u < n → sumOffends s (followed s cells u) rs c ≡ false
-  pub holds : (d : List Cell) → length d ≡ cellCount s → Holds base d values marks → Holds base (localRecords s (followed s cells) rs n d) values′ marks′
+  pub holds : (d : List Cell) → length d ≡ cellCount s → HoldsCells base d values marks → HoldsCells base (localRecords s (followed s cells) rs n d) values′ marks′
   pub small : Small 2147483648 base (cellCount s) values marks → Small 2147483648 base (cellCount s) values′ marks′
 
 -- where they stop instead

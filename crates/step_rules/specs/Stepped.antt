@@ -11,13 +11,13 @@ use Rattle.chain.specs.declared.reading.Reading.{Reading}
 use Rattle.program.specs.Program.{Rule}
 use Rattle.machine.specs.Remote.{recordMessages}
 use Rattle.machine.specs.Step.{stepCells, offendsAt, stops}
-use Rattle.step_cells.specs.Work.{Holds}
+use Rattle.step_cells.specs.Work.{HoldsCells}
 
 -- a step that goes through: the file and the working cells hold the cells behind it, and it has sent n messages
 pub record GoesThrough (s : Sizes) (read : ℕ → List ℕ → Reading) (rs : List Rule) (file file′ : List ℕ) (base : ℕ)
     (values : List ℤ) (marks : List ℕ) (n : ℕ) : Type 0 where
   pub file-is : file′ ≡ fileOf s (stepCells s read rs (cellsOfFile s file))
-  pub holds : Holds base (stepCells s read rs (cellsOfFile s file)) values marks
+  pub holds : HoldsCells base (stepCells s read rs (cellsOfFile s file)) values marks
   pub sent-is : n ≡ length (recordMessages read rs (s .records))
   pub stops-not : stops s read rs (cellsOfFile s file) ≡ false
 

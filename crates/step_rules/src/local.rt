@@ -7,9 +7,9 @@ ghost use Rattle.register.specs.Cells.{cellOf};
 ghost use Rattle.register.specs.File.{cellCount, cellIndex, cellsOfFile};
 ghost use Rattle.register.specs.Shape.{Limits};
 ghost use Rattle.chain.specs.Word.{hasField, column as columnOf};
-ghost use Rattle.program.specs.Stored.{ruleOf};
+ghost use Rattle.program.specs.Stored.{ruleIn};
 ghost use Rattle.step_cells.specs.Work.{Room, Put};
-ghost use Rattle.step_rules.specs.Ready.{Ready, LocalRule};
+ghost use Rattle.step_rules.specs.Ready.{RuleReady, LocalRule};
 use chain::follow;
 use program::location::Located;
 use register::Sizes;
@@ -49,8 +49,8 @@ pub fn apply_rule(
     rule: Located,
 ) -> Stop
     requires { ⌜ Limits sizes × (length (now out) ≡ 12 + 5 * cellCount sizes) × (u < sizes .records) × Room base (cellCount sizes) (now values) (now marks) ⌝ }
-    requires { ⌜ Ready sizes (cellsOfFile sizes (now out)) (take base (now values)) (take base (now marks)) rule ⌝ }
-    ensures { λ r. ⌜ LocalRule sizes (cellsOfFile sizes (now (out .entry))) base u (ruleOf (rule .slot)) (now (values .entry)) (now (marks .entry)) (now (values .exit)) (now (marks .exit)) r ⌝ }
+    requires { ⌜ RuleReady sizes (cellsOfFile sizes (now out)) (take base (now values)) (take base (now marks)) rule ⌝ }
+    ensures { λ r. ⌜ LocalRule sizes (cellsOfFile sizes (now (out .entry))) base u (ruleIn (rule .slot)) (now (values .entry)) (now (marks .entry)) (now (values .exit)) (now (marks .exit)) r ⌝ }
 {
     match stored::local_write(
         cells::values_part(out, sizes),

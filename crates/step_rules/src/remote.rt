@@ -7,7 +7,7 @@ ghost use Rattle.register.specs.File.{cellCount, cellsOfFile};
 ghost use Rattle.register.specs.Shape.{Limits, Parts};
 ghost use Rattle.program.specs.Stored.{rulesIn};
 ghost use Rattle.step_cells.specs.Work.{Room, Small};
-ghost use Rattle.step_rules.specs.Ready.{Ready, AllReady};
+ghost use Rattle.step_rules.specs.Ready.{RuleReady, AllReady};
 ghost use Rattle.step_rules.specs.Delivered.{RuleDelivered, Delivered};
 use program::location::Located;
 use register::Sizes;
@@ -28,7 +28,7 @@ fn apply_rule(
     rule: Located,
 ) -> usize
     requires { ⌜ Parts sizes (now cells) (now filled) × (u < sizes .records) × Room base (length (now filled)) (now values) (now marks) ⌝ }
-    requires { ⌜ Ready sizes (cellsOf (now cells) (now filled)) (take base (now values)) (take base (now marks)) rule ⌝ }
+    requires { ⌜ RuleReady sizes (cellsOf (now cells) (now filled)) (take base (now values)) (take base (now marks)) rule ⌝ }
     requires { ⌜ Small 4611686018427387904 base (length (now filled)) (now values) (now marks) ⌝ }
     ensures { λ r. ⌜ RuleDelivered sizes (cellsOf (now (cells .entry)) (now (filled .entry))) base u rule (now (values .entry)) (now (marks .entry)) (now (values .exit)) (now (marks .exit)) r ⌝ }
 {

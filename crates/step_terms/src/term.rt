@@ -3,7 +3,7 @@ ghost use mathlib.Core.Path.{_≡_};
 ghost use Prim.Native.Nat.{_<_};
 ghost use Rattle.register.specs.Cells.{cellsOf};
 ghost use Rattle.register.specs.Shape.{Parts};
-ghost use Rattle.program.specs.Stored.{termOf, testOf};
+ghost use Rattle.program.specs.Stored.{termIn, testIn};
 ghost use Rattle.machine.specs.Value.{value, compare as compareOf, holds as holdsIn, compareReadings};
 ghost use Rattle.step_terms.specs.Found.{foundAt, Reaches, readsOf, TermFound, TestFound};
 use chain::follow;
@@ -49,7 +49,7 @@ pub fn term_value(
     at: Location,
 ) -> Reading
     requires { ⌜ Parts sizes (now cells) (now filled) × (u < sizes .records) × TermFound sizes (cellsOf (now cells) (now filled)) (now values) (now marks) u at term ⌝ }
-    ensures { λ r. ⌜ r ≡ value (readsOf sizes (now (cells .entry)) (now (filled .entry)) u) (termOf term) ⌝ }
+    ensures { λ r. ⌜ r ≡ value (readsOf sizes (now (cells .entry)) (now (filled .entry)) u) (termIn term) ⌝ }
 {
     match term {
         Term::Chain(_) => found_at(cells, filled, values, marks, sizes, u, at),
@@ -91,7 +91,7 @@ pub fn holds(
     at: Places,
 ) -> bool
     requires { ⌜ Parts sizes (now cells) (now filled) × (u < sizes .records) × TestFound sizes (cellsOf (now cells) (now filled)) (now values) (now marks) u at test ⌝ }
-    ensures { λ r. ⌜ r ≡ holdsIn (readsOf sizes (now (cells .entry)) (now (filled .entry)) u) (testOf test) ⌝ }
+    ensures { λ r. ⌜ r ≡ holdsIn (readsOf sizes (now (cells .entry)) (now (filled .entry)) u) (testIn test) ⌝ }
 {
     match test {
         Test::Always => true,

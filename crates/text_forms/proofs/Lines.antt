@@ -21,7 +21,7 @@ use Rattle.program.specs.declared.rule.Sort.{Sort}
 use Rattle.program.specs.declared.rule.Sort.the-variants.{Least, Total}
 use Rattle.text_forms.specs.Token.{Token, capital, then, word, or, finished}
 use Rattle.text_forms.specs.Term.{printedTerm, ProperTerm, termForm}
-use Rattle.text_forms.specs.Line.{made, comparisonText, operatorText, sortText, printedAction, printedLine, ProperAction, Proper, assigned, localForm, sent, remoteForm, actionForm, ruleOf, compared, testedForm, lineForm}
+use Rattle.text_forms.specs.Line.{made, comparisonText, operatorText, sortText, printedAction, printedLine, ProperAction, Proper, assigned, localForm, sentForms, remoteForm, actionForm, ruleLine, compared, testedForm, lineForm}
 use Rattle.text_forms.proofs.Tokens.{All, all-some, then-all, or-all, finished-all, word-all, capital-is, capital-read, capital-word}
 use Rattle.text_forms.proofs.Terms.{term-spelled, printed-term}
 
@@ -59,7 +59,7 @@ local-spelled t =
 
 -- a remote rule behind `remote `
 remote-spelled : (r : List ℕ) (f : C.Form) → C.form r ≡ f → All (SpelledAction (bytes "remote " ++ r)) (remoteForm f)
-unfolding remoteForm sent printedAction
+unfolding remoteForm sentForms printedAction
 remote-spelled r C.unformed e = tt
 remote-spelled r (C.formed [] s) e = tt
 remote-spelled r (C.formed (f ∷ c) s) e =
@@ -76,8 +76,8 @@ action-spelled t =
     let P : Action → Type 0 = SpelledAction t in
     or-all P _ _ (word-all P (bytes "remote ") t _ (λ r e. rw e (remote-spelled r (C.form r) refl))) (local-spelled t)
 
-rule-all : (P : Line → Type 0) (Q : Action → Type 0) (c : Condition) (o : Option Action) → All Q o → ((a : Action) → Q a → P (rule c a)) → All P (ruleOf c o)
-unfolding ruleOf
+rule-all : (P : Line → Type 0) (Q : Action → Type 0) (c : Condition) (o : Option Action) → All Q o → ((a : Action) → Q a → P (rule c a)) → All P (ruleLine c o)
+unfolding ruleLine
 rule-all P Q c none h k = tt
 rule-all P Q c (some a) h k = k a h
 
@@ -145,12 +145,12 @@ assign-read f x r h p e =
 
 -- `remote F[C]` is read
 target-read : (f : ℕ) (c r : List ℕ) → every isCapital (f ∷ c) ≡ true
-    → actionForm (bytes "remote " ++ (printed (f ∷ c) ++ r)) ≡ or (sent f c r) (localForm (bytes "remote " ++ (printed (f ∷ c) ++ r)))
+    → actionForm (bytes "remote " ++ (printed (f ∷ c) ++ r)) ≡ or (sentForms f c r) (localForm (bytes "remote " ++ (printed (f ∷ c) ++ r)))
 unfolding actionForm word remoteForm
 target-read f c r h = rw (printed-form (f ∷ c) r h)
 
 action-read : (a : Action) → ProperAction a → actionForm (printedAction a) ≡ some a
-unfolding printedAction assigned sent or finished word digits isDigit
+unfolding printedAction assigned sentForms or finished word digits isDigit
 action-read (set f x) p = ap (λ (l : List ℕ). actionForm (f ∷ (bytes "[u] := " ++ l))) (sym (append-nil (printedTerm x))) ∙ assign-read f x [] (p .0) (p .1) refl
 action-read (combine f Plus x y) p = assign-read f x (operatorText Plus ++ printedTerm y) (p .0) (p .1) refl ∙ rw (last-read (combine f Plus x) y (p .2))
 action-read (combine f Minus x y) p = assign-read f x (operatorText Minus ++ printedTerm y) (p .0) (p .1) refl ∙ rw (last-read (combine f Minus x) y (p .2))
@@ -160,7 +160,7 @@ action-read (remote Total f c x) p = target-read f c (sortText Total ++ printedT
 -- a test is read
 module _ (x y : Term) (a : Action) (px : ProperTerm x) (py : ProperTerm y) (pa : ProperAction a) where
   compared-read : (c : Comparison) → compared x c (comparisonText c ++ (printedTerm y ++ (bytes ": " ++ printedAction a))) ≡ some (rule (when x c y) a)
-  unfolding compared word then digits isDigit ruleOf
+  unfolding compared word then digits isDigit ruleLine
   compared-read Less = rw (printed-term y (bytes ": " ++ printedAction a) py refl, action-read a pa)
   compared-read Equal = rw (printed-term y (bytes ": " ++ printedAction a) py refl, action-read a pa)
   compared-read Unequal = rw (printed-term y (bytes ": " ++ printedAction a) py refl, action-read a pa)
@@ -172,7 +172,7 @@ module _ (x y : Term) (a : Action) (px : ProperTerm x) (py : ProperTerm y) (pa :
   tested-read Unequal = rw (printed-term x (comparisonText Unequal ++ (printedTerm y ++ (bytes ": " ++ printedAction a))) px refl) (rw (compared-read Unequal))
 
 -- a line that begins with a capital is a rule
-capital-line : (f : ℕ) (t : List ℕ) → isCapital f ≡ true → lineForm (f ∷ t) ≡ ruleOf always (actionForm (f ∷ t))
+capital-line : (f : ℕ) (t : List ℕ) → isCapital f ≡ true → lineForm (f ∷ t) ≡ ruleLine always (actionForm (f ∷ t))
 unfolding lineForm or
 capital-line f t h =
     rw (
@@ -183,7 +183,7 @@ capital-line f t h =
       capital-word f 105 (bytes "f ") t testedForm h (omega arith),
     )
 
-rule-line : (a : Action) → ProperAction a → lineForm (printedAction a) ≡ ruleOf always (actionForm (printedAction a))
+rule-line : (a : Action) → ProperAction a → lineForm (printedAction a) ≡ ruleLine always (actionForm (printedAction a))
 unfolding printedAction lineForm or word
 rule-line (set f x) p = capital-line f _ (p .0)
 rule-line (combine f op x y) p = capital-line f _ (p .0)
@@ -191,7 +191,7 @@ rule-line (remote k f c x) p = refl
 
 -- and the printed text of a proper line has that line's form
 pub printed-line : (l : Line) → Proper l → lineForm (printedLine l) ≡ some l
-unfolding printedLine lineForm or word then finished ruleOf
+unfolding printedLine lineForm or word then finished ruleLine
 printed-line step p = refl
 printed-line end p = refl
 printed-line done p = refl

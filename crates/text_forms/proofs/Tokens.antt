@@ -10,7 +10,7 @@ use lib.Dec.{eqb, leb}
 use lib.ListN.{length, drop}
 use Rattle.chain_text.specs.Text.{isCapital}
 use Rattle.laws.proofs.Bools.{and-both}
-use Rattle.text_forms.specs.Token.{begins, Token, token, other, capital, then, word, or, finished}
+use Rattle.text_forms.specs.Token.{opensWith, Token, token, other, capital, then, word, or, finished}
 
 -- P holds of the answer, if there is one
 abbrev pub All : {A : Type 0} → (A → Type 0) → Option A → Type 0
@@ -46,13 +46,13 @@ word-all P (b ∷ w) (d ∷ t) f k = go (word-all P w t f) (eqb d b) refl
     go ih false e = tt
 
 -- a word by a test, and what stands behind it
-pub word-begins : {A : Type 0} (w t : List ℕ) (f : List ℕ → Option A) → word w t f ≡ cond (begins w t) (f (drop (length w) t)) none
-unfolding word begins
+pub word-begins : {A : Type 0} (w t : List ℕ) (f : List ℕ → Option A) → word w t f ≡ cond (opensWith w t) (f (drop (length w) t)) none
+unfolding word opensWith
 word-begins [] t f = refl
 word-begins (b ∷ w) [] f = refl
 word-begins (b ∷ w) (d ∷ t) f = go (word-begins w t f) (eqb d b)
   where
-    go : word w t f ≡ cond (begins w t) (f (drop (length w) t)) none → (x : Bool) → cond x (word w t f) none ≡ cond (x && begins w t) (f (drop (length w) t)) none
+    go : word w t f ≡ cond (opensWith w t) (f (drop (length w) t)) none → (x : Bool) → cond x (word w t f) none ≡ cond (x && opensWith w t) (f (drop (length w) t)) none
     go ih true = ih
     go ih false = refl
 

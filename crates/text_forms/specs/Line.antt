@@ -89,27 +89,27 @@ abbrev pub sentForm : ℕ → List ℕ → Sort → List ℕ → Option Action
 sentForm f c k t = made (remote k f c) (sortText k) t
 
 -- behind `remote F[C]`
-unfoldable pub sent : ℕ → List ℕ → List ℕ → Option Action
-sent f c t = or (sentForm f c Least t) (sentForm f c Total t)
+unfoldable pub sentForms : ℕ → List ℕ → List ℕ → Option Action
+sentForms f c t = or (sentForm f c Least t) (sentForm f c Total t)
 
 -- behind `remote `: `F[C]` is the text of a chain whose outermost letter is F
 unfoldable pub remoteForm : C.Form → Option Action
 remoteForm C.unformed = none
 remoteForm (C.formed [] r) = none
-remoteForm (C.formed (f ∷ c) r) = sent f c r
+remoteForm (C.formed (f ∷ c) r) = sentForms f c r
 
 -- a rule without its test
 unfoldable pub actionForm : List ℕ → Option Action
 actionForm t = or (word (bytes "remote ") t (λ r. remoteForm (C.form r))) (localForm t)
 
 -- a rule with this test, where there is one
-unfoldable pub ruleOf : Condition → Option Action → Option Line
-ruleOf c none = none
-ruleOf c (some a) = some (rule c a)
+unfoldable pub ruleLine : Condition → Option Action → Option Line
+ruleLine c none = none
+ruleLine c (some a) = some (rule c a)
 
 -- behind `if X`, with this comparison
 unfoldable pub compared : Term → Comparison → List ℕ → Option Line
-compared x c t = word (comparisonText c) t (λ r. then (termForm r) (λ y r. word (bytes ": ") r (λ r. ruleOf (when x c y) (actionForm r))))
+compared x c t = word (comparisonText c) t (λ r. then (termForm r) (λ y r. word (bytes ": ") r (λ r. ruleLine (when x c y) (actionForm r))))
 
 -- behind `if `
 unfoldable pub testedForm : List ℕ → Option Line
@@ -123,4 +123,4 @@ lineForm t =
     (or (word (bytes "done") t (finished done))
     (or (word (bytes "loop ") t (λ r. then (capital r) (λ f. finished (loop f))))
     (or (word (bytes "if ") t testedForm)
-    (ruleOf always (actionForm t))))))
+    (ruleLine always (actionForm t))))))

@@ -70,15 +70,15 @@ isReferenceTerm (chain []) = true
 isReferenceTerm (chain (l ∷ ls)) = isReferenceLetter l
 isReferenceTerm (number negative ds) = false
 
--- whether two kinds are the same
-unfoldable pub same : Bool → Bool → Bool
-same true b = b
-same false b = not b
+-- whether two kinds are the sameKind
+unfoldable pub sameKind : Bool → Bool → Bool
+sameKind true b = b
+sameKind false b = not b
 
--- "Both sides of a rule or test have the same kind"
+-- "Both sides of a rule or test have the sameKind kind"
 unfoldable pub conditionKinds : Condition → Bool
 conditionKinds always = true
-conditionKinds (when x c y) = same (isReferenceTerm x) (isReferenceTerm y)
+conditionKinds (when x c y) = sameKind (isReferenceTerm x) (isReferenceTerm y)
 
 -- whether a field and a term are measures
 unfoldable pub areMeasures : ℕ → Term → Bool
@@ -86,9 +86,9 @@ areMeasures f x = not (isReferenceLetter f) && not (isReferenceTerm x)
 
 -- "`+`, `-` and `+=` take measures only"; "C a chain of reference kind"
 unfoldable pub actionKinds : Action → Bool
-actionKinds (set f x) = same (isReferenceLetter f) (isReferenceTerm x)
+actionKinds (set f x) = sameKind (isReferenceLetter f) (isReferenceTerm x)
 actionKinds (combine f op x y) = areMeasures f x && areMeasures f y
-actionKinds (remote Least f c x) = isReferenceTerm (chain c) && same (isReferenceLetter f) (isReferenceTerm x)
+actionKinds (remote Least f c x) = isReferenceTerm (chain c) && sameKind (isReferenceLetter f) (isReferenceTerm x)
 actionKinds (remote Total f c x) = isReferenceTerm (chain c) && areMeasures f x
 
 -- whether the kinds of a line's sides agree

@@ -12,15 +12,15 @@ use lib.Seq.{drop-drop}
 use Rattle.laws.proofs.Bools.{and-true, and-false}
 use Rattle.register.specs.declared.Sizes.{Sizes}
 use Rattle.chain_text.specs.Text as C
-use Rattle.chain_text.specs.Text.{names, fieldOf}
+use Rattle.chain_text.specs.Text.{names, letterField}
 use Rattle.text_forms.specs.Bytes.{bytes}
 use Rattle.text_forms.specs.Written as W
-use Rattle.text_forms.specs.Token.{other, capital, then, word, or, finished, begins}
+use Rattle.text_forms.specs.Token.{other, capital, then, word, or, finished, opensWith}
 use Rattle.text_forms.specs.Term.{termForm}
-use Rattle.text_forms.specs.Line.{localForm, actionForm, ruleOf, compared, testedForm, lineForm}
+use Rattle.text_forms.specs.Line.{localForm, actionForm, ruleLine, compared, testedForm, lineForm}
 use Rattle.text_forms.specs.Parts.{terms, conditionTerms, actionTerms, everyTerm, fieldNamed, named, kindsAgree, kinded, short, numbersInRange, conditionKinds, actionKinds, termNamed, termKinded, termShort, termInRange, target}
 use Rattle.text_terms.specs.Read.{partsOf}
-use Rattle.text_local.specs.ActionRead.{bothChecks, termsChecks, ruleChecks, actionChecks, ruleOfAction, actionRead, testOf}
+use Rattle.text_local.specs.ActionRead.{bothChecks, termsChecks, ruleChecks, actionChecks, packedRule, actionRead, packedTest}
 use Rattle.text_line.specs.LineRead.{lineChecks, lineRead, conditionParts, alwaysParts, whenParts, ruleRead, unequalRead, equalRead, comparisonRead, comparedForm, ruledForm, loopForm, openForm, isWord}
 use Rattle.text_terms.specs.declared.term.Checks.{Checks}
 use Rattle.text_terms.specs.declared.term.TermParts.{TermParts}
@@ -74,32 +74,32 @@ rule-checks s c a =
     (every-both termShort xs ys)
     (every-both termInRange xs ys)
 
-pub rule-read : (s : Sizes) {p : TestParts} (c : W.Condition) (o : Option W.Action) → p ≡ conditionParts s c → ruleRead p (actionRead s o) ≡ lineRead s (ruleOf c o)
-unfolding ruleRead actionRead lineRead ruleOf conditionParts
+pub rule-read : (s : Sizes) {p : TestParts} (c : W.Condition) (o : Option W.Action) → p ≡ conditionParts s c → ruleRead p (actionRead s o) ≡ lineRead s (ruleLine c o)
+unfolding ruleRead actionRead lineRead ruleLine conditionParts
 rule-read s c none e = refl
-rule-read s c (some a) e = rw e (ap (Rule (record { test = testOf c; rule = ruleOfAction a })) (rule-checks s c a))
+rule-read s c (some a) e = rw e (ap (Rule (record { test = packedTest c; rule = packedRule a })) (rule-checks s c a))
 
 -- tests
 pub when-parts : (s : Sizes) (p : TermParts) (c : Comparison) (q : TermParts) (x y : W.Term) → p ≡ partsOf s x → q ≡ partsOf s y
     → whenParts p c q ≡ conditionParts s (W.when x c y)
-unfolding whenParts conditionParts testOf conditionKinds conditionTerms partsOf
+unfolding whenParts conditionParts packedTest conditionKinds conditionTerms partsOf
 when-parts s p c q x y e h = rw (e, h, checks-two s x y)
 
 pub always-parts : (s : Sizes) → alwaysParts ≡ conditionParts s W.always
-unfolding alwaysParts conditionParts testOf ruleChecks conditionKinds termsChecks conditionTerms everyTerm
+unfolding alwaysParts conditionParts packedTest ruleChecks conditionKinds termsChecks conditionTerms everyTerm
 always-parts s = refl
 
 -- comparisons
 module _ (t : List ℕ) (at : ℕ) where
-  pub unequal-none : begins (bytes " != ") (drop at t) ≡ false → unequalRead at (drop at t) ≡ NoComparison
+  pub unequal-none : opensWith (bytes " != ") (drop at t) ≡ false → unequalRead at (drop at t) ≡ NoComparison
   unfolding unequalRead
   unequal-none e = simp e
 
-  pub equal-none : begins (bytes " == ") (drop at t) ≡ false → equalRead at (drop at t) ≡ unequalRead at (drop at t)
+  pub equal-none : opensWith (bytes " == ") (drop at t) ≡ false → equalRead at (drop at t) ≡ unequalRead at (drop at t)
   unfolding equalRead
   equal-none e = simp e
 
-  pub less-none : begins (bytes " < ") (drop at t) ≡ false → comparisonRead at (drop at t) ≡ equalRead at (drop at t)
+  pub less-none : opensWith (bytes " < ") (drop at t) ≡ false → comparisonRead at (drop at t) ≡ equalRead at (drop at t)
   unfolding comparisonRead
   less-none e = simp e
 
@@ -145,9 +145,9 @@ unequal-sides x r = refl
 module _ (t : List ℕ) (at : ℕ) (x : W.Term) where
   pub sides-none : comparisonRead at (drop at t) ≡ NoComparison → sides x (drop at t) ≡ none
   unfolding comparisonRead equalRead unequalRead compared or
-  sides-none e = go (begins (bytes " < ") (drop at t)) refl (begins (bytes " == ") (drop at t)) refl (begins (bytes " != ") (drop at t)) refl e
+  sides-none e = go (opensWith (bytes " < ") (drop at t)) refl (opensWith (bytes " == ") (drop at t)) refl (opensWith (bytes " != ") (drop at t)) refl e
     where
-      go : (a : Bool) → begins (bytes " < ") (drop at t) ≡ a → (b : Bool) → begins (bytes " == ") (drop at t) ≡ b → (c : Bool) → begins (bytes " != ") (drop at t) ≡ c
+      go : (a : Bool) → opensWith (bytes " < ") (drop at t) ≡ a → (b : Bool) → opensWith (bytes " == ") (drop at t) ≡ b → (c : Bool) → opensWith (bytes " != ") (drop at t) ≡ c
           → cond a (At Less (at + 3)) (cond b (At Equal (at + 4)) (cond c (At Unequal (at + 4)) NoComparison)) ≡ NoComparison → sides x (drop at t) ≡ none
       go true a b hb c hc e = no-comparison (sym e)
       go false a true hb c hc e = no-comparison (sym e)
@@ -156,10 +156,10 @@ module _ (t : List ℕ) (at : ℕ) (x : W.Term) where
 
   pub sides-some : {c : Comparison} {end : ℕ} → comparisonRead at (drop at t) ≡ At c end → (sides x (drop at t) ≡ comparedForm x c (drop end t)) × (end ≤ length t)
   unfolding comparisonRead equalRead unequalRead
-  sides-some {c} {end} e = go (begins (bytes " < ") (drop at t)) refl (begins (bytes " == ") (drop at t)) refl (begins (bytes " != ") (drop at t)) refl e
+  sides-some {c} {end} e = go (opensWith (bytes " < ") (drop at t)) refl (opensWith (bytes " == ") (drop at t)) refl (opensWith (bytes " != ") (drop at t)) refl e
     where
       -- the place behind a word of this size, and what stands there
-      behind : (w : List ℕ) → begins w (drop at t) ≡ true → (d : Comparison) (n : ℕ) → length w ≡ n → 0 < n → At d (at + n) ≡ At c end
+      behind : (w : List ℕ) → opensWith w (drop at t) ≡ true → (d : Comparison) (n : ℕ) → length w ≡ n → 0 < n → At d (at + n) ≡ At c end
           → ((r : List ℕ) → sides x (w ++ r) ≡ comparedForm x d r)
           → (sides x (drop at t) ≡ comparedForm x c (drop end t)) × (end ≤ length t)
       behind w h d n k l e f =
@@ -170,7 +170,7 @@ module _ (t : List ℕ) (at : ℕ) (x : W.Term) where
           let size : length (drop at t) ≡ length w + length r = ap length text ∙ length-append w r in
           (ap (sides x) text ∙ f r ∙ ap₂ (comparedForm x) (same-comparison e) rest, omega (arith, place, size, length-drop at t))
 
-      go : (a : Bool) → begins (bytes " < ") (drop at t) ≡ a → (b : Bool) → begins (bytes " == ") (drop at t) ≡ b → (d : Bool) → begins (bytes " != ") (drop at t) ≡ d
+      go : (a : Bool) → opensWith (bytes " < ") (drop at t) ≡ a → (b : Bool) → opensWith (bytes " == ") (drop at t) ≡ b → (d : Bool) → opensWith (bytes " != ") (drop at t) ≡ d
           → cond a (At Less (at + 3)) (cond b (At Equal (at + 4)) (cond d (At Unequal (at + 4)) NoComparison)) ≡ At c end
           → (sides x (drop at t) ≡ comparedForm x c (drop end t)) × (end ≤ length t)
       go true a b hb d hd e = behind (bytes " < ") a Less 3 refl (omega arith) e (less-sides x)
@@ -186,13 +186,13 @@ module _ (s : Sizes) (t : List ℕ) (at : ℕ) (x : W.Term) (c : Comparison) whe
 
   module _ (p : TermParts) (end : ℕ) (q : TermTaken s t at p end) where
     abbrev rest-rule : List ℕ → Option W.Line
-    rest-rule r = ruleOf (W.when x c (q .written)) (actionForm r)
+    rest-rule r = ruleLine (W.when x c (q .written)) (actionForm r)
 
     compared-term : comparedForm x c (drop at t) ≡ word (bytes ": ") (drop end t) rest-rule
     unfolding comparedForm then
     compared-term = rw (q .stands)
 
-    pub compared-no-colon : begins (bytes ": ") (drop end t) ≡ false → lineRead s (comparedForm x c (drop at t)) ≡ NoLine
+    pub compared-no-colon : opensWith (bytes ": ") (drop end t) ≡ false → lineRead s (comparedForm x c (drop at t)) ≡ NoLine
     unfolding lineRead
     compared-no-colon e = ap (lineRead s) (compared-term ∙ word-refused rest-rule (bytes ": ") (drop end t) e)
 
@@ -218,25 +218,25 @@ module _ (s : Sizes) (t : List ℕ) (at : ℕ) where
     tested-compared e = tested-sides ∙ sides-some t end (q .written) e .0
 
 -- a rule, with a test or without; no rule begins with `if `
-action-if : (r : List ℕ) → ruleOf W.always (actionForm (bytes "if " ++ r)) ≡ none
-unfolding actionForm localForm capital then word or ruleOf C.isCapital
+action-if : (r : List ℕ) → ruleLine W.always (actionForm (bytes "if " ++ r)) ≡ none
+unfolding actionForm localForm capital then word or ruleLine C.isCapital
 action-if r = refl
 
 module _ (t : List ℕ) where
-  pub ruled-plain : begins (bytes "if ") t ≡ false → ruledForm t ≡ ruleOf W.always (actionForm t)
+  pub ruled-plain : opensWith (bytes "if ") t ≡ false → ruledForm t ≡ ruleLine W.always (actionForm t)
   unfolding or
   ruled-plain e = rw (word-refused testedForm (bytes "if ") t e)
 
   pub ruled-tested : (at : ℕ) → Taken t (bytes "if ") 0 at → ruledForm t ≡ testedForm (drop at t)
-  ruled-tested at p = or-word testedForm p (ap (λ (l : List ℕ). ruleOf W.always (actionForm l)) (begins-text (bytes "if ") t (p .stands)) ∙ action-if _)
+  ruled-tested at p = or-word testedForm p (ap (λ (l : List ℕ). ruleLine W.always (actionForm l)) (begins-text (bytes "if ") t (p .stands)) ∙ action-if _)
 
 -- a loop's first line; no rule begins with `loop `
 ruled-loop : (r : List ℕ) → ruledForm (bytes "loop " ++ r) ≡ none
-unfolding actionForm localForm capital then word or ruleOf C.isCapital
+unfolding actionForm localForm capital then word or ruleLine C.isCapital
 ruled-loop r = refl
 
 module _ (t : List ℕ) where
-  pub open-ruled : begins (bytes "loop ") t ≡ false → openForm t ≡ ruledForm t
+  pub open-ruled : opensWith (bytes "loop ") t ≡ false → openForm t ≡ ruledForm t
   unfolding or
   open-ruled e = rw (word-refused loopForm (bytes "loop ") t e)
 
@@ -257,7 +257,7 @@ module _ (s : Sizes) (t : List ℕ) (at : ℕ) where
     unfolding lineRead
     loop-goes-on h = ap (lineRead s) (loop-letter ∙ finished-more (W.loop l) t (at + 1) h)
 
-    pub loop-field : length t ≤ at + 1 → lineRead s (loopForm (drop at t)) ≡ Loop (fieldOf l) (names s l)
+    pub loop-field : length t ≤ at + 1 → lineRead s (loopForm (drop at t)) ≡ Loop (letterField l) (names s l)
     unfolding lineRead
     loop-field h = ap (lineRead s) (loop-letter ∙ finished-end (W.loop l) t (at + 1) h)
 
@@ -267,23 +267,23 @@ module _ (w t : List ℕ) where
   unfolding isWord
   word-whole end p = let e : end ≡ length w = omega (arith, p .place) in ap (λ (n : ℕ). eqb n (length t)) e ∙ and-true (eqb (length w) (length t)) (p .stands)
 
-  pub word-not : begins w t ≡ false → isWord w t ≡ false
+  pub word-not : opensWith w t ≡ false → isWord w t ≡ false
   unfolding isWord
   word-not e = sym (and-false (eqb (length w) (length t)) e) ∙ e
 
   module _ {A : Type 0} (a : A) where
     word-by : word w t (finished a) ≡ cond (isWord w t) (some a) none
     unfolding isWord
-    word-by = word-begins w t (finished a) ∙ go (begins w t) refl
+    word-by = word-begins w t (finished a) ∙ go (opensWith w t) refl
       where
-        whole : begins w t ≡ true → (x : Bool) → eqb (length w) (length t) ≡ x → finished a (drop (length w) t) ≡ cond x (some a) none
+        whole : opensWith w t ≡ true → (x : Bool) → eqb (length w) (length t) ≡ x → finished a (drop (length w) t) ≡ cond x (some a) none
         whole h true e = finished-end a t (length w) (omega (arith, eqb-true (length w) (length t) e))
         whole h false e =
             let size : length t ≡ length w + length (drop (length w) t) = ap length (begins-text w t h) ∙ length-append w (drop (length w) t) in
             let no = eqb-false (length w) (length t) e in
             finished-more a t (length w) (omega (arith, size, no))
 
-        go : (x : Bool) → begins w t ≡ x → cond x (finished a (drop (length w) t)) none ≡ cond (x && eqb (length w) (length t)) (some a) none
+        go : (x : Bool) → opensWith w t ≡ x → cond x (finished a (drop (length w) t)) none ≡ cond (x && eqb (length w) (length t)) (some a) none
         go true h = whole h (eqb (length w) (length t)) refl
         go false h = refl
 

@@ -9,15 +9,15 @@ use lib.Dec.{eqb}
 use lib.ListN.{length, getD, drop, drop-of-length-le, length-drop}
 use lib.Seq.{drop-cons, drop-drop}
 use Rattle.register.specs.declared.Sizes.{Sizes}
-use Rattle.chain_text.specs.Text.{isCapital, fieldOf, names, isReferenceLetter}
+use Rattle.chain_text.specs.Text.{isCapital, letterField, names, isReferenceLetter}
 use Rattle.text_forms.specs.Written as W
-use Rattle.text_forms.specs.Token.{Token, token, other, capital, then, word, or, finished, begins}
+use Rattle.text_forms.specs.Token.{Token, token, other, capital, then, word, or, finished, opensWith}
 use Rattle.text_forms.specs.Bytes.{bytes}
 use Rattle.text_forms.specs.Term.{termForm}
 use Rattle.text_forms.specs.Line.{made, combinedForm, assigned, localForm}
-use Rattle.text_forms.specs.Parts.{same, target, actionKinds, areMeasures, actionTerms, everyTerm, termNamed, termKinded, termShort, termInRange}
+use Rattle.text_forms.specs.Parts.{sameKind, target, actionKinds, areMeasures, actionTerms, everyTerm, termNamed, termKinded, termShort, termInRange}
 use Rattle.text_terms.specs.Read.{partsOf, termChecks}
-use Rattle.text_local.specs.ActionRead.{letterRead, lastTerm, lastRead, bothChecks, termsChecks, ruleChecks, actionChecks, measured, ruleOfAction, actionRead}
+use Rattle.text_local.specs.ActionRead.{letterRead, lastTerm, lastRead, bothChecks, termsChecks, ruleChecks, actionChecks, measured, packedRule, actionRead}
 use Rattle.text_local.specs.declared.action.Letter.the-variants.{Capital, NoForm as NoLetter}
 use Rattle.text_local.specs.declared.action.LastRead.{LastRead}
 use Rattle.text_local.specs.declared.action.LastRead.the-variants.{Term, NoForm as NoTerm}
@@ -87,7 +87,7 @@ or-none (some a) = refl
 
 -- a word and what f reads behind it
 module _ {A : Type 0} (f : List ℕ → Option A) where
-  pub word-refused : (w t : List ℕ) → begins w t ≡ false → word w t f ≡ none
+  pub word-refused : (w t : List ℕ) → opensWith w t ≡ false → word w t f ≡ none
   word-refused w t e = word-begins w t f ∙ rw e
 
   pub word-taken : (t w : List ℕ) (at end : ℕ) → Taken t w at end → word w (drop at t) f ≡ f (drop end t)
@@ -108,7 +108,7 @@ finished-more a t end h = rw (drop-cons t end 0 h)
 
 -- a word, and behind it the term that ends the line
 module _ (s : Sizes) (t w : List ℕ) (at : ℕ) where
-  pub last-no-word : begins w (drop at t) ≡ false → lastRead s (lastTerm w (drop at t)) ≡ NoTerm
+  pub last-no-word : opensWith w (drop at t) ≡ false → lastRead s (lastTerm w (drop at t)) ≡ NoTerm
   unfolding lastTerm lastRead
   last-no-word e = ap (lastRead s) (word-refused (λ r. then (termForm r) finished) w (drop at t) e)
 
@@ -204,16 +204,16 @@ checks-two s x y = rw (and-one (termNamed s y), and-one (termKinded y), and-one 
 
 -- the answers for the rules, by the parts of their terms
 module _ (s : Sizes) (f : ℕ) (p : TermParts) (x : W.Term) (e : p ≡ partsOf s x) where
-  pub set-read : Action (Set (fieldOf f) (p .term)) (ruleChecks (names s f) (same (isReferenceLetter f) (p .reference)) (p .checks))
+  pub set-read : Action (Set (letterField f) (p .term)) (ruleChecks (names s f) (sameKind (isReferenceLetter f) (p .reference)) (p .checks))
       ≡ actionRead s (some (W.set f x))
-  unfolding actionRead ruleOfAction actionChecks target actionKinds actionTerms partsOf
+  unfolding actionRead packedRule actionChecks target actionKinds actionTerms partsOf
   set-read = rw (e, checks-one s x)
 
   pub combined-read : (op : Operator) (q : TermParts) (y : W.Term) → q ≡ partsOf s y
-      → Action (Combine (fieldOf f) op (p .term) (q .term))
+      → Action (Combine (letterField f) op (p .term) (q .term))
       (ruleChecks (names s f) (measured f (p .reference) && measured f (q .reference)) (bothChecks (p .checks) (q .checks)))
       ≡ actionRead s (some (W.combine f op x y))
-  unfolding actionRead ruleOfAction actionChecks target actionKinds areMeasures measured actionTerms partsOf
+  unfolding actionRead packedRule actionChecks target actionKinds areMeasures measured actionTerms partsOf
   combined-read op q y h = rw (e, h, checks-two s x y)
 
 no-action : {A : Type 0} {r : Rule} {k : Checks} → NoForm ≡ Action r k → A
@@ -258,7 +258,7 @@ module _ (t : List ℕ) (at : ℕ) where
     unfolding localForm then
     local-letter = rw (k .stands)
 
-    pub local-no-word : begins (bytes "[u] := ") (drop (at + 1) t) ≡ false → localForm (drop at t) ≡ none
+    pub local-no-word : opensWith (bytes "[u] := ") (drop (at + 1) t) ≡ false → localForm (drop at t) ≡ none
     local-no-word e = local-letter ∙ word-refused (λ r. then (termForm r) (assigned l)) (bytes "[u] := ") (drop (at + 1) t) e
 
     module _ (start : ℕ) (p : Taken t (bytes "[u] := ") (at + 1) start) where

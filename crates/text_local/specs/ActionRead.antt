@@ -7,12 +7,12 @@ use mathlib.Core.Option.{Option, none, some}
 use lib.ListN.{take}
 use Rattle.register.specs.declared.Sizes.{Sizes}
 use Rattle.chain.specs.Word.{pack}
-use Rattle.chain_text.specs.Text.{names, fieldOf, wordOf, isReferenceLetter}
+use Rattle.chain_text.specs.Text.{names, letterField, wordOf, isReferenceLetter}
 use Rattle.text_forms.specs.Written as W
 use Rattle.text_forms.specs.Token.{Token, token, other, then, word, finished}
 use Rattle.text_forms.specs.Term.{termForm}
 use Rattle.text_forms.specs.Parts.{everyTerm, termNamed, termKinded, termShort, termInRange, actionTerms, target, actionKinds}
-use Rattle.text_terms.specs.Read.{termOf, partsOf}
+use Rattle.text_terms.specs.Read.{packedTerm, partsOf}
 use Rattle.text_terms.specs.declared.term.Checks.{Checks}
 use Rattle.text_terms.specs.declared.term.TermParts.{TermParts}
 use Rattle.program.specs.declared.rule.Rule.{Rule}
@@ -61,15 +61,15 @@ abbrev pub packed : List ℕ → ℕ
 packed ls = pack (wordOf (take 16 ls))
 
 -- a rule as a program holds it
-unfoldable pub ruleOfAction : W.Action → Rule
-ruleOfAction (W.set f x) = Set (fieldOf f) (termOf x)
-ruleOfAction (W.combine f op x y) = Combine (fieldOf f) op (termOf x) (termOf y)
-ruleOfAction (W.remote k f c x) = Remote k (fieldOf f) (packed c) (termOf x)
+unfoldable pub packedRule : W.Action → Rule
+packedRule (W.set f x) = Set (letterField f) (packedTerm x)
+packedRule (W.combine f op x y) = Combine (letterField f) op (packedTerm x) (packedTerm y)
+packedRule (W.remote k f c x) = Remote k (letterField f) (packed c) (packedTerm x)
 
 -- the answer for a rule's form
 unfoldable pub actionRead : Sizes → Option W.Action → ActionRead
 actionRead s none = NoForm
-actionRead s (some a) = Action (ruleOfAction a) (actionChecks s a)
+actionRead s (some a) = Action (packedRule a) (actionChecks s a)
 
 -- the answer for a field letter
 unfoldable pub letterRead : Token ℕ → Letter
@@ -90,6 +90,6 @@ abbrev pub ForTerm : Sizes → TermParts → (W.Term → ActionRead) → ActionR
 ForTerm s p answer r = (w : W.Term) → p ≡ partsOf s w → r ≡ answer w
 
 -- a test as a program holds it
-unfoldable pub testOf : W.Condition → Test
-testOf W.always = Always
-testOf (W.when x c y) = When (termOf x) c (termOf y)
+unfoldable pub packedTest : W.Condition → Test
+packedTest W.always = Always
+packedTest (W.when x c y) = When (packedTerm x) c (packedTerm y)

@@ -6,7 +6,7 @@ ghost use lib.ListN.{length, drop};
 ghost use Rattle.register.specs.Shape.{Limits};
 ghost use Rattle.chain_text.specs.Text.{isCapital, names};
 ghost use Rattle.text_forms.specs.Token.{capital};
-ghost use Rattle.text_forms.specs.Parts.{same as sameKind};
+ghost use Rattle.text_forms.specs.Parts.{sameKind};
 ghost use Rattle.text_forms.specs.Line.{operatorText, combinedForm, assigned, localForm};
 ghost use Rattle.text_local.specs.declared.action.ActionRead.the-variants.{Action};
 ghost use Rattle.text_local.specs.ActionRead.{bothChecks, ruleChecks, lastTerm, lastRead, letterRead, measured, actionRead, ForTerm};

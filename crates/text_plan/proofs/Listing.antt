@@ -11,9 +11,9 @@ use Rattle.laws.proofs.Bools.{and-both}
 use Rattle.laws.proofs.Cases.{lt-or-le}
 use Rattle.chain.specs.Word.{unpack}
 use Rattle.chain.proofs.Packing.{unpack-none, unpack-last}
-use Rattle.plan_theory.specs.Plan.{Fact, read, place}
+use Rattle.plan_theory.specs.Plan.{Fact, read, lineIndex}
 use Rattle.plan_theory.proofs.Places.{place-le, place-append-listed}
-use Rattle.plan_theory.proofs.Lines.{Had}
+use Rattle.plan_theory.specs.Promise.{Had}
 use Rattle.plan_keys.proofs.Words.{hops-two}
 use Rattle.plan_lines.specs.Held.{settled, found}
 use Rattle.plan_lines.specs.declared.Found.the-variants.{At, Nothing}
@@ -38,24 +38,24 @@ module _ (l : List Fact) (n : ℕ) where
   unfolding locationOf
   chain-cell p h = rw (unpack-last n (omega arith) h)
 
-  pub chain-line : 16 < n → locationOf l (unpack n) ≡ Line (place l (read (unpack n)))
+  pub chain-line : 16 < n → locationOf l (unpack n) ≡ Line (lineIndex l (read (unpack n)))
   chain-line h = location-line l (unpack n) (hops-two n h)
 
 -- a line that is found, and none
 module _ (l : List Fact) (f : Fact) where
-  pub found-at : (i : ℕ) → found l f ≡ At i → (i ≡ place l f) × (i < length l)
+  pub found-at : (i : ℕ) → found l f ≡ At i → (i ≡ lineIndex l f) × (i < length l)
   found-at i e =
       ⊎-elim
-      (λ (h : place l f < length l). let q : i ≡ place l f = cc (found-old l f h) in (q, omega arith))
-      (λ (h : length l ≤ place l f). let z : _≡_ {A = ℕ} 0 1 = cc (found-new l f h) in absurd (omega arith))
-      (lt-or-le (place l f) (length l))
+      (λ (h : lineIndex l f < length l). let q : i ≡ lineIndex l f = cc (found-old l f h) in (q, omega arith))
+      (λ (h : length l ≤ lineIndex l f). let z : _≡_ {A = ℕ} 0 1 = cc (found-new l f h) in absurd (omega arith))
+      (lt-or-le (lineIndex l f) (length l))
 
-  pub found-none : found l f ≡ Nothing → length l ≡ place l f
+  pub found-none : found l f ≡ Nothing → length l ≡ lineIndex l f
   found-none e =
       ⊎-elim
-      (λ (h : place l f < length l). let z : _≡_ {A = ℕ} 0 1 = cc (found-old l f h) in absurd (omega arith))
-      (λ (h : length l ≤ place l f). omega (arith, place-le l f))
-      (lt-or-le (place l f) (length l))
+      (λ (h : lineIndex l f < length l). let z : _≡_ {A = ℕ} 0 1 = cc (found-old l f h) in absurd (omega arith))
+      (λ (h : length l ≤ lineIndex l f). omega (arith, place-le l f))
+      (lt-or-le (lineIndex l f) (length l))
 
 -- a word whose location is listed adds no line
 pub listed-settled : (l : List Fact) (w : List ℕ) → isListed (length l) (locationOf l w) ≡ true → settled l (read w) ≡ true
@@ -69,7 +69,7 @@ pub had-listed : (l : List Fact) (w : List ℕ) → Had l (read w) → isListed 
 unfolding isListed locationOf
 had-listed l [] h = refl
 had-listed l (f ∷ []) h = refl
-had-listed l (f ∷ g ∷ w) h = lt-ltb (place l (read (f ∷ g ∷ w))) (length l) (h (omega arith))
+had-listed l (f ∷ g ∷ w) h = lt-ltb (lineIndex l (read (f ∷ g ∷ w))) (length l) (h (omega arith))
 
 -- lines that are listed are so among more, and at the same locations
 module _ {n m : ℕ} (k : n ≤ m) where

@@ -10,7 +10,7 @@ use Rattle.laws.proofs.Bools.{and-both}
 use Rattle.laws.proofs.Cases.{lt-or-le}
 use Rattle.chain.specs.Word.{unpack}
 use Rattle.chain.proofs.Packing.{unpack-none}
-use Rattle.plan_theory.specs.Plan.{Fact, read, add, add-readings, plan}
+use Rattle.plan_theory.specs.Plan.{Fact, read, add, addReadings, plan}
 use Rattle.plan_theory.proofs.Lines.{add-none, readings-append, plan-more, plan-length}
 use Rattle.plan_lines.specs.Held.{facts, settled, Keyed, AddedTo}
 use Rattle.plan_lines.specs.declared.Plan.{Plan}
@@ -27,7 +27,7 @@ use Rattle.program.specs.declared.rule.Slot.{Slot}
 use Rattle.program.specs.declared.location.Pair.{Pair}
 use Rattle.program.specs.declared.location.Readings.{Readings}
 use Rattle.program.specs.Program.{expressionReadings, testReadings, targetReadings, ruleReadings}
-use Rattle.program.specs.Stored.{termOf, testOf, targetOf, expressionOf, ruleOf}
+use Rattle.program.specs.Stored.{termIn, testIn, targetIn, expressionIn, ruleIn}
 use Rattle.program.specs.Location.{chainIn, testChains, ruleChains, slotChains, locationOf, placesIn, locationsIn}
 use Rattle.text_plan.specs.Readings.{pairWords, words, Sound, PlannedWith}
 use Rattle.text_plan.specs.Listed.{isListed, areListed, allListed}
@@ -80,47 +80,47 @@ module _ (p : Added) (h : Sound p) (n : p .full ≡ false) where
 
 -- readings that add the same lines to any others
 abbrev SameLines : List (List ℕ) → List (List ℕ) → Type 0
-SameLines vs us = (l : List Fact) → add-readings l vs ≡ add-readings l us
+SameLines vs us = (l : List Fact) → addReadings l vs ≡ addReadings l us
 
 same-both : (vs us ws ts : List (List ℕ)) → SameLines vs us → SameLines ws ts → SameLines (vs ++ ws) (us ++ ts)
-same-both vs us ws ts h k l = readings-append l vs ws ∙ k (add-readings l vs) ∙ ap (λ (m : List Fact). add-readings m ts) (h l) ∙ sym (readings-append l us ts)
+same-both vs us ws ts h k l = readings-append l vs ws ∙ k (addReadings l vs) ∙ ap (λ (m : List Fact). addReadings m ts) (h l) ∙ sym (readings-append l us ts)
 
 -- the chain `u` adds none
 none-same : SameLines (unpack 0 ∷ []) []
-unfolding add-readings
+unfolding addReadings
 none-same l = rw unpack-none (add-none l (read []) (omega arith))
 
 module _ where
-  term-same : (t : Term) → SameLines (unpack (chainIn t) ∷ []) (expressionReadings (termOf t))
-  unfolding chainIn expressionReadings termOf
+  term-same : (t : Term) → SameLines (unpack (chainIn t) ∷ []) (expressionReadings (termIn t))
+  unfolding chainIn expressionReadings termIn
   term-same (Chain n) l = refl
   term-same (Number z) l = none-same l
 
-  terms-same : (x y : Term) → SameLines (unpack (chainIn x) ∷ unpack (chainIn y) ∷ []) (expressionReadings (termOf x) ++ expressionReadings (termOf y))
+  terms-same : (x y : Term) → SameLines (unpack (chainIn x) ∷ unpack (chainIn y) ∷ []) (expressionReadings (termIn x) ++ expressionReadings (termIn y))
   terms-same x y =
-      same-both (unpack (chainIn x) ∷ []) (expressionReadings (termOf x)) (unpack (chainIn y) ∷ []) (expressionReadings (termOf y)) (term-same x) (term-same y)
+      same-both (unpack (chainIn x) ∷ []) (expressionReadings (termIn x)) (unpack (chainIn y) ∷ []) (expressionReadings (termIn y)) (term-same x) (term-same y)
 
-  target-same : (c : ℕ) (x : Term) → SameLines (unpack c ∷ unpack (chainIn x) ∷ []) (unpack c ∷ expressionReadings (termOf x))
-  unfolding add-readings
+  target-same : (c : ℕ) (x : Term) → SameLines (unpack c ∷ unpack (chainIn x) ∷ []) (unpack c ∷ expressionReadings (termIn x))
+  unfolding addReadings
   target-same c x l = term-same x (add l (read (unpack c)))
 
-  test-same : (t : Test) → SameLines (pairWords (testChains t)) (testReadings (testOf t))
-  unfolding testChains testReadings testOf
+  test-same : (t : Test) → SameLines (pairWords (testChains t)) (testReadings (testIn t))
+  unfolding testChains testReadings testIn
   test-same Always = same-both (unpack 0 ∷ []) [] (unpack 0 ∷ []) [] none-same none-same
   test-same (When x c y) = terms-same x y
 
-  rule-same : (r : Rule) → SameLines (pairWords (ruleChains r)) (targetReadings (targetOf r) ++ expressionReadings (expressionOf r))
-  unfolding ruleChains targetReadings targetOf expressionOf expressionReadings
-  rule-same (Set f x) = λ (l : List Fact). same-both (unpack (chainIn x) ∷ []) (expressionReadings (termOf x)) (unpack 0 ∷ []) [] (term-same x) none-same l
-      ∙ ap (add-readings l) (append-nil (expressionReadings (termOf x)))
+  rule-same : (r : Rule) → SameLines (pairWords (ruleChains r)) (targetReadings (targetIn r) ++ expressionReadings (expressionIn r))
+  unfolding ruleChains targetReadings targetIn expressionIn expressionReadings
+  rule-same (Set f x) = λ (l : List Fact). same-both (unpack (chainIn x) ∷ []) (expressionReadings (termIn x)) (unpack 0 ∷ []) [] (term-same x) none-same l
+      ∙ ap (addReadings l) (append-nil (expressionReadings (termIn x)))
   rule-same (Combine f op x y) = terms-same x y
   rule-same (Remote k f c x) = target-same c x
 
 -- the plan with the chains of a rule in the array is that with the readings of the rule
-pub slot-plan : (ws : List (List ℕ)) (x : Slot) → plan (ws ++ words (slotChains x)) ≡ plan (ws ++ ruleReadings (ruleOf x))
-unfolding plan slotChains ruleReadings ruleOf
+pub slot-plan : (ws : List (List ℕ)) (x : Slot) → plan (ws ++ words (slotChains x)) ≡ plan (ws ++ ruleReadings (ruleIn x))
+unfolding plan slotChains ruleReadings ruleIn
 slot-plan ws x =
     readings-append [] ws (words (slotChains x))
-    ∙ same-both (pairWords (testChains (x .test))) (testReadings (testOf (x .test))) (pairWords (ruleChains (x .rule))) _
-    (test-same (x .test)) (rule-same (x .rule)) (add-readings [] ws)
-    ∙ sym (readings-append [] ws (ruleReadings (ruleOf x)))
+    ∙ same-both (pairWords (testChains (x .test))) (testReadings (testIn (x .test))) (pairWords (ruleChains (x .rule))) _
+    (test-same (x .test)) (rule-same (x .rule)) (addReadings [] ws)
+    ∙ sym (readings-append [] ws (ruleReadings (ruleIn x)))

@@ -6,7 +6,7 @@ use mathlib.Core.List.{List, [], _∷_, _++_}
 use lib.ListN.{length}
 use Rattle.chain.specs.Word.{unpack}
 use Rattle.plan_theory.specs.Plan.{plan}
-use Rattle.plan_lines.specs.Held.{facts, Keyed, Holds, Extended}
+use Rattle.plan_lines.specs.Held.{facts, Keyed, HoldsLines, Extended}
 use Rattle.plan_lines.specs.declared.Added.{Added}
 use Rattle.program.specs.declared.location.Pair.{Pair}
 use Rattle.program.specs.declared.location.Readings.{Readings}
@@ -26,7 +26,7 @@ Short vs = Each (λ (w : List ℕ). length w ≤ 16) vs
 -- a plan that can grow, unless it is full
 pub record Sound (p : Added) : Type 0 where
   pub keyed : Keyed (p .plan .keys) (p .plan .count)
-  pub holds : p .full ≡ false → Holds (p .plan) (facts (p .plan))
+  pub holds : p .full ≡ false → HoldsLines (p .plan) (facts (p .plan))
 
 -- whatever readings p is the plan of, r is the plan of those and these behind them
 pub record PlannedWith (p : Added) (vs : List (List ℕ)) (r : Added) : Type 0 where

@@ -4,7 +4,7 @@ ghost use mathlib.Core.Bool.{not, _&&_};
 ghost use Prim.Native.Nat.{_≤_};
 ghost use lib.ListN.{length};
 ghost use Rattle.chain.specs.Word.{unpack};
-ghost use Rattle.plan_lines.specs.Held.{facts-in, Keyed};
+ghost use Rattle.plan_lines.specs.Held.{factsIn, Keyed};
 ghost use Rattle.program.specs.Location.{slotChains, locationOf, placesIn, locationsIn};
 ghost use Rattle.text_plan.specs.Readings.{words, pairWords, Short};
 ghost use Rattle.text_plan.specs.Listed.{isListed, areListed, allListed, withLine, withLines, withWanted};
@@ -19,7 +19,7 @@ use program::rule::Slot;
 // A reading that has no line yet has the number of the next one.
 fn locate_chain(keys: &[u64; 64], count: usize, chain: u64) -> Location
     requires { ⌜ Keyed (now keys) count × (length (unpack chain) ≤ 16) ⌝ }
-    ensures { λ r. ⌜ r ≡ locationOf (facts-in (now (keys .entry)) count) (unpack chain) ⌝ }
+    ensures { λ r. ⌜ r ≡ locationOf (factsIn (now (keys .entry)) count) (unpack chain) ⌝ }
 {
     if chain == 0 {
         return Location::Own;
@@ -35,7 +35,7 @@ fn locate_chain(keys: &[u64; 64], count: usize, chain: u64) -> Location
 
 fn locate_pair(keys: &[u64; 64], count: usize, pair: Pair) -> Places
     requires { ⌜ Keyed (now keys) count × Short (pairWords pair) ⌝ }
-    ensures { λ r. ⌜ r ≡ placesIn (facts-in (now (keys .entry)) count) pair ⌝ }
+    ensures { λ r. ⌜ r ≡ placesIn (factsIn (now (keys .entry)) count) pair ⌝ }
 {
     Places {
         first: locate_chain(keys, count, pair.first),
@@ -46,7 +46,7 @@ fn locate_pair(keys: &[u64; 64], count: usize, pair: Pair) -> Places
 // Where the readings of a rule are found in a plan of these keys.
 pub fn locate(keys: &[u64; 64], count: usize, slot: Slot) -> Locations
     requires { ⌜ Keyed (now keys) count × Short (words (slotChains slot)) ⌝ }
-    ensures { λ r. ⌜ r ≡ locationsIn (facts-in (now (keys .entry)) count) (slotChains slot) ⌝ }
+    ensures { λ r. ⌜ r ≡ locationsIn (factsIn (now (keys .entry)) count) (slotChains slot) ⌝ }
 {
     let readings = readings::readings_of(slot);
     Locations {

@@ -6,7 +6,7 @@ ghost use mathlib.Core.List.{[], _∷_};
 ghost use Prim.Native.Nat.{_≤_};
 ghost use lib.ListN.{length};
 ghost use Rattle.chain.specs.Word.{unpack};
-ghost use Rattle.plan_lines.specs.Held.{Holds};
+ghost use Rattle.plan_lines.specs.Held.{HoldsLines};
 ghost use Rattle.program.specs.Location.{chainIn, testChains, ruleChains, slotChains};
 ghost use Rattle.text_plan.specs.Readings.{Sound, PlannedWith, words, pairWords, Short};
 use plan_lines::Added;
@@ -96,7 +96,7 @@ fn with_pair(step: Added, pair: Pair) -> Added
 
 // The plan of no reading.
 pub fn no_lines() -> Added
-    ensures { λ r. ⌜ (r .full ≡ false) × Holds (r .plan) [] ⌝ }
+    ensures { λ r. ⌜ (r .full ≡ false) × HoldsLines (r .plan) [] ⌝ }
 {
     Added {
         plan: Plan::empty(),

@@ -15,12 +15,12 @@ use Rattle.laws.proofs.Bools.{and-both, true-false}
 use Rattle.chain.specs.Word.{unpack}
 use Rattle.chain.proofs.Packing.{unpack-none}
 use Rattle.plan_theory.specs.Plan.{plan}
-use Rattle.plan_lines.specs.Held.{facts, Holds}
+use Rattle.plan_lines.specs.Held.{facts, HoldsLines}
 use Rattle.plan_lines.specs.declared.Added.{Added}
 use Rattle.plan_lines.proofs.Appending.{holds-count}
 use Rattle.text_forms.specs.Written as W
 use Rattle.text_forms.specs.Written.{Line, step, end, done, loop, rule}
-use Rattle.text_local.specs.ActionRead.{ruleOfAction}
+use Rattle.text_local.specs.ActionRead.{packedRule}
 use Rattle.text_local.specs.ActionRead as R
 use Rattle.text_line.specs.LineRead.{lineRead}
 use Rattle.program.specs.declared.term.Term.{Term}
@@ -47,7 +47,7 @@ use Rattle.text_rules.specs.declared.around.Around.the-variants.{Outside, Unuse
 use Rattle.text_rules.proofs.Checked.{Clean, rule-fine}
 use Rattle.text_rules.proofs.Loops.{openLoop}
 use Rattle.text_rules.proofs.Passing.{Reached}
-use Rattle.program.specs.Stored.{termOf, testOf, targetOf, expressionOf, ruleOf, rulesIn}
+use Rattle.program.specs.Stored.{termIn, testIn, targetIn, expressionIn, ruleIn, rulesIn}
 use Rattle.program.specs.Kept.{stepsIn, FrameOf, Framed, AllLocated}
 use Rattle.text_plan.specs.Readings.{pairWords, words, Short, PlannedWith}
 use Rattle.text_plan.specs.Listed.{withWanted}
@@ -90,24 +90,24 @@ none-short : length (unpack 0) ≤ 16
 none-short = rw unpack-none (omega arith)
 
 module _ (s : Sizes) where
-  term-short : (t : Term) → ExpressionPasses s (termOf t) → length (unpack (chainIn t)) ≤ 16
-  unfolding chainIn termOf
+  term-short : (t : Term) → ExpressionPasses s (termIn t) → length (unpack (chainIn t)) ≤ 16
+  unfolding chainIn termIn
   term-short (Chain n) p = p .short
   term-short (Number z) p = none-short
 
-  test-short : (t : Test) → TestPasses s (testOf t) → Short (pairWords (testChains t))
-  unfolding testChains testOf
+  test-short : (t : Test) → TestPasses s (testIn t) → Short (pairWords (testChains t))
+  unfolding testChains testIn
   test-short Always p = (none-short, (none-short, tt))
   test-short (When x c y) p = (term-short x (p .0), (term-short y (p .1), tt))
 
-  rule-short : (r : C.Rule) → TargetPasses s (targetOf r) → ExpressionPasses s (expressionOf r) → Short (pairWords (ruleChains r))
-  unfolding ruleChains targetOf expressionOf
+  rule-short : (r : C.Rule) → TargetPasses s (targetIn r) → ExpressionPasses s (expressionIn r) → Short (pairWords (ruleChains r))
+  unfolding ruleChains targetIn expressionIn
   rule-short (Set f x) t p = (term-short x p, (none-short, tt))
   rule-short (Combine f op x y) t p = (term-short x (p .0 .0), (term-short y (p .1 .0), tt))
   rule-short (Remote k f c x) t p = (t .passes .short, (term-short x p, tt))
 
-  pub slot-short : (x : Slot) → RulePasses s (ruleOf x) → Short (words (slotChains x))
-  unfolding slotChains ruleOf
+  pub slot-short : (x : Slot) → RulePasses s (ruleIn x) → Short (words (slotChains x))
+  unfolding slotChains ruleIn
   slot-short x p = let t = test-short (x .test) (p .test) in let r = rule-short (x .rule) (p .target) (p .expression) in (t .0, (t .1 .0, r))
 
 -- the line, from what the line reader answered
@@ -153,7 +153,7 @@ module _ (s : Sizes) where
   loop-line (rule c a) e = absurd (omega (arith, ap tag e))
 
   pub rule-line : (l : Line) {y : Slot} {ch : Checks} → lineRead s (some l) ≡ L.Rule y ch
-      → (c : W.Condition) × (a : W.Action) × (l ≡ rule c a) × (y ≡ record { test = R.testOf c; rule = ruleOfAction a })
+      → (c : W.Condition) × (a : W.Action) × (l ≡ rule c a) × (y ≡ record { test = R.packedTest c; rule = packedRule a })
   unfolding lineRead tag
   rule-line step e = absurd (omega (arith, ap tag e))
   rule-line end e = absurd (omega (arith, ap tag e))
@@ -220,9 +220,9 @@ module _ (s : Sizes) (lim : Limits s) {slots : List Located} {frames : List Fram
   -- a rule stands in its place, and the plan is that of the rules with it
   module _ (c : W.Condition) (a : W.Action) (k : Clean s st (rule c a)) where
     abbrev slot : Slot
-    slot = record { test = R.testOf c; rule = ruleOfAction a }
+    slot = record { test = R.packedTest c; rule = packedRule a }
 
-    pub rule-is : ruleOf slot ≡ T.ruleOf c a
+    pub rule-is : ruleIn slot ≡ T.writtenRule c a
     rule-is = rule-of s lim c a (rule-fine s st c a k)
 
     pub rule-steps : x .steps < 32
@@ -245,7 +245,7 @@ module _ (s : Sizes) (lim : Limits s) {slots : List Located} {frames : List Fram
         let y : Located = record { slot = slot; at = at } in
         let front : length (take (x .steps) frames) ≡ x .steps = length-take-le (x .steps) frames (omega (arith, rule-steps, b .kept .frames-length)) in
         let room : 32 * x .steps + 32 ≤ length slots = omega (arith, rule-steps, b .kept .slots-length) in
-        let more = rules-more (x .tally) (ruleOfAction a) in
+        let more = rules-more (x .tally) (packedRule a) in
         record {
           kept = record {
             slots-length = length-set slots here y ∙ b .kept .slots-length;
@@ -271,7 +271,7 @@ module _ (s : Sizes) (lim : Limits s) {slots : List Located} {frames : List Fram
     not-full : p .full ≡ false
     not-full = b .opened .planned .full-is ∙ le-ltb 64 (length (stepPlan (openRules st))) end-fits
 
-    end-holds : Holds (p .plan) (stepPlan (openRules st))
+    end-holds : HoldsLines (p .plan) (stepPlan (openRules st))
     end-holds = b .opened .planned .holds end-fits
 
     pub end-count : p .plan .count ≡ length (stepPlan (openRules st))
@@ -287,7 +287,7 @@ module _ (s : Sizes) (lim : Limits s) {slots : List Located} {frames : List Fram
       wanted-length = b .opened .marks;
     }
 
-    pub at-end : {q : Added} {marks : List Bool} → (q .full ≡ false) × Holds (q .plan) [] → length marks ≡ 64
+    pub at-end : {q : Added} {marks : List Bool} → (q .full ≡ false) × HoldsLines (q .plan) [] → length marks ≡ 64
         → Behind slots (set frames (x .steps) (frameOf x (p .plan) wanted)) q marks (advanceOf x n L.End) (advance st end)
     unfolding advanceOf advance openRules rulesIn noRules frameOf
     at-end e l =

@@ -12,7 +12,7 @@ use Rattle.program.specs.declared.location.Located.{Located}
 use Rattle.program.specs.Location.{LocatedAmong}
 use Rattle.program.specs.Program.{Step}
 use Rattle.text_rules.specs.Text.{closeLoop}
-use Rattle.program.specs.Stored.{ruleOf, rulesIn}
+use Rattle.program.specs.Stored.{ruleIn, rulesIn}
 use Rattle.program.specs.Kept.{stepsIn, FrameOf, Framed, AllLocated}
 use Rattle.text_state.specs.State.{lastFrame}
 use Rattle.program.specs.declared.frame.Frame.{Frame}
@@ -46,7 +46,7 @@ module _ (slots : List Located) (s k : ℕ) (x : Located) (h : k < 32) (b : 32 *
       let room : k < length places = simp (length-take, length-drop) (omega arith) in
       rw (stored, add-one k, take-suc-set places k x room)
 
-  pub store-rule : rulesIn (k + 1) (take 32 (drop (32 * s) (set slots (32 * s + k) x))) ≡ rulesIn k (take 32 (drop (32 * s) slots)) ++ (ruleOf (x .slot) ∷ [])
+  pub store-rule : rulesIn (k + 1) (take 32 (drop (32 * s) (set slots (32 * s + k) x))) ≡ rulesIn k (take 32 (drop (32 * s) slots)) ++ (ruleIn (x .slot) ∷ [])
   unfolding rulesIn
   store-rule = rw (store-place, map-append)
 

@@ -8,9 +8,9 @@ use borrow.Author.Tests.{not-false, ltb-false, le-ltb}
 use lib.ListN.{length}
 use Rattle.laws.specs.Lists.{Each}
 use Rattle.laws.proofs.Lists.{each-append}
-use Rattle.plan_theory.specs.Plan.{Fact, add-readings, plan}
+use Rattle.plan_theory.specs.Plan.{Fact, addReadings, plan}
 use Rattle.plan_theory.proofs.Lines.{plan-length}
-use Rattle.plan_lines.specs.Held.{facts, Holds, Extended}
+use Rattle.plan_lines.specs.Held.{facts, HoldsLines, Extended}
 use Rattle.plan_lines.specs.declared.Added.{Added}
 use Rattle.plan_lines.proofs.Adding.{holds-facts, extended-holds}
 use Rattle.plan_lines.proofs.Search.{facts-length}
@@ -18,7 +18,7 @@ use Rattle.program.specs.declared.rule.Slot.{Slot}
 use Rattle.program.specs.declared.location.Located.{Located}
 use Rattle.program.specs.declared.location.Locations.{Locations}
 use Rattle.program.specs.Program.{Rule, ruleReadings, readings, stepPlan}
-use Rattle.program.specs.Stored.{ruleOf}
+use Rattle.program.specs.Stored.{ruleIn}
 use Rattle.program.specs.Location.{slotChains, locationsIn, LocatedAmong}
 use Rattle.text_plan.specs.Readings.{words, Sound, PlannedWith}
 use Rattle.text_plan.specs.Listed.{allListed, withWanted}
@@ -34,8 +34,8 @@ pub record OpenStep (rs : List Rule) (places : List Located) (p : Added) (wanted
   pub placed : p .full ≡ false → Each (Placed (stepPlan rs) wanted) places
 
 -- before the first rule
-pub open-none : {p : Added} {wanted : List Bool} → (p .full ≡ false) × Holds (p .plan) [] → length wanted ≡ 64 → OpenStep [] [] p wanted
-unfolding stepPlan readings plan add-readings
+pub open-none : {p : Added} {wanted : List Bool} → (p .full ≡ false) × HoldsLines (p .plan) [] → length wanted ≡ 64 → OpenStep [] [] p wanted
+unfolding stepPlan readings plan addReadings
 open-none h k = record {
   planned = record { full-is = h .0; holds = λ l. h .1 };
   sound = record { keyed = h .1 .keyed; holds = λ n. holds-facts (h .1) };
@@ -57,9 +57,9 @@ readings-more [] r = append-nil (ruleReadings r)
 readings-more (q ∷ rs) r = ap (λ (ws : List (List ℕ)). ruleReadings q ++ ws) (readings-more rs r)
     ∙ sym (append-assoc (ruleReadings q) (readings rs) (ruleReadings r))
 
-plan-rule : (rs : List Rule) (x : Slot) → plan (readings rs ++ words (slotChains x)) ≡ stepPlan (rs ++ (ruleOf x ∷ []))
+plan-rule : (rs : List Rule) (x : Slot) → plan (readings rs ++ words (slotChains x)) ≡ stepPlan (rs ++ (ruleIn x ∷ []))
 unfolding stepPlan
-plan-rule rs x = slot-plan (readings rs) x ∙ ap plan (sym (readings-more rs (ruleOf x)))
+plan-rule rs x = slot-plan (readings rs) x ∙ ap plan (sym (readings-more rs (ruleIn x)))
 
 each-map : {A : Type 0} (P Q : A → Type 0) → ((a : A) → P a → Q a) → (l : List A) → Each P l → Each Q l
 each-map P Q f [] h = tt
@@ -103,7 +103,7 @@ module _ {rs : List Rule} {places : List Located} {p : Added} {wanted : List Boo
         (each-map _ _ (λ z. placed-old (readings rs) x (wanted-marked wanted at)) places (o .placed before))
         (rw here new, tt)
 
-    pub open-rule : OpenStep (rs ++ (ruleOf x ∷ [])) (places ++ (y ∷ [])) r (withWanted wanted at)
+    pub open-rule : OpenStep (rs ++ (ruleIn x ∷ [])) (places ++ (y ∷ [])) r (withWanted wanted at)
     open-rule = record {
       planned = rw (← plan-rule rs x) planned-after;
       sound = k .sound;

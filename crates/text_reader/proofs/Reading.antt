@@ -14,12 +14,12 @@ use Rattle.register.specs.Shape.{Limits}
 use Rattle.laws.specs.Outcome.{Outcome, refused, unless, after}
 use Rattle.laws.specs.Outcome as O
 use Rattle.register.specs.declared.Sizes.{Sizes}
-use Rattle.plan_lines.specs.Held.{facts, Holds}
+use Rattle.plan_lines.specs.Held.{facts, HoldsLines}
 use Rattle.plan_lines.specs.declared.Added.{Added}
 use Rattle.text_forms.specs.Written as W
 use Rattle.text_forms.specs.Written.{Line, step, end, done, rule}
 use Rattle.text_forms.specs.Line.{lineForm}
-use Rattle.text_local.specs.ActionRead.{ruleOfAction}
+use Rattle.text_local.specs.ActionRead.{packedRule}
 use Rattle.text_local.specs.ActionRead as R
 use Rattle.text_line.specs.LineRead.{lineRead}
 use Rattle.text_terms.specs.declared.term.Checks.{Checks}
@@ -28,7 +28,7 @@ use Rattle.text_line.specs.declared.line.LineRead.the-variants as L
 use Rattle.program.specs.declared.rule.Slot.{Slot}
 use Rattle.program.specs.Program.{Program, stepPlan}
 use Rattle.text_rules.specs.Check.{State, isOutside, isOpen, openRules, lineRefusal}
-use Rattle.text_rules.specs.Text.{lines, advance, lineOutcome, closed, readFrom, start}
+use Rattle.text_rules.specs.Text.{lines, advance, lineOutcome, closedText, readFrom, start}
 use Rattle.text_rules.proofs.Checked.{Clean, refusal-none, rule-passes}
 use Rattle.text_rules.proofs.Passing.{Reached, start-reached, advance-reached}
 use Rattle.text_next.specs.Front.{front, firstForm}
@@ -64,7 +64,7 @@ pub record Read (s : Sizes) (t : List ℕ) (plan : Added) (wanted : List Bool) (
 
 -- before the first line
 pub begun : (s : Sizes) (t : List ℕ) {plan : Added} {wanted : List Bool} {slots : List Located} {frames : List Frame} {x : S.State}
-    → (plan .full ≡ false) × Holds (plan .plan) [] → length wanted ≡ 64 → length slots ≡ 1024 → length frames ≡ 32 → x ≡ startState
+    → (plan .full ≡ false) × HoldsLines (plan .plan) [] → length wanted ≡ 64 → length slots ≡ 1024 → length frames ≡ 32 → x ≡ startState
     → Read s t plan wanted slots frames x 0 1
 unfolding startState start openRules stepsIn rulesIn noRules
 begun s t h lw ls lf e = record {
@@ -160,7 +160,7 @@ module _ (s : Sizes) (lim : Limits s) {t : List ℕ} {plan : Added} {wanted : Li
               (drop-drop (length (front (drop at t)) + 1) at t ∙ ap (λ (i : ℕ). drop i t) behind);
         }
 
-  rule-stored : (n : ℕ) {l : Line} {z : Slot} (c : W.Condition) (a : W.Action) → l ≡ rule c a → z ≡ record { test = R.testOf c; rule = ruleOfAction a }
+  rule-stored : (n : ℕ) {l : Line} {z : Slot} (c : W.Condition) (a : W.Action) → l ≡ rule c a → z ≡ record { test = R.packedTest c; rule = packedRule a }
       → (ch : Checks) → Clean s (q .state) l → {o : Added} → PlannedWith plan (words (slotChains z)) o
       → {at : Locations} → at ≡ locationsIn (facts (o .plan)) (slotChains z)
       → Behind (set slots (32 * x .steps + x .tally .rules) (record { slot = z; at = at })) frames o (withWanted wanted at)
@@ -194,7 +194,7 @@ module _ {s : Sizes} {lim : Limits s} {t : List ℕ} {plan : Added} {wanted : Li
       pub arm-end-steps : x .steps < 32
       arm-end-steps = end-steps s lim (q .reached) (q .stands) (q .behind) n end-clean
 
-      pub arm-end : {o : Added} {marks : List Bool} → (o .full ≡ false) × Holds (o .plan) [] → length marks ≡ 64
+      pub arm-end : {o : Added} {marks : List Bool} → (o .full ≡ false) × HoldsLines (o .plan) [] → length marks ≡ 64
           → Behind slots (set frames (x .steps) (frameOf x (plan .plan) wanted)) o marks (advanceOf x n read) (advance (q .state) (p .form))
       arm-end h l = rw (e, end-is) (at-end s lim (q .reached) (q .stands) (q .behind) n end-clean h l)
 
@@ -213,7 +213,7 @@ module _ {s : Sizes} {lim : Limits s} {t : List ℕ} {plan : Added} {wanted : Li
       arm-done d = rw (e, done-is) (at-done s lim (q .reached) (q .stands) (q .behind) n done-clean d)
 
     module _ {y : Slot} {ch : Checks} (e : read ≡ L.Rule y ch) where
-      rule-form : (c : W.Condition) × (a : W.Action) × (p .form ≡ rule c a) × (y ≡ record { test = R.testOf c; rule = ruleOfAction a })
+      rule-form : (c : W.Condition) × (a : W.Action) × (p .form ≡ rule c a) × (y ≡ record { test = R.packedTest c; rule = packedRule a })
       rule-form = rule-line s (p .form) (sym (p .is-read) ∙ e)
 
       rule-clean : Clean s (q .state) (rule (rule-form .0) (rule-form .1))
@@ -274,9 +274,9 @@ module _ {s : Sizes} {t : List ℕ} {plan : Added} {wanted : List Bool} {slots :
   pub answer-read : length t ≤ at
       → Answers (readFrom s start 1 (lines t))
       (record { refusal = lastRefusal x; line = k; program = record { slots = slots; frames = frames; steps = x .steps; lines = x .lines } })
-  unfolding outcomeOf program lines readFrom closed unless
+  unfolding outcomeOf program lines readFrom closedText unless
   answer-read h =
-      let ended : readFrom s start 1 (lines t) ≡ closed (q .state) k =
+      let ended : readFrom s start 1 (lines t) ≡ closedText (q .state) k =
       q .rest ∙ ap (λ (u : List ℕ). readFrom s (q .state) k (lines u)) (drop-of-length-le t h) in
       record {
         outcome-is = rw (ended, last-is (q .stands), program-is) (go (not (isOpen (q .state)) && isOutside (q .state .around)));

@@ -11,11 +11,11 @@ use lib.Dec.{leb, ltb}
 use lib.ListN.{length}
 use Rattle.laws.specs.Outcome.{orElse}
 use Rattle.register.specs.declared.Sizes.{Sizes}
-use Rattle.chain_text.specs.Text.{fieldOf}
+use Rattle.chain_text.specs.Text.{letterField}
 use Rattle.text_forms.specs.Written as W
 use Rattle.text_forms.specs.Written.{Line, step, end, done, loop, rule}
 use Rattle.text_forms.specs.Parts.{named, kinded, short, numbersInRange, fieldNamed, terms, everyTerm, kindsAgree}
-use Rattle.text_local.specs.ActionRead.{ruleOfAction}
+use Rattle.text_local.specs.ActionRead.{packedRule}
 use Rattle.text_line.specs.LineRead.{lineRead, lineChecks}
 use Rattle.text_terms.specs.declared.term.Checks.{Checks}
 use Rattle.program.specs.declared.rule.Sort.the-variants.{Least, Total}
@@ -46,12 +46,12 @@ not-not : (b : Bool) → not (not b) ≡ b
 not-not true = refl
 not-not false = refl
 
-other-sort : (x : Tally) (rs : List Rule) (a : W.Action) → Counts x rs → otherSort x (ruleOfAction a) ≡ not (oneSort rs a)
-unfolding otherSort ruleOfAction oneSort
+other-sort : (x : Tally) (rs : List Rule) (a : W.Action) → Counts x rs → otherSort x (packedRule a) ≡ not (oneSort rs a)
+unfolding otherSort packedRule oneSort
 other-sort x rs (W.set f y) h = refl
 other-sort x rs (W.combine f op y z) h = refl
-other-sort x rs (W.remote Least f c y) h = h .totals-are (fieldOf f) ∙ sym (not-not _)
-other-sort x rs (W.remote Total f c y) h = h .leasts-are (fieldOf f) ∙ sym (not-not _)
+other-sort x rs (W.remote Least f c y) h = h .totals-are (letterField f) ∙ sym (not-not _)
+other-sort x rs (W.remote Total f c y) h = h .leasts-are (letterField f) ∙ sym (not-not _)
 
 not-leb : (n : ℕ) → ltb 64 n ≡ not (leb n 64)
 not-leb n = go (decLe n 64)
@@ -83,12 +83,12 @@ checks-first c n = go (c .named) (c .kinded) (c .short) (c .ranged)
     go true true true true = or-none 0 n refl
 
 module _ (s : Sizes) {x : S.State} {st : State} (h : Stands x st) (full : Bool) (f : full ≡ ltb 64 (length (stepPlan (openRules st)))) where
-  rule-number : (c : W.Condition) (a : W.Action) → ruleRefusal x (ruleOfAction a) (lineChecks s (rule c a)) ≡ lineRefusal s st (rule c a)
+  rule-number : (c : W.Condition) (a : W.Action) → ruleRefusal x (packedRule a) (lineChecks s (rule c a)) ≡ lineRefusal s st (rule c a)
   unfolding ruleRefusal lineChecks lineRefusal inPlace hasRoom sortsAgree planFits
   rule-number c a =
       rw (
         h .in-step,
-        checks-first (lineChecks s (rule c a)) (cond (not (ltb (x .tally .rules) 32)) 13 (cond (otherSort (x .tally) (ruleOfAction a)) 14 0)),
+        checks-first (lineChecks s (rule c a)) (cond (not (ltb (x .tally .rules) 32)) 13 (cond (otherSort (x .tally) (packedRule a)) 14 0)),
         other-sort (x .tally) (openRules st) a (h .tally-is),
         h .tally-is .rules-are,
       )

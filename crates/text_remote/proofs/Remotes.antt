@@ -9,7 +9,7 @@ use lib.ListN.{length, getD, drop, length-drop}
 use lib.Seq.{drop-drop}
 use Rattle.laws.proofs.Bools.{and-both}
 use Rattle.register.specs.declared.Sizes.{Sizes}
-use Rattle.chain_text.specs.Text.{isCapital, fieldOf, names, Form, formed, unformed, form, closed}
+use Rattle.chain_text.specs.Text.{isCapital, letterField, names, Form, formed, unformed, form, closed}
 use Rattle.laws.specs.Lists.{every}
 use Rattle.chain_text.specs.Scan.{startsWith, opens, summary, chainEnd, scanned}
 use Rattle.chain_text.specs.declared.letters.Letters.{Letters}
@@ -18,11 +18,11 @@ use Rattle.chain_text.proofs.Forms.{spelled, form-u, form-opens, form-none, for
 use Rattle.chain_text.proofs.Scanning.{first-at}
 use Rattle.text_forms.specs.Bytes.{bytes}
 use Rattle.text_forms.specs.Written as W
-use Rattle.text_forms.specs.Token.{capital, then, or, begins}
-use Rattle.text_forms.specs.Line.{sent, remoteForm, localForm, actionForm}
+use Rattle.text_forms.specs.Token.{capital, then, or, opensWith}
+use Rattle.text_forms.specs.Line.{sentForms, remoteForm, localForm, actionForm}
 use Rattle.text_forms.specs.Parts.{target, actionKinds, areMeasures, actionTerms}
 use Rattle.text_terms.specs.Read.{partsOf, chainParts}
-use Rattle.text_local.specs.ActionRead.{bothChecks, ruleChecks, actionChecks, measured, ruleOfAction, actionRead}
+use Rattle.text_local.specs.ActionRead.{bothChecks, ruleChecks, actionChecks, measured, packedRule, actionRead}
 use Rattle.text_remote.specs.RemoteRead.{sentKinds, targetOf, targetFrom, targetRead}
 use Rattle.text_local.specs.declared.action.ActionRead.the-variants.{Action, NoForm}
 use Rattle.text_remote.specs.declared.remote.Target.{Target}
@@ -37,10 +37,10 @@ use Rattle.text_local.proofs.Actions.{checks-two, word-refused, or-word}
 
 -- the answer for a remote rule, by the parts of its target and term
 pub sent-read : (s : Sizes) (k : Sort) (g : Target) (f : ℕ) (c : List ℕ) → g ≡ targetOf s f c → (p : TermParts) (x : W.Term) → p ≡ partsOf s x
-    → Action (Remote k (fieldOf (g .letter)) (g .chain) (p .term))
+    → Action (Remote k (letterField (g .letter)) (g .chain) (p .term))
     (ruleChecks (names s (g .letter)) (g .reference && sentKinds k (g .letter) (p .reference)) (bothChecks (g .checks) (p .checks)))
     ≡ actionRead s (some (W.remote k f c x))
-unfolding actionRead ruleOfAction actionChecks target actionKinds areMeasures sentKinds measured actionTerms partsOf targetOf
+unfolding actionRead packedRule actionChecks target actionKinds areMeasures sentKinds measured actionTerms partsOf targetOf
 sent-read s Least g f c e p x h = rw (e, h, checks-two s (W.chain c) x)
 sent-read s Total g f c e p x h = rw (e, h, checks-two s (W.chain c) x)
 
@@ -164,13 +164,13 @@ module _ (s : Sizes) (t : List ℕ) (at : ℕ) where
       go (formed [] r) e = refl
       go (formed (f ∷ c) r) e = no-target (sym e)
 
--- a rule: a local one, or behind `remote ` a remote one, for no local rule begins with a small letter
+-- a rule: a local one, or behind `remote ` a remote one, for no local rule opensWith with a small letter
 local-remote : (r : List ℕ) → localForm (bytes "remote " ++ r) ≡ none
 unfolding localForm capital then isCapital
 local-remote r = refl
 
 module _ (t : List ℕ) (at : ℕ) where
-  pub action-local : begins (bytes "remote ") (drop at t) ≡ false → actionForm (drop at t) ≡ localForm (drop at t)
+  pub action-local : opensWith (bytes "remote ") (drop at t) ≡ false → actionForm (drop at t) ≡ localForm (drop at t)
   unfolding actionForm or
   action-local e = rw (word-refused (λ r. remoteForm (form r)) (bytes "remote ") (drop at t) e)
 
@@ -183,6 +183,6 @@ module _ (t : List ℕ) (at : ℕ) where
     unfolding actionRead
     action-no-target e s = ap (actionRead s) (action-remote ∙ e)
 
-    pub action-sent : {s : Sizes} {g : Target} {end : ℕ} (q : Targeted s t start g end) → actionForm (drop at t) ≡ sent (q .field) (q .hops) (drop end t)
+    pub action-sent : {s : Sizes} {g : Target} {end : ℕ} (q : Targeted s t start g end) → actionForm (drop at t) ≡ sentForms (q .field) (q .hops) (drop end t)
     unfolding remoteForm
     action-sent q = action-remote ∙ ap remoteForm (q .stands)

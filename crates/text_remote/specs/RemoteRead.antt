@@ -8,7 +8,7 @@ use Rattle.chain_text.specs.Text.{isReferenceLetter, Form, formed, unformed}
 use Rattle.chain_text.specs.Scan.{chainEnd}
 use Rattle.chain_text.specs.declared.letters.Letters.{Letters}
 use Rattle.text_forms.specs.Written as W
-use Rattle.text_forms.specs.Parts.{same, isReferenceTerm}
+use Rattle.text_forms.specs.Parts.{sameKind, isReferenceTerm}
 use Rattle.text_terms.specs.Read.{termChecks, chainParts}
 use Rattle.program.specs.declared.rule.Sort.{Sort}
 use Rattle.program.specs.declared.rule.Sort.the-variants.{Least, Total}
@@ -20,7 +20,7 @@ use Rattle.text_remote.specs.declared.remote.TargetRead.the-variants.{At
 
 -- whether a field and a term, by its kind, are of the kinds that a sort of remote write takes
 unfoldable pub sentKinds : Sort → ℕ → Bool → Bool
-sentKinds Least f reference = same (isReferenceLetter f) reference
+sentKinds Least f reference = sameKind (isReferenceLetter f) reference
 sentKinds Total f reference = measured f reference
 
 -- a target by its letter and the letters of C

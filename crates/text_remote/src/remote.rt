@@ -5,7 +5,7 @@ ghost use Prim.Native.Nat.{_+_, _≤_};
 ghost use lib.ListN.{length, drop};
 ghost use Rattle.register.specs.Shape.{Limits};
 ghost use Rattle.chain_text.specs.Text.{isCapital, form, closed};
-ghost use Rattle.text_forms.specs.Line.{sortText, sentForm, sent, actionForm};
+ghost use Rattle.text_forms.specs.Line.{sortText, sentForm, sentForms, actionForm};
 ghost use Rattle.text_local.specs.ActionRead.{lastTerm, lastRead, actionRead};
 ghost use Rattle.text_remote.specs.RemoteRead.{sentKinds, targetFrom, targetRead, ForTarget};
 use chain_text::letters;
@@ -116,7 +116,7 @@ fn read_of_sort(line: &[u8], at: usize, sort: Sort, target: Target, sizes: Sizes
 // ` <?= X` or ` += X` behind `remote F[C]`.
 fn read_sent(line: &[u8], at: usize, target: Target, sizes: Sizes) -> ActionRead
     requires { ⌜ Limits sizes × (at ≤ length (now line)) × (isCapital (target .letter) ≡ true) ⌝ }
-    ensures { λ r. ⌜ ForTarget sizes target (λ f c. actionRead sizes (sent f c (drop at (now (line .entry))))) r ⌝ }
+    ensures { λ r. ⌜ ForTarget sizes target (λ f c. actionRead sizes (sentForms f c (drop at (now (line .entry))))) r ⌝ }
 {
     let ActionRead::Action(rule, checks) = read_of_sort(line, at, Sort::Least, target, sizes) else {
         return read_of_sort(line, at, Sort::Total, target, sizes);

@@ -12,16 +12,16 @@ use Rattle.register.specs.declared.Sizes.{Sizes}
 use Rattle.laws.proofs.Bools.{and-both}
 use Rattle.chain.specs.Word.{isReference, hasField, Passes}
 use Rattle.laws.specs.Lists.{every, Each}
-use Rattle.chain_text.specs.Text.{names, fieldOf, isReferenceLetter, wordOf}
+use Rattle.chain_text.specs.Text.{names, letterField, isReferenceLetter, wordOf}
 use Rattle.chain_text.proofs.Passing.{letters-pass, refused-none, reference-field, measure-field, named-field}
 use Rattle.text_forms.specs.Written as W
 use Rattle.text_forms.specs.Written.{chain, number, Line, rule}
 use Rattle.text_forms.specs.Parts as K
-use Rattle.text_forms.specs.Parts.{conditionTerms, actionTerms, terms, everyTerm, target, termNamed, fieldNamed, named, termKinded, same, conditionKinds, areMeasures, actionKinds, kindsAgree, kinded, termShort, short, termInRange, numbersInRange}
+use Rattle.text_forms.specs.Parts.{conditionTerms, actionTerms, terms, everyTerm, target, termNamed, fieldNamed, named, termKinded, sameKind, conditionKinds, areMeasures, actionKinds, kindsAgree, kinded, termShort, short, termInRange, numbersInRange}
 use Rattle.program.specs.declared.rule.Sort.the-variants.{Least, Total}
 use Rattle.program.specs.Program as P
 use Rattle.text_rules.specs.Check.{State, inPlace, hasRoom, sortsAgree, planFits, lineRefusal}
-use Rattle.text_rules.specs.Text.{termOf, testOf, targetOf, expressionOf, ruleOf}
+use Rattle.text_rules.specs.Text.{writtenTerm, writtenTest, writtenTarget, writtenExpression, writtenRule}
 use Rattle.program.specs.Passed.{isReferenceWord, isReferenceExpression, ExpressionPasses, TestPasses, TargetPasses, RulePasses}
 use Rattle.laws.proofs.Lists.{each-front, each-back}
 
@@ -55,15 +55,15 @@ refusal-none s st l e =
 
 -- the field of a letter that names one
 module _ (s : Sizes) (lim : Limits s) (l : ℕ) (h : names s l ≡ true) where
-  letter-kind : isReference (fieldOf l) ≡ isReferenceLetter l
+  letter-kind : isReference (letterField l) ≡ isReferenceLetter l
   unfolding isReference
   letter-kind = go (isReferenceLetter l) refl
     where
-      go : (x : Bool) → isReferenceLetter l ≡ x → ltb (fieldOf l) 8 ≡ x
-      go true e = lt-ltb (fieldOf l) 8 (omega (arith, reference-field s l h e, lim .references≤))
-      go false e = le-ltb (fieldOf l) 8 (measure-field s l h e .0)
+      go : (x : Bool) → isReferenceLetter l ≡ x → ltb (letterField l) 8 ≡ x
+      go true e = lt-ltb (letterField l) 8 (omega (arith, reference-field s l h e, lim .references≤))
+      go false e = le-ltb (letterField l) 8 (measure-field s l h e .0)
 
-  pub letter-field : hasField s (fieldOf l) ≡ true
+  pub letter-field : hasField s (letterField l) ≡ true
   letter-field = named-field s l h
 
 last-kind : (w : List ℕ) (f : ℕ) → isReferenceWord (w ++ (f ∷ [])) ≡ isReference f
@@ -104,50 +104,50 @@ word-passes : (s : Sizes) (ls : List ℕ) → Fine s (chain ls) → Passes s (wo
 unfolding termNamed termKinded termShort
 word-passes s ls w = letters-pass s ls (refused-none s ls (w .is-named) (w .is-kinded) (le-ltb 16 (length ls) (leb-true (length ls) 16 (w .is-short))))
 
-term-passes : (s : Sizes) (x : W.Term) → Fine s x → ExpressionPasses s (termOf x)
-unfolding termOf termInRange
+term-passes : (s : Sizes) (x : W.Term) → Fine s x → ExpressionPasses s (writtenTerm x)
+unfolding writtenTerm termInRange
 term-passes s (chain ls) w = word-passes s ls w
 term-passes s (number negative ds) w = w .in-range
 
-same-is : (a b : Bool) → same a b ≡ true → a ≡ b
-unfolding same
+same-is : (a b : Bool) → sameKind a b ≡ true → a ≡ b
+unfolding sameKind
 same-is true b h = sym h
 same-is false b h = sym (not-true b h)
 
 -- what an action adds to its test: the fields of a rule that passes
 record ActionPasses (s : Sizes) (a : W.Action) : Type 0 where
-  target : TargetPasses s (targetOf a)
-  expression : ExpressionPasses s (expressionOf a)
-  alike : isReference (P.fieldOf (targetOf a)) ≡ isReferenceExpression (expressionOf a)
+  target : TargetPasses s (writtenTarget a)
+  expression : ExpressionPasses s (writtenExpression a)
+  alike : isReference (P.targetField (writtenTarget a)) ≡ isReferenceExpression (writtenExpression a)
 
 module _ (s : Sizes) (lim : Limits s) where
-  term-kind : (x : W.Term) → Fine s x → isReferenceExpression (termOf x) ≡ K.isReferenceTerm x
-  unfolding isReferenceExpression termOf K.isReferenceTerm isReferenceWord wordOf termNamed every
+  term-kind : (x : W.Term) → Fine s x → isReferenceExpression (writtenTerm x) ≡ K.isReferenceTerm x
+  unfolding isReferenceExpression writtenTerm K.isReferenceTerm isReferenceWord wordOf termNamed every
   term-kind (chain []) w = refl
-  term-kind (chain (l ∷ ls)) w = last-kind (wordOf ls) (fieldOf l) ∙ letter-kind s lim l (and-both (names s l) (every (names s) ls) (w .is-named) .0)
+  term-kind (chain (l ∷ ls)) w = last-kind (wordOf ls) (letterField l) ∙ letter-kind s lim l (and-both (names s l) (every (names s) ls) (w .is-named) .0)
   term-kind (number negative ds) w = refl
 
   word-kind : (c : List ℕ) → Fine s (chain c) → K.isReferenceTerm (chain c) ≡ true → isReferenceWord (wordOf c) ≡ true
-  unfolding isReferenceExpression termOf
+  unfolding isReferenceExpression writtenTerm
   word-kind c w h = term-kind (chain c) w ∙ h
 
   module _ (f : ℕ) (x : W.Term) (n : names s f ≡ true) (w : Fine s x) where
-    alike : same (isReferenceLetter f) (K.isReferenceTerm x) ≡ true → isReference (fieldOf f) ≡ isReferenceExpression (termOf x)
+    alike : sameKind (isReferenceLetter f) (K.isReferenceTerm x) ≡ true → isReference (letterField f) ≡ isReferenceExpression (writtenTerm x)
     alike h = letter-kind s lim f n ∙ same-is _ _ h ∙ sym (term-kind x w)
 
-    measured : areMeasures f x ≡ true → (isReference (fieldOf f) ≡ false) × (isReferenceExpression (termOf x) ≡ false)
+    measured : areMeasures f x ≡ true → (isReference (letterField f) ≡ false) × (isReferenceExpression (writtenTerm x) ≡ false)
     unfolding areMeasures
     measured h =
         let both = and-both (not (isReferenceLetter f)) (not (K.isReferenceTerm x)) h in
         (letter-kind s lim f n ∙ not-true _ (both .0), term-kind x w ∙ not-true _ (both .1))
 
-  test-passes : (c : W.Condition) → Each (Fine s) (conditionTerms c) → conditionKinds c ≡ true → TestPasses s (testOf c)
-  unfolding conditionTerms conditionKinds testOf
+  test-passes : (c : W.Condition) → Each (Fine s) (conditionTerms c) → conditionKinds c ≡ true → TestPasses s (writtenTest c)
+  unfolding conditionTerms conditionKinds writtenTest
   test-passes W.always w h = tt
   test-passes (W.when x c y) w h = (term-passes s x (w .0), term-passes s y (w .1 .0), term-kind x (w .0) ∙ same-is _ _ h ∙ sym (term-kind y (w .1 .0)))
 
   action-passes : (a : W.Action) → names s (target a) ≡ true → Each (Fine s) (actionTerms a) → actionKinds a ≡ true → ActionPasses s a
-  unfolding target actionTerms actionKinds targetOf expressionOf P.fieldOf isReferenceExpression
+  unfolding target actionTerms actionKinds writtenTarget writtenExpression P.targetField isReferenceExpression
   action-passes (W.set f x) n w h = record { target = tt; expression = term-passes s x (w .0); alike = alike f x n (w .0) h }
   action-passes (W.combine f op x y) n w h =
       let both = and-both (areMeasures f x) (areMeasures f y) h in
@@ -155,7 +155,7 @@ module _ (s : Sizes) (lim : Limits s) where
       let (_, second) = measured f y n (w .1 .0) (both .1) in
       record { target = tt; expression = ((term-passes s x (w .0), first), (term-passes s y (w .1 .0), second)); alike = field }
   action-passes (W.remote Least f c x) n w h =
-      let both = and-both (K.isReferenceTerm (chain c)) (same (isReferenceLetter f) (K.isReferenceTerm x)) h in
+      let both = and-both (K.isReferenceTerm (chain c)) (sameKind (isReferenceLetter f) (K.isReferenceTerm x)) h in
       record {
         target = record {
           passes = word-passes s c (w .0);
@@ -174,15 +174,15 @@ module _ (s : Sizes) (lim : Limits s) where
         alike = m .0 ∙ sym (m .1);
       }
 
-  target-field : (a : W.Action) → P.fieldOf (targetOf a) ≡ fieldOf (target a)
-  unfolding target targetOf P.fieldOf
+  target-field : (a : W.Action) → P.targetField (writtenTarget a) ≡ letterField (target a)
+  unfolding target writtenTarget P.targetField
   target-field (W.set f x) = refl
   target-field (W.combine f op x y) = refl
   target-field (W.remote k f c x) = refl
 
   -- a rule that passes, as the program has it
-  pub rule-passes : (st : State) (c : W.Condition) (a : W.Action) → Clean s st (rule c a) → RulePasses s (ruleOf c a)
-  unfolding named fieldNamed kinded kindsAgree terms ruleOf
+  pub rule-passes : (st : State) (c : W.Condition) (a : W.Action) → Clean s st (rule c a) → RulePasses s (writtenRule c a)
+  unfolding named fieldNamed kinded kindsAgree terms writtenRule
   rule-passes st c a k =
       let n = and-both (names s (target a)) (everyTerm (termNamed s) (conditionTerms c ++ actionTerms a)) (k .is-named) in
       let d = and-both (everyTerm termKinded (conditionTerms c ++ actionTerms a)) (conditionKinds c && actionKinds a) (k .is-kinded) in

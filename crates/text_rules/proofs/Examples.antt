@@ -12,18 +12,18 @@ use Rattle.register.specs.declared.Sizes.{Sizes}
 use Rattle.integers.specs.Range.{inRange}
 use Rattle.chain_text.specs.Text as C
 use Rattle.chain_text.specs.Scan.{startsWith}
-use Rattle.plan_theory.specs.Plan.{back, read, result, round, rounds, plan, add-readings, add, lines as planLines, listed, place, same as sameFact, same-word, tree, tree-within, half, doubled, front, rest}
+use Rattle.plan_theory.specs.Plan.{back, read, result, round, rounds, plan, addReadings, add, withTree as planLines, listed, lineIndex, sameFact, sameWord, tree, treeWithin, half, doubled, front, rest}
 use Rattle.text_forms.specs.Numeral.{isDigit, digits, decimal, isNumeral, signedForm, numberForm, numberValue, signedValue}
 use Rattle.text_forms.specs.Token.{capital, then, word, or, finished}
 use Rattle.text_forms.specs.Term.{ofNumber, ofChain, termForm}
-use Rattle.text_forms.specs.Line.{assigned, localForm, sent, remoteForm, actionForm, ruleOf, compared, testedForm, lineForm}
-use Rattle.text_forms.specs.Parts.{numbersInRange, termInRange, short, termShort, kinded, kindsAgree, actionKinds, areMeasures, conditionKinds, same, isReferenceTerm, termKinded, named, fieldNamed, termNamed, target, everyTerm, terms, actionTerms, conditionTerms}
+use Rattle.text_forms.specs.Line.{assigned, localForm, sentForms, remoteForm, actionForm, ruleLine, compared, testedForm, lineForm}
+use Rattle.text_forms.specs.Parts.{numbersInRange, termInRange, short, termShort, kinded, kindsAgree, actionKinds, areMeasures, conditionKinds, sameKind, isReferenceTerm, termKinded, named, fieldNamed, termNamed, target, everyTerm, terms, actionTerms, conditionTerms}
 use Rattle.text_forms.specs.Bytes.{bytes}
 use Rattle.text_rules.specs.Check.{lineRefusal, planFits, sortsAgree, oneSort, hasRoom, inPlace, openRules, isOpen, isUsed, isOutside}
 use Rattle.program.specs.Program.{someTarget, isTotal, isLeast, Rule, Program, hasRemote, isRemote, stepPlan, readings, ruleReadings, targetReadings, testReadings, expressionReadings}
 use Rattle.program.specs.Program as P
 use Rattle.program.specs.declared.setting.Setting.the-variants.{Single, Looped}
-use Rattle.text_rules.specs.Text.{planned, rulesAt, textProgram, readFrom, start, closed, lineOutcome, advance, closeLoop, lastOf, withStep, settingIn, ruleOf as programRule, targetOf, expressionOf, testOf, termOf, pieceForm, lines, onto}
+use Rattle.text_rules.specs.Text.{planResult, rulesAt, textProgram, readFrom, start, closedText, lineOutcome, advance, closeLoop, lastOf, withStep, settingIn, writtenRule as programRule, writtenTarget, writtenExpression, writtenTest, writtenTerm, pieceForm, lines, onto}
 
 -- "n 3, r 1, m 1": the fields A, which is 0, and M, which is 8
 abbrev pub sizes : Sizes
@@ -31,7 +31,7 @@ sizes = record { records = 3; references = 1; measures = 1 }
 
 -- the program or refusal of some bytes over a register of some sizes, and of a text over that register
 unfoldable pub answerOver : Sizes → List ℕ → Outcome Program
-unfolding textProgram readFrom start closed lineOutcome advance closeLoop lastOf withStep settingIn programRule targetOf expressionOf testOf termOf pieceForm lines onto after unless lineRefusal planFits sortsAgree oneSort someTarget isTotal isLeast hasRoom numbersInRange termInRange short termShort kinded kindsAgree actionKinds areMeasures conditionKinds same isReferenceTerm termKinded named fieldNamed termNamed target everyTerm terms actionTerms conditionTerms inPlace openRules isOpen isUsed isOutside lineForm testedForm compared ruleOf actionForm remoteForm sent localForm assigned termForm ofChain ofNumber capital then word or finished isDigit digits decimal isNumeral signedForm numberForm numberValue signedValue inRange startsWith C.isCapital C.closed C.form C.fieldOf C.isReferenceLetter C.names every C.innerReferences C.wordOf stepPlan readings ruleReadings targetReadings testReadings expressionReadings plan add-readings add planLines listed place sameFact same-word tree tree-within half doubled front rest
+unfolding textProgram readFrom start closedText lineOutcome advance closeLoop lastOf withStep settingIn programRule writtenTarget writtenExpression writtenTest writtenTerm pieceForm lines onto after unless lineRefusal planFits sortsAgree oneSort someTarget isTotal isLeast hasRoom numbersInRange termInRange short termShort kinded kindsAgree actionKinds areMeasures conditionKinds sameKind isReferenceTerm termKinded named fieldNamed termNamed target everyTerm terms actionTerms conditionTerms inPlace openRules isOpen isUsed isOutside lineForm testedForm compared ruleLine actionForm remoteForm sentForms localForm assigned termForm ofChain ofNumber capital then word or finished isDigit digits decimal isNumeral signedForm numberForm numberValue signedValue inRange startsWith C.isCapital C.closed C.form C.letterField C.isReferenceLetter C.names every C.innerReferences C.wordOf stepPlan readings ruleReadings targetReadings testReadings expressionReadings plan addReadings add planLines listed lineIndex sameFact sameWord tree treeWithin half doubled front rest
 answerOver s t = textProgram s t
 
 unfoldable pub answer : String → Outcome Program
@@ -60,9 +60,9 @@ unfolding answer
 printed-passes = refl
 
 -- its plan, three lines and no remote exchange; "Steps count from 1", others are 17
-pub printed-planned : planned (printedRule ∷ [])
+pub printed-planned : planResult (printedRule ∷ [])
     ≡ record { plan-lines = (back (0 ∷ []), 1) ∷ (back (0 ∷ 0 ∷ []), 2) ∷ (read (0 ∷ 0 ∷ 8 ∷ []), 3) ∷ []; remote = false }
-unfolding planned result round rounds hasRemote someTarget isRemote readings ruleReadings targetReadings testReadings expressionReadings plan add-readings add planLines listed place sameFact same-word tree tree-within half doubled front rest
+unfolding planResult result round rounds hasRemote someTarget isRemote readings ruleReadings targetReadings testReadings expressionReadings plan addReadings add planLines listed lineIndex sameFact sameWord tree treeWithin half doubled front rest
 printed-planned = refl
 
 pub step-first : rulesAt printedProgram 1 ≡ O.done (printedRule ∷ [])

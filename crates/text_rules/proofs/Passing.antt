@@ -18,10 +18,10 @@ use Rattle.register.specs.Load.{load}
 use Rattle.register.proofs.Roundtrip.{loads}
 use Rattle.register.proofs.Bounds.{limits}
 use Rattle.text_forms.specs.Written.{Line, step, end, done, loop, rule}
-use Rattle.text_forms.specs.Parts.{terms, everyTerm, fieldNamed, named, same}
+use Rattle.text_forms.specs.Parts.{terms, everyTerm, fieldNamed, named, sameKind}
 use Rattle.program.specs.Program.{Step, Program, someTarget}
 use Rattle.text_rules.specs.Check.{isOutside, isUsed, State, isOpen, openRules, inPlace, hasRoom, sortsAgree, planFits, lineRefusal}
-use Rattle.text_rules.specs.Text.{Piece, lines, pieceForm, closeLoop, advance, lineOutcome, closed, readFrom, start, textProgram, check}
+use Rattle.text_rules.specs.Text.{Piece, lines, pieceForm, closeLoop, advance, lineOutcome, closedText, readFrom, start, textProgram, check}
 use Rattle.laws.specs.Lists.{Each}
 use Rattle.program.specs.Passed.{RulePasses, RulesPass, StepPasses, Loops, ProgramPasses}
 use Rattle.text_rules.proofs.Checked.{Clean, refusal-none, letter-field, rule-passes}
@@ -101,14 +101,14 @@ module _ (s : Sizes) (lim : Limits s) where
 
   -- the lines from some line on
   read-passes : (st : State) (k : ℕ) (ps : List Piece) (p : Program) → Reached s st → readFrom s st k ps ≡ O.done p → ProgramPasses s p
-  unfolding readFrom closed lineOutcome after unless
+  unfolding readFrom closedText lineOutcome after unless
   read-passes st k [] p w e = go (not (isOpen st) && isOutside (st .around)) refl e
     where
       passes : isOutside (st .around) ≡ true → ProgramPasses s (st .steps)
       passes h = record { each = w .each; few = w .few; loops = rw (outside-open (st .around) h) at (w .loops) }
 
       go : (x : Bool) → not (isOpen st) && isOutside (st .around) ≡ x → cond x (O.done (st .steps)) (refused 8 k) ≡ O.done p → ProgramPasses s p
-      go true h e = let same : st .steps ≡ p = cc in rw same at (passes (and-both (not (isOpen st)) (isOutside (st .around)) h .1))
+      go true h e = let sameKind : st .steps ≡ p = cc in rw sameKind at (passes (and-both (not (isOpen st)) (isOutside (st .around)) h .1))
       go false h e = absurd (let z : _≡_ {A = ℕ} 0 1 = cc in omega arith)
   read-passes st k (q ∷ ps) p w e = go (λ l. read-passes (advance st l) (suc k) ps p) (pieceForm q) e
     where

@@ -7,7 +7,7 @@ use mathlib.Core.Option.{Option, none, some}
 use lib.Dec.{leb, ltb}
 use lib.ListN.{length}
 use Rattle.register.specs.declared.Sizes.{Sizes}
-use Rattle.chain_text.specs.Text.{fieldOf}
+use Rattle.chain_text.specs.Text.{letterField}
 use Rattle.text_forms.specs.Written.{Action, set, combine, remote, Line, step, end, done, loop, rule}
 use Rattle.text_forms.specs.Parts.{named, kinded, short, numbersInRange}
 use Rattle.program.specs.declared.rule.Sort.the-variants.{Least, Total}
@@ -59,8 +59,8 @@ hasRoom st (rule c a) = ltb (length (openRules st)) 32
 unfoldable pub oneSort : List Rule → Action → Bool
 oneSort rs (set f x) = true
 oneSort rs (combine f op x y) = true
-oneSort rs (remote Least f c x) = not (someTarget (isTotal (fieldOf f)) rs)
-oneSort rs (remote Total f c x) = not (someTarget (isLeast (fieldOf f)) rs)
+oneSort rs (remote Least f c x) = not (someTarget (isTotal (letterField f)) rs)
+oneSort rs (remote Total f c x) = not (someTarget (isLeast (letterField f)) rs)
 
 unfoldable pub sortsAgree : State → Line → Bool
 sortsAgree st step = true

@@ -9,7 +9,7 @@ use Rattle.laws.specs.Outcome.{Outcome, refused, unless, after}
 use Rattle.laws.specs.Outcome as O
 use Rattle.register.specs.Load.{load}
 use Rattle.register.specs.declared.Sizes.{Sizes}
-use Rattle.chain_text.specs.Text.{fieldOf, wordOf}
+use Rattle.chain_text.specs.Text.{letterField, wordOf}
 use Rattle.plan_theory.specs.Plan.{Fact, result}
 use Rattle.text_forms.specs.Numeral.{numberValue}
 use Rattle.text_forms.specs.Written.{Term, chain, number, Condition, always, when, Action, set, combine, remote, Line, step, end, done, loop, rule}
@@ -47,26 +47,26 @@ pieceForm (ended t) = lineForm t
 pieceForm (cut t) = none
 
 -- a written rule as a rule of the program
-unfoldable pub termOf : Term → P.Expression
-termOf (chain ls) = P.reading (wordOf ls)
-termOf (number negative ds) = P.constant (numberValue negative ds)
+unfoldable pub writtenTerm : Term → P.Expression
+writtenTerm (chain ls) = P.reading (wordOf ls)
+writtenTerm (number negative ds) = P.constant (numberValue negative ds)
 
-unfoldable pub testOf : Condition → P.Test
-testOf always = P.always
-testOf (when x c y) = P.when (termOf x) c (termOf y)
+unfoldable pub writtenTest : Condition → P.Test
+writtenTest always = P.always
+writtenTest (when x c y) = P.when (writtenTerm x) c (writtenTerm y)
 
-unfoldable pub targetOf : Action → P.Target
-targetOf (set f x) = P.own (fieldOf f)
-targetOf (combine f op x y) = P.own (fieldOf f)
-targetOf (remote k f c x) = P.remote k (fieldOf f) (wordOf c)
+unfoldable pub writtenTarget : Action → P.Target
+writtenTarget (set f x) = P.own (letterField f)
+writtenTarget (combine f op x y) = P.own (letterField f)
+writtenTarget (remote k f c x) = P.remote k (letterField f) (wordOf c)
 
-unfoldable pub expressionOf : Action → P.Expression
-expressionOf (set f x) = termOf x
-expressionOf (combine f op x y) = P.operation op (termOf x) (termOf y)
-expressionOf (remote k f c x) = termOf x
+unfoldable pub writtenExpression : Action → P.Expression
+writtenExpression (set f x) = writtenTerm x
+writtenExpression (combine f op x y) = P.operation op (writtenTerm x) (writtenTerm y)
+writtenExpression (remote k f c x) = writtenTerm x
 
-unfoldable pub ruleOf : Condition → Action → Rule
-ruleOf c a = record { test = testOf c; target = targetOf a; expression = expressionOf a }
+unfoldable pub writtenRule : Condition → Action → Rule
+writtenRule c a = record { test = writtenTest c; target = writtenTarget a; expression = writtenExpression a }
 
 -- where the next step stands, whether or not it will be the last of its loop
 unfoldable pub settingIn : Around → Setting
@@ -98,12 +98,12 @@ advance st end = record {
   around = withStep (st .around);
   open-rules = none;
 }
-advance st (loop f) = record { steps = st .steps; around = Unused (fieldOf f); open-rules = none }
+advance st (loop f) = record { steps = st .steps; around = Unused (letterField f); open-rules = none }
 advance st done = record { steps = closeLoop (st .steps); around = Outside; open-rules = none }
 advance st (rule c a) = record {
   steps = st .steps;
   around = st .around;
-  open-rules = some (openRules st ++ (ruleOf c a ∷ []));
+  open-rules = some (openRules st ++ (writtenRule c a ∷ []));
 }
 
 -- line k of the text: "lowest number first"
@@ -112,12 +112,12 @@ lineOutcome s st k none = refused 7 k
 lineOutcome s st k (some l) = unless (lineRefusal s st l) k (O.done (advance st l))
 
 -- behind the last line: a step or loop that is still open is 8, "one past the last line"
-unfoldable pub closed : State → ℕ → Outcome Program
-closed st k = cond (not (isOpen st) && isOutside (st .around)) (O.done (st .steps)) (refused 8 k)
+unfoldable pub closedText : State → ℕ → Outcome Program
+closedText st k = cond (not (isOpen st) && isOutside (st .around)) (O.done (st .steps)) (refused 8 k)
 
 -- "Line by line", from line k on
 unfoldable pub readFrom : Sizes → State → ℕ → List Piece → Outcome Program
-readFrom s st k [] = closed st k
+readFrom s st k [] = closedText st k
 readFrom s st k (p ∷ ps) = after (lineOutcome s st k (pieceForm p)) (λ st. readFrom s st (suc k) ps)
 
 -- before the first line
@@ -140,13 +140,13 @@ rulesAt (x ∷ xs) (suc zero) = O.done (x .rules)
 rulesAt (x ∷ xs) (suc (suc k)) = rulesAt xs (suc k)
 
 -- "A plan's result is its lines, each with kind (Back or Read), chain and round, and whether a remote exchange follows."
-pub record Planned : Type 0 where
+pub record PlanResult : Type 0 where
   pub plan-lines : List (Fact × ℕ)
   pub remote : Bool
 
-unfoldable pub planned : List Rule → Planned
-planned rs = record { plan-lines = result (readings rs); remote = hasRemote rs }
+unfoldable pub planResult : List Rule → PlanResult
+planResult rs = record { plan-lines = result (readings rs); remote = hasRemote rs }
 
 -- the plan of step k: the register, the text, then 17
-unfoldable pub planOfStep : List ℕ → List ℕ → ℕ → Outcome Planned
-planOfStep file text k = after (check file text) (λ p. after (rulesAt p k) (λ rs. O.done (planned rs)))
+unfoldable pub planOfStep : List ℕ → List ℕ → ℕ → Outcome PlanResult
+planOfStep file text k = after (check file text) (λ p. after (rulesAt p k) (λ rs. O.done (planResult rs)))

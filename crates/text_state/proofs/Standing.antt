@@ -14,11 +14,11 @@ use Rattle.register.specs.Shape.{Limits}
 use Rattle.register.specs.declared.Sizes.{Sizes}
 use Rattle.laws.proofs.Bools.{and-both}
 use Rattle.chain.proofs.Fields.{field-below}
-use Rattle.chain_text.specs.Text.{names, fieldOf}
+use Rattle.chain_text.specs.Text.{names, letterField}
 use Rattle.text_forms.specs.Written as W
 use Rattle.text_forms.specs.Written.{Line, step, end, done, loop, rule}
 use Rattle.text_forms.specs.Parts.{named, fieldNamed, target}
-use Rattle.text_local.specs.ActionRead.{ruleOfAction}
+use Rattle.text_local.specs.ActionRead.{packedRule}
 use Rattle.text_line.specs.LineRead.{lineRead}
 use Rattle.text_rules.proofs.Passing.{close-length}
 use Rattle.program.specs.declared.rule.Sort.the-variants.{Least, Total}
@@ -26,7 +26,7 @@ use Rattle.program.specs.Program as P
 use Rattle.program.specs.Program.{Target, Rule, Step, stepPlan, writes, isRemote, hasRemote, mostLines, isLeast, isTotal, someTarget}
 use Rattle.text_rules.specs.Check.{isOpen, openRules}
 use Rattle.text_rules.specs.Check as C
-use Rattle.text_rules.specs.Text.{ruleOf, targetOf, closeLoop, withStep, advance, start}
+use Rattle.text_rules.specs.Text.{writtenRule, writtenTarget, closeLoop, withStep, advance, start}
 use Rattle.text_rules.proofs.Checked.{Clean, letter-field}
 use Rattle.program.proofs.Rules.{some-append}
 use Rattle.text_state.specs.State.{noRules, moreRules, withRemote, withRule, startState, standing, advanceOf}
@@ -93,9 +93,9 @@ module _ {x : Tally} {rs : List Rule} (h : Counts x rs) (r : Rule) where
     sort-taken g i b f = taken-more l g f i ∙ sym (some-append (sort f) rs r ∙ rw (b f, k f))
 
   -- the rule writes its field
-  module _ (k : P.fieldOf (r .target) < 16) where
+  module _ (k : P.targetField (r .target) < 16) where
     abbrev fields : List Bool
-    fields = set (x .fields) (P.fieldOf (r .target)) true
+    fields = set (x .fields) (P.targetField (r .target)) true
 
     counts-more : (remote : Bool) (leasts totals : List Bool) → remote ≡ hasRemote rs || isRemote (r .target) → length leasts ≡ 16 → length totals ≡ 16
         → ((f : ℕ) → getD leasts f false ≡ someTarget (isLeast f) (rs ++ (r ∷ [])))
@@ -114,27 +114,27 @@ module _ {x : Tally} {rs : List Rule} (h : Counts x rs) (r : Rule) where
     }
 
     counts-local : isRemote (r .target) ≡ false → ((f : ℕ) → isLeast f (r .target) ≡ false) → ((f : ℕ) → isTotal f (r .target) ≡ false)
-        → Counts (moreRules x (P.fieldOf (r .target))) (rs ++ (r ∷ []))
+        → Counts (moreRules x (P.targetField (r .target))) (rs ++ (r ∷ []))
     unfolding moreRules
     counts-local a b d =
         counts-more (x .remote) (x .leasts) (x .totals) (h .remote-is ∙ sym (rw (a, or-false))) (h .leasts-length) (h .totals-length)
         (sort-same isLeast (x .leasts) (h .leasts-are) b) (sort-same isTotal (x .totals) (h .totals-are) d)
 
 -- a rule that has passed
-counts-rule : {x : Tally} {rs : List Rule} (t : W.Condition) (a : W.Action) → Counts x rs → fieldOf (target a) < 16
-    → Counts (withRule x (ruleOfAction a)) (rs ++ (ruleOf t a ∷ []))
-unfolding withRule moreRules withRemote ruleOfAction ruleOf targetOf target P.fieldOf isRemote isLeast isTotal
+counts-rule : {x : Tally} {rs : List Rule} (t : W.Condition) (a : W.Action) → Counts x rs → letterField (target a) < 16
+    → Counts (withRule x (packedRule a)) (rs ++ (writtenRule t a ∷ []))
+unfolding withRule moreRules withRemote packedRule writtenRule writtenTarget target P.targetField isRemote isLeast isTotal
 counts-rule t (W.set f x) h k = counts-local h _ k refl (λ i. refl) (λ i. refl)
 counts-rule t (W.combine f op x y) h k = counts-local h _ k refl (λ i. refl) (λ i. refl)
 counts-rule {x} {rs} t (W.remote Least f c y) h k =
-    let taken = sort-taken h _ isLeast (x .leasts) (h .leasts-are) (fieldOf f) (omega (arith, k, h .leasts-length)) (λ i. refl) in
-    counts-more h _ k true (set (x .leasts) (fieldOf f) true) (x .totals) (sym (or-true (hasRemote rs)))
-    (length-set (x .leasts) (fieldOf f) true ∙ h .leasts-length) (h .totals-length)
+    let taken = sort-taken h _ isLeast (x .leasts) (h .leasts-are) (letterField f) (omega (arith, k, h .leasts-length)) (λ i. refl) in
+    counts-more h _ k true (set (x .leasts) (letterField f) true) (x .totals) (sym (or-true (hasRemote rs)))
+    (length-set (x .leasts) (letterField f) true ∙ h .leasts-length) (h .totals-length)
     taken (sort-same h _ isTotal (x .totals) (h .totals-are) (λ i. refl))
 counts-rule {x} {rs} t (W.remote Total f c y) h k =
-    let taken = sort-taken h _ isTotal (x .totals) (h .totals-are) (fieldOf f) (omega (arith, k, h .totals-length)) (λ i. refl) in
-    counts-more h _ k true (x .leasts) (set (x .totals) (fieldOf f) true) (sym (or-true (hasRemote rs)))
-    (h .leasts-length) (length-set (x .totals) (fieldOf f) true ∙ h .totals-length)
+    let taken = sort-taken h _ isTotal (x .totals) (h .totals-are) (letterField f) (omega (arith, k, h .totals-length)) (λ i. refl) in
+    counts-more h _ k true (x .leasts) (set (x .totals) (letterField f) true) (sym (or-true (hasRemote rs)))
+    (h .leasts-length) (length-set (x .totals) (letterField f) true ∙ h .totals-length)
     (sort-same h _ isLeast (x .leasts) (h .leasts-are) (λ i. refl)) taken
 
 -- the most lines with one more step, and with the last step the last of its loop
@@ -176,5 +176,5 @@ module _ (s : Sizes) (lim : Limits s) {x : State} {st : C.State} (h : Stands x s
     around-is = h .around-is;
     in-step = refl;
     tally-is = counts-rule c a (h .tally-is)
-        (field-below s lim (fieldOf (target a)) (letter-field s lim (target a) (and-both (names s (target a)) _ (k .is-named) .0)));
+        (field-below s lim (letterField (target a)) (letter-field s lim (target a) (and-both (names s (target a)) _ (k .is-named) .0)));
   }

@@ -25,7 +25,7 @@ use Rattle.text_forms.specs.Token.{Token, token, other}
 use Rattle.text_forms.specs.Term.{ofNumber, ofChain, termForm, printedTerm}
 use Rattle.text_forms.specs.Parts.{isReferenceTerm, termNamed, termKinded, termShort, termInRange}
 use Rattle.text_tokens.specs.Tokens.{numberRead}
-use Rattle.text_terms.specs.Read.{plainNumber, plainParts, numberParts, numberTerm, termOf, termChecks, partsOf, termRead, chainParts}
+use Rattle.text_terms.specs.Read.{plainNumber, plainParts, numberParts, numberTerm, packedTerm, termChecks, partsOf, termRead, chainParts}
 use Rattle.text_terms.specs.declared.term.TermParts.{TermParts}
 use Rattle.text_terms.specs.declared.term.TermRead.{TermRead}
 use Rattle.text_terms.specs.declared.term.TermRead.the-variants.{Parts, NoForm as NoTerm}
@@ -62,7 +62,7 @@ reference-first t ls r e =
     go (l ∷ ls) h = reference-letter l (and-both (isCapital l) (every isCapital ls) h .0)
 
 pub chain-parts : (s : Sizes) (ls : List ℕ) (b : ℕ) → ltb b 77 || ltb 90 b ≡ isReferenceTerm (W.chain ls) → chainParts (summary s ls) b ≡ partsOf s (W.chain ls)
-unfolding chainParts summary partsOf termOf termChecks termNamed termKinded termShort termInRange
+unfolding chainParts summary partsOf packedTerm termChecks termNamed termKinded termShort termInRange
 chain-parts s ls b h = rw (h, at-most 16 (length ls))
   where
     at-most : (k n : ℕ) → not (ltb k n) ≡ leb n k
@@ -73,7 +73,7 @@ chain-parts s ls b h = rw (h, at-most 16 (length ls))
         go false e = sym (le-leb n k (ltb-false k n e))
 
 number-parts : (s : Sizes) (negative : Bool) (ds : List ℕ) → numberParts (sumOf (numberValue negative ds)) ≡ partsOf s (W.number negative ds)
-unfolding numberParts plainParts partsOf termOf plainNumber termChecks termNamed termKinded termShort termInRange isReferenceTerm sumOf
+unfolding numberParts plainParts partsOf packedTerm plainNumber termChecks termNamed termKinded termShort termInRange isReferenceTerm sumOf
 number-parts s negative ds = go (inRange (numberValue negative ds)) refl
   where
     go : (x : Bool) → inRange (numberValue negative ds) ≡ x → numberParts (sumOf (numberValue negative ds)) ≡ partsOf s (W.number negative ds)

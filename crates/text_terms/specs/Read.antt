@@ -35,13 +35,13 @@ plainNumber (InRange z) = PlainNumber z
 plainNumber OutOfRange = PlainNumber (pos 0)
 
 -- a chain of at most 16 hops, packed; of a longer one the first 16
-unfoldable pub termOf : W.Term → Term
-termOf (W.chain ls) = PackedChain (pack (wordOf (take 16 ls)))
-termOf (W.number negative ds) = plainNumber (sumOf (numberValue negative ds))
+unfoldable pub packedTerm : W.Term → Term
+packedTerm (W.chain ls) = PackedChain (pack (wordOf (take 16 ls)))
+packedTerm (W.number negative ds) = plainNumber (sumOf (numberValue negative ds))
 
 -- a term, whether it is a reference, and what 9 to 12 ask of it
 unfoldable pub partsOf : Sizes → W.Term → TermParts
-partsOf s x = record { term = termOf x; reference = isReferenceTerm x; checks = termChecks s x }
+partsOf s x = record { term = packedTerm x; reference = isReferenceTerm x; checks = termChecks s x }
 
 -- the answer for a term whose text stands from `at` on
 unfoldable pub termRead : Sizes → ℕ → Token W.Term → TermRead

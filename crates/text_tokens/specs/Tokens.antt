@@ -5,7 +5,7 @@ use mathlib.Core.Bool.{cond}
 use mathlib.Core.List.{List}
 use lib.ListN.{length}
 use Rattle.text_forms.specs.Numeral.{digits, decimal, capped, NumberForm, number, unformed, printedNumber, cappedValue}
-use Rattle.text_forms.specs.Token.{begins}
+use Rattle.text_forms.specs.Token.{opensWith}
 use Rattle.text_tokens.specs.declared.token.Place.{Place}
 use Rattle.text_tokens.specs.declared.token.Place.the-variants.{At, Nothing}
 use Rattle.text_tokens.specs.declared.numeral.Digits.{Digits}
@@ -14,7 +14,7 @@ use Rattle.text_tokens.specs.declared.numeral.NumberRead.the-variants.{N
 
 -- the place behind a word that stands at `at`
 unfoldable pub literalRead : ℕ → List ℕ → List ℕ → Place
-literalRead at w t = cond (begins w t) (At (at + length w)) Nothing
+literalRead at w t = cond (opensWith w t) (At (at + length w)) Nothing
 
 -- the digits that a text t begins with, read from `at` on
 pub record ReadsDigits (at : ℕ) (t : List ℕ) (d : Digits) : Type 0 where

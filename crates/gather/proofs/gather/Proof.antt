@@ -6,8 +6,8 @@ use borrow.Author.Needs.{needs}
 use denote.Ref.{now}
 use Rattle.register.specs.File.{cellsOfFile}
 use Rattle.register.proofs.Loading.{file-parts}
-use Rattle.plan_theory.specs.Plan.{last-round}
-use Rattle.plan_lines.specs.Held.{facts-in}
+use Rattle.plan_theory.specs.Plan.{lastRound}
+use Rattle.plan_lines.specs.Held.{factsIn}
 use Rattle.program.specs.Program.{stepPlan}
 use Rattle.gather_follow.specs.Filled.{FollowLines}
 use Rattle.gather_follow.proofs.Readings.{lines-follow}
@@ -17,7 +17,7 @@ use Rattle.gather.proofs.gather.Statement.{statement}
 use Rattle.gather.proofs.gather.Tie as tie
 
 -- the lines are the step's plan
-facts-are : (c : tie.Start) → facts-in (now (c .args .keys)) (c .args .count) ≡ stepPlan (c .pre .1 .rules)
+facts-are : (c : tie.Start) → factsIn (now (c .args .keys)) (c .args .count) ≡ stepPlan (c .pre .1 .rules)
 facts-are c = c .pre .1 .holds .facts-are
 
 values-part-requires : tie.Need-values-part-requires
@@ -88,7 +88,7 @@ same-length-4 c = search needs
 
 -- the last round, and what the exchanges up to it make
 last-is : (c : tie.After-last-round) → let b = c .before .before .before .before .before .before .before in
-    c .last-round .result ≡ last-round (facts-in (now (b .args .keys)) (b .args .count))
+    c .last-round .result ≡ lastRound (factsIn (now (b .args .keys)) (b .args .count))
 last-is c =
     let b = c .before .before .before .before .before .before .before in
     c .last-round .ensures .last-is _ (planned-count (b .pre .1)) (planned-rounds (b .pre .1))

@@ -7,7 +7,7 @@ use native.Mathlib.Omega.{arith}
 use denote.Ref.{now}
 use lib.ListN.{length}
 use Rattle.register.specs.Cells.{cellsOf}
-use Rattle.plan_lines.specs.Held.{facts-in}
+use Rattle.plan_lines.specs.Held.{factsIn}
 use Rattle.gather_exchanges.specs.Exchanged.{ExchangedTo}
 use Rattle.gather_exchanges.proofs.Counting.{plan-below}
 use Rattle.gather_exchanges.proofs.Sending.{plan-count, plan-from-one}
@@ -18,7 +18,7 @@ use Rattle.gather_exchanges.proofs.exchange_to.Tie as tie
 
 abbrev Inv-loop : tie.InvT-loop
 Inv-loop cells filled values₀ marks₀ sizes keys rounds backs reads count last sent₀ t₀ values marks sent t =
-    (t ≤ last) × ExchangedTo sizes (cellsOf cells filled) (facts-in keys count) t values₀ marks₀ values marks sent
+    (t ≤ last) × ExchangedTo sizes (cellsOf cells filled) (factsIn keys count) t values₀ marks₀ values marks sent
 
 abbrev μ-loop : tie.MeasureT-loop
 μ-loop cells filled values₀ marks₀ sizes keys rounds backs reads count last sent₀ t₀ values marks sent t = last - t
@@ -41,7 +41,7 @@ exchange-requires c κs =
 
 -- one more exchange
 done : (c : tie.After-exchange Inv-loop μ-loop) → let l = c .before .before .before .before in let a = l .before .before .before .before .args in
-    ExchangedTo (a .sizes) (cellsOf (now (a .cells)) (now (a .filled))) (facts-in (now (a .keys)) (a .count)) (l .loop .t + 1)
+    ExchangedTo (a .sizes) (cellsOf (now (a .cells)) (now (a .filled))) (factsIn (now (a .keys)) (a .count)) (l .loop .t + 1)
     (now (a .values)) (now (a .marks)) (c .exchange .last .1 .1 .0) (c .exchange .last .1 .1 .1 .0) (l .loop .sent + c .exchange .result)
 done c = to-next _ _ _ _ _ _ (c .before .before .before .before .loop .inv .1) (c .exchange .ensures)
 
@@ -50,7 +50,7 @@ add-sent c =
     let x = c .before .before .before in
     let s = x .before .before .before .before .before .before .before .before in
     let n = s .args .sizes .records in
-    let few : length (facts-in (now (s .args .keys)) (s .args .count)) ≤ 64 = omega (arith, plan-count (s .pre .2 .lines), s .pre .2 .lines .keyed .taken≤) in
+    let few : length (factsIn (now (s .args .keys)) (s .args .count)) ≤ 64 = omega (arith, plan-count (s .pre .2 .lines), s .pre .2 .lines .keyed .taken≤) in
     record { fits = omega (arith, plan-below _ _ n _ (done x .messages), mul-le-mul-right n few, s .pre .0 .limits .records≤) }
 
 add-t : tie.Need-add-t Inv-loop μ-loop

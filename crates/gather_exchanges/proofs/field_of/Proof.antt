@@ -5,7 +5,7 @@ use native.Mathlib.Omega.{arith}
 use borrow.Author.Needs.{needs}
 use Rattle.chain.specs.Word.{unpack}
 use Rattle.plan_theory.specs.Plan.{word}
-use Rattle.plan_keys.specs.Keys.{fact-of}
+use Rattle.plan_keys.specs.Keys.{factOf}
 use Rattle.plan_keys.proofs.Keys.{hops-long, hops-short}
 use Rattle.machine_messages.specs.Held.{needed}
 use Rattle.gather_exchanges.proofs.Held.{needed-one, needed-rest}
@@ -14,10 +14,10 @@ use Rattle.gather_exchanges.proofs.field_of.Statement.{statement}
 use Rattle.gather_exchanges.proofs.field_of.Tie as tie
 
 -- the packed word that the writer has to know: the line's own, or the rest of it
-own-word : (c : tie.After-chain-of) → unpack (c .chain-of .result) ≡ needed (fact-of (c .before .before .args .key))
+own-word : (c : tie.After-chain-of) → unpack (c .chain-of .result) ≡ needed (factOf (c .before .before .args .key))
 own-word c = c .chain-of .ensures ∙ sym (needed-one _ (hops-short _ (c .before .if1 .taken)))
 
-rest-word : (c : tie.After-chain-of2) → unpack (c .chain-of2 .result) ≡ needed (fact-of (c .before .before .before .args .key))
+rest-word : (c : tie.After-chain-of2) → unpack (c .chain-of2 .result) ≡ needed (factOf (c .before .before .before .args .key))
 rest-word c =
     c .chain-of2 .ensures ∙ ap word (c .before .needs-of .ensures .read-is)
     ∙ sym (needed-rest _ (hops-long _ (omega (arith, c .before .before .if1 .left))))

@@ -12,18 +12,18 @@ use denote.Ref.{now}
 use Rattle.register.specs.Cells.{cellsOf}
 use Rattle.chain.proofs.Packing.{packed-some}
 use Rattle.plan_theory.specs.Plan.{word, line}
-use Rattle.plan_keys.specs.Keys.{fact-of, kind}
-use Rattle.plan_lines.specs.Held.{facts-in}
+use Rattle.plan_keys.specs.Keys.{factOf, kind}
+use Rattle.plan_lines.specs.Held.{factsIn}
 use Rattle.plan_keys.specs.declared.key.Kind.{Kind}
 use Rattle.plan_lines.proofs.Search.{facts-length}
 use Rattle.gather_follow.specs.Filled.{Filled}
-use Rattle.gather_follow.proofs.Filling.{factOf, line-by-key, plan-none, plan-back, plan-unwanted, plan-read}
+use Rattle.gather_follow.proofs.Filling.{kindFact, line-by-key, plan-none, plan-back, plan-unwanted, plan-read}
 use Rattle.gather_follow.proofs.fill.Statement.{statement}
 use Rattle.gather_follow.proofs.fill.Tie as tie
 
 abbrev Inv-loop : tie.InvT-loop
 Inv-loop cells filled values₀ marks₀ sizes keys wanted count i₀ values marks i =
-    (i ≤ count) × Filled sizes (cellsOf cells filled) (facts-in keys count) wanted i values₀ marks₀ values marks
+    (i ≤ count) × Filled sizes (cellsOf cells filled) (factsIn keys count) wanted i values₀ marks₀ values marks
 
 abbrev μ-loop : tie.MeasureT-loop
 μ-loop cells filled values₀ marks₀ sizes keys wanted count i₀ values marks i = count - i
@@ -60,8 +60,8 @@ chain-of-requires : tie.Need-chain-of-requires Inv-loop μ-loop
 chain-of-requires c κs = search needs
 
 -- the line that is looked at, by its kind and word
-this-line : (c : tie.In-loop Inv-loop μ-loop) {k : Kind} {w : List ℕ} → let fact = fact-of (getD (now (start c .args .keys)) (at c) 0) in
-    k ≡ kind fact → w ≡ word fact → line (facts-in (now (start c .args .keys)) (start c .args .count)) (at c) ≡ factOf k w
+this-line : (c : tie.In-loop Inv-loop μ-loop) {k : Kind} {w : List ℕ} → let fact = factOf (getD (now (start c .args .keys)) (at c) 0) in
+    k ≡ kind fact → w ≡ word fact → line (factsIn (now (start c .args .keys)) (start c .args .count)) (at c) ≡ kindFact k w
 this-line c e q = line-by-key _ _ (at c) (start c .pre .2 .keyed) (omega arith) e q
 
 fill-line-requires : tie.Need-fill-line-requires Inv-loop μ-loop
@@ -75,7 +75,7 @@ fill-line-requires c κs =
     let room = mul-le-mul-right (start b .args .sizes .records) listed in
     let count-is = facts-length (now (start b .args .keys)) (start b .args .count) (omega arith) in
     let this = this-line b (sym (c .before .before .before .enum-told2 .given .1) ∙ k .kind-of .ensures) (c .chain-of .ensures) in
-    let inside : at b < length (facts-in (now (start b .args .keys)) (start b .args .count)) = omega (arith, count-is) in (
+    let inside : at b < length (factsIn (now (start b .args .keys)) (start b .args .count)) = omega (arith, count-is) in (
       pre .0,
       pre .1,
       ready .follow .each (at b) _ inside this,
@@ -92,7 +92,7 @@ loop-less c = omega arith
 
 -- one more line is filled, or has no reading that is wanted
 filled : (c : tie.Joined1 Inv-loop μ-loop) → let b = c .before .before in
-    Filled (start b .args .sizes) (cellsOf (now (start b .args .cells)) (now (start b .args .filled))) (facts-in (now (start b .args .keys)) (start b .args .count))
+    Filled (start b .args .sizes) (cellsOf (now (start b .args .cells)) (now (start b .args .filled))) (factsIn (now (start b .args .keys)) (start b .args .count))
     (now (start b .args .wanted)) (at b + 1) (now (start b .args .values)) (now (start b .args .marks)) (c .if1 .values) (c .if1 .marks)
 filled c =
     let b = c .before .before in

@@ -14,7 +14,7 @@ use Rattle.register.specs.declared.Sizes.{Sizes}
 use Rattle.register.proofs.Bounds.{limits}
 use Rattle.register.proofs.Roundtrip.{Bytes, Loads, cells-valid}
 use Rattle.plan_theory.specs.Plan.{Fact}
-use Rattle.plan_lines.specs.Held.{Holds}
+use Rattle.plan_lines.specs.Held.{HoldsLines}
 use Rattle.plan_lines.proofs.Appending.{holds-count}
 use Rattle.program.specs.Program.{mostLines, stepPlan}
 use Rattle.machine.specs.Run.{scratch, isShort}
@@ -25,7 +25,7 @@ use Rattle.op_check.proofs.Passed.{StepThere, step-passes, loaded, passed, few-
 use Rattle.op_inspect.specs.Inspection.{inspection}
 use Rattle.op_inspect.specs.Answer.{refusedWith, shownLines, Answered}
 use Rattle.op_inspect.specs.declared.InspectAnswer.{InspectAnswer}
-use Rattle.op_inspect.proofs.Answering.{look-refused, look-short, look-done, lines-room, refused-answered, step-answered}
+use Rattle.op_inspect.proofs.Answering.{inspect-refused, inspect-short, inspect-done, lines-room, refused-answered, step-answered}
 use Rattle.op_inspect.proofs.inspect.Statement.{statement}
 use Rattle.op_inspect.proofs.inspect.Tie as tie
 
@@ -55,7 +55,7 @@ module _ (c : tie.Else1) where
   found : StepFound file (now (entry .args .text)) (entry .args .step) answer
   found = c .before .before .plan-step .ensures .1 (c .if1 .left)
 
-  holds : Holds (answer .plan) (stepPlan (found .rules))
+  holds : HoldsLines (answer .plan) (stepPlan (found .rules))
   holds = rw (found .lines-are) at (c .before .before .plan-step .ensures .0 .sound (c .if1 .left))
 
   loads : Loads (sizesOf file) file
@@ -89,7 +89,7 @@ refused-requires c κs = search needs
 returns : tie.Need-returns
 returns c =
     let x = c .before .before .before in
-    turned-back (x .before .before .before .before) (look-refused _ _ _ _ _ (refused-answer (x .plan-step .ensures .0) (c .before .if1 .taken)))
+    turned-back (x .before .before .before .before) (inspect-refused _ _ _ _ _ (refused-answer (x .plan-step .ensures .0) (c .before .if1 .taken)))
     (c .refused .ensures)
 
 sizes-of-requires : tie.Need-sizes-of-requires
@@ -107,7 +107,7 @@ returns-2 : tie.Need-returns-2
 returns-2 c =
     let p = c .before .before in
     let f = found (there p) in
-    turned-back (entry (there p)) (look-short _ _ _ _ _ (f .checked) (f .there) (sym (short-is p) ∙ c .before .if2 .taken)) (c .refused2 .ensures)
+    turned-back (entry (there p)) (inspect-short _ _ _ _ _ (f .checked) (f .there) (sym (short-is p) ∙ c .before .if2 .taken)) (c .refused2 .ensures)
 
 show-requires : tie.Need-show-requires
 show-requires c κs =
@@ -137,7 +137,7 @@ returns-3 c =
     let a = entry (there p) .args in
     let f = found (there p) in
     step-answered (now (a .file)) (a .t) (now (a .values)) (now (a .marks))
-    (look-done _ _ _ _ _ (f .checked) (f .there) (sym (short-is p) ∙ q .if2 .left))
+    (inspect-done _ _ _ _ _ (f .checked) (f .there) (sym (short-is p) ∙ q .if2 .left))
     (record {
       answer-is = ap shownLines (sym (holds-count (holds (there p))));
       shown = rw (p .before .sizes-of .ensures, f .lines-are) at (c .before .before .before .show .ensures);

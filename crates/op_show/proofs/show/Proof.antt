@@ -4,8 +4,8 @@ use mathlib.Core.Path.{_≡_}
 use native.Mathlib.Omega.{arith}
 use borrow.Author.Needs.{needs}
 use denote.Ref.{now}
-use Rattle.plan_theory.specs.Plan.{last-round}
-use Rattle.plan_lines.specs.Held.{facts-in}
+use Rattle.plan_theory.specs.Plan.{lastRound}
+use Rattle.plan_lines.specs.Held.{factsIn}
 use Rattle.gather_exchanges.proofs.Planned.{planned-lines, planned-followable, planned-count, planned-rounds, planned-last}
 use Rattle.op_show.proofs.Showing.{parts-cells, parts-valid, shown}
 use Rattle.op_show.proofs.show.Statement.{statement}
@@ -19,7 +19,7 @@ module _ (c : tie.After-clear) where
   abbrev last-known : tie.After-last-round
   last-known = c .before .before .before .before .before
 
-  last-is : let a = start .args in last-known .last-round .result ≡ last-round (facts-in (now (a .keys)) (a .count))
+  last-is : let a = start .args in last-known .last-round .result ≡ lastRound (factsIn (now (a .keys)) (a .count))
   last-is = last-known .last-round .ensures .last-is _ (planned-count (start .pre .2)) (planned-rounds (start .pre .2))
 
 values-part-requires : tie.Need-values-part-requires

@@ -8,9 +8,9 @@ use borrow.Author.Tests.{lt-ltb, le-ltb}
 use borrow.Fn.Kinds.{In}
 use borrow.Fn.PlainCycle.{Measures, is, falls, and}
 use denote.Ref.{now}
-use Rattle.plan_theory.specs.Plan.{Fact, hops, back-need, read-need, add}
-use Rattle.plan_keys.specs.Keys.{fact-of}
-use Rattle.plan_lines.specs.Held.{facts-in, Holds, plan-of, ExtendedTo}
+use Rattle.plan_theory.specs.Plan.{Fact, hops, backNeed, readNeed, add}
+use Rattle.plan_keys.specs.Keys.{factOf}
+use Rattle.plan_lines.specs.Held.{factsIn, HoldsLines, planOf, ExtendedTo}
 use Rattle.plan_lines.specs.declared.Plan.{Plan}
 use Rattle.plan_keys.proofs.Keys.{hops-short, hops-long}
 use Rattle.plan_lines.proofs.Settled.{unsettled-line, unsettled-new}
@@ -28,7 +28,7 @@ use Rattle.plan_builder.proofs.+add_fact.{statement}
 use Rattle.plan_builder.proofs.+add_fact.Tie.{close}
 
 abbrev μ-add-fact : Measures 4 add-fact-kinds.ps ℕ
-μ-add-fact κs a = hops (fact-of (a .1 .1 .1 .1 .1 .0))
+μ-add-fact κs a = hops (factOf (a .1 .1 .1 .1 .1 .0))
 
 abbrev add-fact-at : ℕ → In 4 add-fact-kinds.ps
 add-fact-at t = and 4 add-fact-kinds.ps (is 4 add-fact-kinds.ps μ-add-fact t) add-fact.Pre
@@ -78,10 +78,10 @@ module _ (t : ℕ) where
 
   -- the lines before, and the fact
   abbrev old : With-needs → List Fact
-  old c = let a = start (c .before) .args in facts-in (now (a .keys)) (a .count)
+  old c = let a = start (c .before) .args in factsIn (now (a .keys)) (a .count)
 
   abbrev fact : With-needs → Fact
-  fact c = fact-of (start (c .before) .args .key)
+  fact c = factOf (start (c .before) .args .key)
 
   is-settled-requires : add-fact-lts.Need-is-settled-requires (called t) (add-fact-at t) add-fact.Post
   is-settled-requires c κs = c .before .pre .1 .0 .keyed
@@ -91,13 +91,13 @@ module _ (t : ℕ) where
 
   -- a fact that is not settled: its line needs nothing, ..
   new-one : (c : add-fact-lts.Then2 (called t) (add-fact-at t) add-fact.Post) → let a = c .before .before .before .before .args in
-      NewOne (facts-in (now (a .keys)) (a .count)) (fact-of (a .key))
+      NewOne (factsIn (now (a .keys)) (a .count)) (factOf (a .key))
   new-one c =
       let unsettled = sym (c .before .before .is-settled .ensures) ∙ c .before .if1 .left in
       record { has-line = unsettled-line _ _ unsettled; one = hops-short _ (c .if2 .taken); new = unsettled-new _ _ unsettled }
 
   -- .. or it has two needs
-  new-both : (c : Long) → let a = start c .args in NewBoth (facts-in (now (a .keys)) (a .count)) (fact-of (a .key))
+  new-both : (c : Long) → let a = start c .args in NewBoth (factsIn (now (a .keys)) (a .count)) (factOf (a .key))
   new-both c = record { two = hops-long _ (c .if2 .left); new = unsettled-new _ _ (sym (c .before .before .is-settled .ensures) ∙ c .before .if1 .left) }
 
   first-line-requires : add-fact-lts.Need-first-line-requires (called t) (add-fact-at t) add-fact.Post
@@ -116,7 +116,7 @@ module _ (t : ℕ) where
   needs-of-requires : add-fact-lts.Need-needs-of-requires (called t) (add-fact-at t) add-fact.Post
   needs-of-requires c κs = (new-both c .two, start c .pre .1 .1)
 
-  shorter : (c : With-needs) → (hops (fact-of (c .needs-of .result .back)) < hops (fact c)) × (hops (fact-of (c .needs-of .result .read)) < hops (fact c))
+  shorter : (c : With-needs) → (hops (factOf (c .needs-of .result .back)) < hops (fact c)) × (hops (factOf (c .needs-of .result .read)) < hops (fact c))
   shorter c = needs-shorter (fact c) (new-both (c .before) .two) (c .needs-of .ensures)
 
   add-fact-requires : add-fact-lts.Need-add-fact-requires (called t) (add-fact-at t) add-fact.Post
@@ -127,12 +127,12 @@ module _ (t : ℕ) where
 
   -- the answer for Back(a), where there is room, ..
   abbrev back-plan : With-back → Plan
-  back-plan c = let p = c .add-fact .last in plan-of (p .0) (p .1 .0) (p .1 .1 .0) (p .1 .1 .1 .0) (c .add-fact .result)
+  back-plan c = let p = c .add-fact .last in planOf (p .0) (p .1 .0) (p .1 .1 .0) (p .1 .1 .1 .0) (c .add-fact .result)
 
-  with-back : (c : With-back) → let n = needs-at c in ExtendedTo (add (old n) (back-need (fact n))) (back-plan c)
+  with-back : (c : With-back) → let n = needs-at c in ExtendedTo (add (old n) (backNeed (fact n))) (back-plan c)
   with-back c = extended-as refl (needs-at c .needs-of .ensures .back-is) (c .add-fact .ensures)
 
-  back-held : (c : add-fact-lts.Else3 (called t) (add-fact-at t) add-fact.Post) → let n = needs-at (c .before) in Holds (back-plan (c .before)) (add (old n) (back-need (fact n)))
+  back-held : (c : add-fact-lts.Else3 (called t) (add-fact-at t) add-fact.Post) → let n = needs-at (c .before) in HoldsLines (back-plan (c .before)) (add (old n) (backNeed (fact n)))
   back-held c = extended-holds (with-back (c .before)) (le-ltb 64 _ (c .if3 .left))
 
   returns-3 : add-fact-lts.Need-returns-3 (called t) (add-fact-at t) add-fact.Post
@@ -147,13 +147,13 @@ module _ (t : ℕ) where
 
   -- .. and then that for Read(b)
   abbrev both-plan : With-both → Plan
-  both-plan c = let p = c .add-fact2 .last in plan-of (p .0) (p .1 .0) (p .1 .1 .0) (p .1 .1 .1 .0) (c .add-fact2 .result)
+  both-plan c = let p = c .add-fact2 .last in planOf (p .0) (p .1 .0) (p .1 .1 .0) (p .1 .1 .1 .0) (c .add-fact2 .result)
 
-  with-both : (c : With-both) → let n = needs-at (back-at c) in ExtendedTo (add (add (old n) (back-need (fact n))) (read-need (fact n))) (both-plan c)
+  with-both : (c : With-both) → let n = needs-at (back-at c) in ExtendedTo (add (add (old n) (backNeed (fact n))) (readNeed (fact n))) (both-plan c)
   with-both c = extended-as (back-held (c .before .before .before .before .before) .facts-are) (needs-at (back-at c) .needs-of .ensures .read-is) (c .add-fact2 .ensures)
 
   both-held : (c : add-fact-lts.Else4 (called t) (add-fact-at t) add-fact.Post) → let n = needs-at (back-at (c .before)) in
-      Holds (both-plan (c .before)) (add (add (old n) (back-need (fact n))) (read-need (fact n)))
+      HoldsLines (both-plan (c .before)) (add (add (old n) (backNeed (fact n))) (readNeed (fact n)))
   both-held c = extended-holds (with-both (c .before)) (le-ltb 64 _ (c .if4 .left))
 
   returns-4 : add-fact-lts.Need-returns-4 (called t) (add-fact-at t) add-fact.Post

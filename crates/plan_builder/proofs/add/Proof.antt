@@ -3,14 +3,14 @@
 use borrow.Author.Tests.{lt-ltb, le-ltb}
 use Rattle.chain.specs.Word.{unpack}
 use Rattle.plan_theory.specs.Plan.{read, add}
-use Rattle.plan_lines.specs.Held.{facts, plan-of, ExtendedTo}
+use Rattle.plan_lines.specs.Held.{facts, planOf, ExtendedTo}
 use Rattle.plan_lines.proofs.Adding.{added-full, added-held}
 use borrow.Author.Needs.{needs}
 use Rattle.plan_builder.proofs.add.Statement.{statement}
 use Rattle.plan_builder.proofs.add.Tie as tie
 
 extended : (c : tie.After-add-fact) → let a = c .before .before .before .before .before .before .before .before .before .before .args in let p = c .add-fact .last in
-    ExtendedTo (add (facts (a .plan)) (read (unpack (a .chain)))) (plan-of (p .0) (p .1 .0) (p .1 .1 .0) (p .1 .1 .1 .0) (c .add-fact .result))
+    ExtendedTo (add (facts (a .plan)) (read (unpack (a .chain)))) (planOf (p .0) (p .1 .0) (p .1 .1 .0) (p .1 .1 .1 .0) (c .add-fact .result))
 extended c = rw (c .before .read .ensures) at (c .add-fact .ensures)
 
 read-requires : tie.Need-read-requires

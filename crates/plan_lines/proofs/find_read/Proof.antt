@@ -4,8 +4,8 @@ use mathlib.Core.Path.{_≡_, sym, ap, _∙_}
 use native.Mathlib.Omega.{arith}
 use denote.Ref.{now}
 use Rattle.chain.specs.Word.{unpack}
-use Rattle.plan_theory.specs.Plan.{read, place}
-use Rattle.plan_lines.specs.Held.{facts-in}
+use Rattle.plan_theory.specs.Plan.{read, lineIndex}
+use Rattle.plan_lines.specs.Held.{factsIn}
 use Rattle.plan_lines.specs.declared.Found.the-variants.{At}
 use Rattle.plan_lines.proofs.Search.{facts-length}
 use Rattle.plan_lines.proofs.Settled.{found-old, found-new}
@@ -13,8 +13,8 @@ use borrow.Author.Needs.{needs}
 use Rattle.plan_lines.proofs.find_read.Statement.{statement}
 use Rattle.plan_lines.proofs.find_read.Tie as tie
 
-place-is : (c : tie.After-find) → let a = c .before .before .args in c .find .result ≡ place (facts-in (now (a .keys)) (a .count)) (read (unpack (a .chain)))
-place-is c = let a = c .before .before .args in c .find .ensures ∙ ap (place (facts-in (now (a .keys)) (a .count))) (c .before .read .ensures)
+place-is : (c : tie.After-find) → let a = c .before .before .args in c .find .result ≡ lineIndex (factsIn (now (a .keys)) (a .count)) (read (unpack (a .chain)))
+place-is c = let a = c .before .before .args in c .find .ensures ∙ ap (lineIndex (factsIn (now (a .keys)) (a .count))) (c .before .read .ensures)
 
 read-requires : tie.Need-read-requires
 read-requires c κs = search needs

@@ -12,14 +12,14 @@ use Rattle.register.specs.Cells.{cellsOf}
 use Rattle.register.specs.declared.cells.Cell.{Cell}
 use Rattle.machine.specs.Run.{sameColumn}
 use Rattle.machine.proofs.Columns.{sameAt, sameColumn-none, sameColumn-same, sameColumn-other}
-use Rattle.run_loop.specs.Column.{Column}
+use Rattle.run_loop.specs.Column.{LoopColumn}
 use Rattle.run_loop.proofs.Standing.{same-told}
 use Rattle.run_loop.proofs.is_same.Statement.{statement}
 use Rattle.run_loop.proofs.is_same.Tie as tie
 
 abbrev Inv-loop : tie.InvT-loop
 Inv-loop cells filled values marks sizes at field u₀ u-end u =
-    (u ≤ u-end) × ((before : List Cell) → Column sizes field before at values marks → sameColumn sizes field before (cellsOf cells filled) u ≡ true)
+    (u ≤ u-end) × ((before : List Cell) → LoopColumn sizes field before at values marks → sameColumn sizes field before (cellsOf cells filled) u ≡ true)
 
 abbrev μ-loop : tie.MeasureT-loop
 μ-loop cells filled values marks sizes at field u₀ u-end u = u-end - u
@@ -45,7 +45,7 @@ same-reading-requires c κs = tt
 
 -- what was compared in this turn
 told : (c : tie.After-same-reading Inv-loop μ-loop) → let l = c .before .before .before .before in let a = l .before .before .before .before .args in
-    (before : List Cell) → Column (a .sizes) (a .field) before (a .at) (now (a .values)) (now (a .marks))
+    (before : List Cell) → LoopColumn (a .sizes) (a .field) before (a .at) (now (a .values)) (now (a .marks))
     → sameAt (a .sizes) (a .field) before (cellsOf (now (a .cells)) (now (a .filled))) (l .loop .u) ≡ c .same-reading .result
 told c before = same-told _ _ before _ _ _ (omega arith) (c .before .before .read-at .ensures) (c .before .read-cell .ensures) (c .same-reading .ensures)
 

@@ -10,7 +10,7 @@ use denote.Ref.{now}
 use lib.ListN.{length, getD, take, drop, length-set}
 use Rattle.register.specs.File.{cellsOfFile}
 use Rattle.program.specs.Kept.{stepsIn, programOf}
-use Rattle.program.specs.Stored.{ruleOf, rulesIn}
+use Rattle.program.specs.Stored.{ruleIn, rulesIn}
 use Rattle.scratch.specs.Places.{Kept}
 use Rattle.step_cells.specs.Work.{Same}
 use Rattle.step_rules.specs.Stepped.{GoesThrough}
@@ -24,7 +24,7 @@ use Rattle.step_rules.proofs.Remotes.{silent-step}
 use Rattle.machine.specs.Run.{direct}
 use Rattle.run_loop.specs.Column.{HasPass, Entered}
 use Rattle.run_steps.proofs.Arrays.{noFrame}
-use Rattle.run_steps.proofs.Standing.{Behind, lines-end, scratch-behind, Stands, here, stands-start, stands-complete, stands-spent, stands-offended, stands-next, passed-column}
+use Rattle.run_steps.proofs.Standing.{Behind, lines-end, scratch-behind, Stands, here, stands-start, stands-complete, stands-exhausted, stands-offended, stands-next, passed-column}
 use Rattle.run_steps.proofs.Turn.{Turn, inside, at-step, setting-passes, planned, lines-room, slot-taken, Prepared, step-room, step-working, step-ready, step-sends, lines-few, writes-turn, local-turn, turn-same, turn-through, turn-stops, column-kept, behind-turn, counts-turn, few-turn}
 use Rattle.run_steps.proofs.run_steps.Statement.{statement}
 use Rattle.run_steps.proofs.run_steps.Tie as tie
@@ -133,7 +133,7 @@ returns : tie.Need-returns Inv-loop2 μ-loop2 Inv-loop3 μ-loop3 Inv-records μ-
 unfolding programOf
 returns c =
     let b = c .before .before .before in
-    rw (c .ended .ensures) (stands-spent (b .loop .inv .0) (omega (arith, c .before .before .loop-test .taken, starts b .pre .2 .steps-are)) (c .before .if1 .taken))
+    rw (c .ended .ensures) (stands-exhausted (b .loop .inv .0) (omega (arith, c .before .before .loop-test .taken, starts b .pre .2 .steps-are)) (c .before .if1 .taken))
 
 mul-frame : tie.Need-mul-frame Inv-loop2 μ-loop2 Inv-loop3 μ-loop3 Inv-records μ-records Inv-loop μ-loop
 mul-frame c = record { fits = omega (arith, few-steps (starts (tops c)), c .before .loop-test .taken) }
@@ -272,7 +272,7 @@ records-again c =
 
 -- what the local rules did: all are done, or the loops were left at a sum out of range
 applied : (c : tie.Left-records Inv-loop2 μ-loop2 Inv-loop3 μ-loop3 Inv-records μ-records Inv-loop μ-loop) {r : Stop} → c .records-test .stop ≡ r → LocalAnswer (c .before .before .before .before .before .before .before .before .before .before .before .before .before .before .before .before .before .before .before .before .before .before .before .before .before .before .before .before .before .before .before .before .before .before .before .before .args .sizes) (cellsOfFile (c .before .before .before .before .before .before .before .before .before .before .before .before .before .before .before .before .before .before .before .before .before .before .before .before .before .before .before .before .before .before .before .before .before .before .before .before .args .sizes) (c .before .before .before .before .before .before .before .before .before .before .before .before .before .before .before .before .before .before .before .before .before .before .before .before .before .before .before .loop .out)) (at (c .before .before .before .before .before .before .before .before .before .before .before .before .before .before .before .before .before .before .before .before .before .before .before .before .before .before .before .before .before .before .before .before .before .before .before .before) + c .before .before .before .before .before .before .before .before .before .before .before .before .before .before .before .before .before .before .before .before .before .before .before .before .before .before .before .before .before .before .before .before .before .before .before .before .args .sizes .records) (rulesIn (getD (c .before .before .before .before .before .before .before .before .before .before .before .before .before .before .before .before .before .before .before .before .before .before .before .before .before .before .before .before .before .before .before .before .before .before .before .before .args .program .frames) (c .before .before .before .before .before .before .before .before .before .before .before .before .before .before .before .before .before .before .before .before .before .before .before .before .before .before .before .loop .step) noFrame .rules) (c .before .before .before .before .before .before .before .before .before .before .before .before .before .before .before .before .before .before .before .before .before .before .before .loop2 .rules)) (c .before .before .before .before .before .gather .last .1 .0) (c .before .before .before .before .before .gather .last .1 .1 .0) (c .records-test .values) (c .records-test .marks) r
-unfolding ruleOf
+unfolding ruleIn
 applied c e =
     let b = c .before .before .before .before .before .before .before .before .before .before .before .before .before .before .before .before .before .before .before .before .before .before .before in
     let d = c .before .before .before .before .before .before .before .before .before .before .before .before .before .before .before .before .before .before .before .before .before .before .before .before .before in

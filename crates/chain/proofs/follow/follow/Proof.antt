@@ -13,8 +13,7 @@ use Rattle.integers.proofs.Complement.{kept}
 use Rattle.register.specs.Cells.{cellsOf}
 use Rattle.chain.specs.Word.{readable, valueAtRecord, unpack, refersTo}
 use Rattle.chain.proofs.Packing.{unpack-none, first-some, taken-apart}
-use Rattle.chain.proofs.Following.{readable-field, readable-rest, named-index, named-below, hop-value}
-use Rattle.chain.proofs.Following.{Underway, underway-first, underway-next, underway-last, underway-missing}
+use Rattle.chain.proofs.Following.{readable-field, readable-rest, named-index, named-below, hop-value, Underway, underway-first, underway-next, underway-last, underway-missing}
 use Rattle.chain.proofs.follow.follow.Statement.{statement}
 use Rattle.chain.proofs.follow.follow.Tie as tie
 

@@ -2,12 +2,12 @@
 -- Assumes nothing.
 use mathlib.Core.Path.{refl}
 use native.Mathlib.Omega.{arith}
-use Rattle.plan_lines.specs.Held.{facts-in}
+use Rattle.plan_lines.specs.Held.{factsIn}
 use Rattle.plan_lines.proofs.Plan.empty.Statement.{statement}
 use Rattle.plan_lines.proofs.Plan.empty.Tie as tie
 
 returns : tie.Need-returns
-unfolding facts-in
+unfolding factsIn
 returns c =
     record {
       facts-are = refl;

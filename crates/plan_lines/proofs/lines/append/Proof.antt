@@ -1,14 +1,14 @@
 -- `plan_lines::lines::append` meets its contract.
 -- Assumes nothing.
 use native.Mathlib.Omega.{arith}
-use Rattle.plan_keys.specs.Keys.{fact-of}
+use Rattle.plan_keys.specs.Keys.{factOf}
 use Rattle.plan_lines.proofs.Appending.{extended-full, extended-append}
 use borrow.Author.Needs.{needs}
 use Rattle.plan_lines.proofs.lines.append.Statement.{statement}
 use Rattle.plan_lines.proofs.lines.append.Tie as tie
 
 returns : tie.Need-returns
-returns c = extended-full (fact-of (c .before .args .line .key)) (c .before .pre .0) (c .if1 .taken) (omega arith)
+returns c = extended-full (factOf (c .before .args .line .key)) (c .before .pre .0) (c .if1 .taken) (omega arith)
 
 mul-keys : tie.Need-mul-keys
 mul-keys c = search needs

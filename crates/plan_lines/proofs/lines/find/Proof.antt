@@ -2,15 +2,15 @@
 -- Assumes nothing.
 use Prim.Native.Nat.{_-_, _≤_}
 use native.Mathlib.Omega.{arith}
-use Rattle.plan_theory.specs.Plan.{place}
-use Rattle.plan_keys.specs.Keys.{fact-of}
-use Rattle.plan_lines.specs.Held.{facts-in}
+use Rattle.plan_theory.specs.Plan.{lineIndex}
+use Rattle.plan_keys.specs.Keys.{factOf}
+use Rattle.plan_lines.specs.Held.{factsIn}
 use Rattle.plan_lines.proofs.Search.{search-found, search-past, search-ended}
 use Rattle.plan_lines.proofs.lines.find.Statement.{statement}
 use Rattle.plan_lines.proofs.lines.find.Tie as tie
 
 abbrev Inv-loop : tie.InvT-loop
-Inv-loop keys count key i₀ i = (i ≤ count) × (i ≤ place (facts-in keys count) (fact-of key))
+Inv-loop keys count key i₀ i = (i ≤ count) × (i ≤ lineIndex (factsIn keys count) (factOf key))
 
 abbrev μ-loop : tie.MeasureT-loop
 μ-loop keys count key i₀ i = count - i

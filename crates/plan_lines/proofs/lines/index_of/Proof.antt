@@ -3,7 +3,7 @@
 use mathlib.Core.Path.{_≡_, sym, _∙_}
 use lib.ListN.{length}
 use denote.Ref.{now}
-use Rattle.plan_lines.specs.Held.{facts-in}
+use Rattle.plan_lines.specs.Held.{factsIn}
 use native.Mathlib.Omega.{arith}
 use Rattle.plan_lines.proofs.Search.{facts-length}
 use Rattle.plan_lines.proofs.Settled.{index-old, index-new}
@@ -11,7 +11,7 @@ use borrow.Author.Needs.{needs}
 use Rattle.plan_lines.proofs.lines.index_of.Statement.{statement}
 use Rattle.plan_lines.proofs.lines.index_of.Tie as tie
 
-lines : (c : tie.Start) → length (facts-in (now (c .args .keys)) (c .args .count)) ≡ c .args .count
+lines : (c : tie.Start) → length (factsIn (now (c .args .keys)) (c .args .count)) ≡ c .args .count
 lines c = facts-length (now (c .args .keys)) (c .args .count) (omega arith)
 
 find-requires : tie.Need-find-requires

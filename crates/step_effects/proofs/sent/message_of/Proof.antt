@@ -11,7 +11,7 @@ use Rattle.program.specs.declared.rule.Rule.{Rule}
 use Rattle.program.proofs.rule.Rule.{the-type}
 use Rattle.program.specs.declared.rule.Rule.the-variants.{Set, Combine, Remote}
 use Rattle.program.specs.Program.{isRemote}
-use Rattle.program.specs.Stored.{targetOf, expressionOf}
+use Rattle.program.specs.Stored.{targetIn, expressionIn}
 use Rattle.machine.specs.Remote.{sentBy}
 use Rattle.step_effects.specs.Answers.{messagesIn}
 use Rattle.step_effects.proofs.Answering.{send-local, send-nothing, send-done}
@@ -23,8 +23,8 @@ enum-known-rule : tie.Need-enum-known-rule
 enum-known-rule c = search needs
 
 -- a rule of the first two variants is a local one
-local : (r : Rule) → OneOf (0 ∷ 1 ∷ []) (tagOf the-type r) → isRemote (targetOf r) ≡ false
-unfolding isRemote targetOf
+local : (r : Rule) → OneOf (0 ∷ 1 ∷ []) (tagOf the-type r) → isRemote (targetIn r) ≡ false
+unfolding isRemote targetIn
 local (Set f x) h = refl
 local (Combine f op x y) h = refl
 local (Remote k f c x) h = absurd (⊎-elim (λ e. omega arith) (λ e. omega arith) h)
@@ -41,7 +41,7 @@ unfolding messagesIn
 returns-2 c = send-nothing _ _ (c .before .holds .ensures) (c .if1 .taken)
 
 send-requires : tie.Need-send-requires
-unfolding targetOf
+unfolding targetIn
 send-requires c κs =
     let r = c .before .before .before .before in
     let p = r .before .before .before .before .before .before .pre in
@@ -49,7 +49,7 @@ send-requires c κs =
     ((p .0 .0, p .0 .1, found), rw (r .rule .given .1) at (p .1))
 
 returns-3 : tie.Need-returns-3
-unfolding targetOf expressionOf sentBy
+unfolding targetIn expressionIn sentBy
 returns-3 c =
     let e = c .before in
     let r = e .before .before .before .before in

@@ -2,7 +2,7 @@
 -- Assumes nothing.
 use mathlib.Core.Path.{sym, _∙_}
 use Rattle.program.specs.Program.{isRemote}
-use Rattle.program.specs.Stored.{targetOf}
+use Rattle.program.specs.Stored.{targetIn}
 use Rattle.step_effects.proofs.Answering.{set-done, combine-done, write-remote, write-nothing, write-done}
 use borrow.Author.Needs.{needs}
 use Rattle.step_effects.proofs.stored.local_write.Statement.{statement}
@@ -58,7 +58,7 @@ returns-4 c =
     c .combine .ensures ∙ combine-done _ _ _ _ _ ∙ write-done _ _ (e .before .holds .ensures) (e .if2 .left) (r .rule2 .given .1)
 
 returns-5 : tie.Need-returns-5
-unfolding isRemote targetOf
+unfolding isRemote targetIn
 returns-5 c = write-remote _ _ (rw (c .enum-told .given .1))
 
 pub local-write-spec : {M : Type 1} → statement M

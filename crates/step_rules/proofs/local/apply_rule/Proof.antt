@@ -18,8 +18,8 @@ use Rattle.register.proofs.Loading.{file-parts}
 use Rattle.chain.specs.declared.reading.Reading.{Reading}
 use Rattle.chain.specs.Word.{hasField}
 use Rattle.chain.proofs.Fields.{field-below}
-use Rattle.program.specs.Program.{Rule, fieldOf}
-use Rattle.program.specs.Stored.{ruleOf}
+use Rattle.program.specs.Program.{Rule, targetField}
+use Rattle.program.specs.Stored.{ruleIn}
 use Rattle.step_terms.specs.Found.{followed}
 use Rattle.step_effects.specs.Answers.{cellWrite, writeOf}
 use Rattle.step_rules.proofs.Locals.{rule-idles, rule-offends, rule-stores, stores-field, offends-field}
@@ -36,10 +36,10 @@ module _ (c : tie.Start) where
   read = followed (c .args .sizes) cells (c .args .u)
 
   abbrev rule : Rule
-  rule = ruleOf (c .args .rule .slot)
+  rule = ruleIn (c .args .rule .slot)
 
-  field : hasField (c .args .sizes) (fieldOf (rule .target)) ≡ true
-  unfolding ruleOf
+  field : hasField (c .args .sizes) (targetField (rule .target)) ≡ true
+  unfolding ruleIn
   field = c .pre .1 .field
 
 values-part-requires : tie.Need-values-part-requires
@@ -136,7 +136,7 @@ same-length-4 : tie.Need-same-length-4
 same-length-4 c = search needs
 
 returns-2 : tie.Need-returns-2
-unfolding ruleOf cellWrite cellOf valueOf
+unfolding ruleIn cellWrite cellOf valueOf
 returns-2 c =
     let stored = c .before .before .before in
     let f = stored .before .before .before .before in
@@ -152,7 +152,7 @@ same-length-6 : tie.Need-same-length-6
 same-length-6 c = search needs
 
 returns-3 : tie.Need-returns-3
-unfolding ruleOf cellWrite cellOf valueOf
+unfolding ruleIn cellWrite cellOf valueOf
 returns-3 c =
     let stored = c .before .before .before in
     let widened = stored .before .before .before in

@@ -13,7 +13,7 @@ use Rattle.register.specs.Cells.{cellsOf}
 use Rattle.register.specs.File.{cellCount}
 use Rattle.register.specs.declared.cells.Cell.{Cell}
 use Rattle.chain.specs.declared.reading.Reading.{Reading}
-use Rattle.program.specs.Stored.{targetOf, ruleOf}
+use Rattle.program.specs.Stored.{targetIn, ruleIn}
 use Rattle.machine.specs.declared.message.Message.{Message}
 use Rattle.machine.specs.Remote.{ruleMessages}
 use Rattle.step_terms.specs.Found.{followed}
@@ -34,8 +34,8 @@ module _ (c : tie.Start) where
   room : Room (c .args .base) (cellCount (c .args .sizes)) (now (c .args .values)) (now (c .args .marks))
   room = rw (sym (c .pre .0 .0 .marks-length)) (c .pre .0 .2)
 
-  placed : {m : Message} → m ∷ [] ≡ ruleMessages read (ruleOf (c .args .rule .slot)) → Placed (c .args .sizes) cells (c .args .u) (c .args .rule) m
-  unfolding ruleOf
+  placed : {m : Message} → m ∷ [] ≡ ruleMessages read (ruleIn (c .args .rule .slot)) → Placed (c .args .sizes) cells (c .args .u) (c .args .rule) m
+  unfolding ruleIn
   placed e = rule-place _ _ _ (c .args .rule) e (c .pre .0 .0 .limits) (c .pre .1 .0 .targets _ (c .pre .0 .1)) (c .pre .1 .0 .field)
 
 slice-reshare-prefix-message-of : tie.Need-slice-reshare-prefix-message-of
@@ -54,7 +54,7 @@ message-of-requires : tie.Need-message-of-requires
 message-of-requires c κs =
     let s = c .before .before .before .before .before in
     let inside = s .pre .0 .1 in
-    let points = targets-point (s .args .sizes .records) (read s) (targetOf (s .args .rule .slot .rule)) (s .pre .1 .0 .targets _ inside) in
+    let points = targets-point (s .args .sizes .records) (read s) (targetIn (s .args .rule .slot .rule)) (s .pre .1 .0 .targets _ inside) in
     ((s .pre .0 .0, inside, s .pre .1 .0 .found _ inside), points)
 
 enum-told : tie.Need-enum-told

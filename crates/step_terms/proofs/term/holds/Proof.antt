@@ -1,7 +1,7 @@
 -- `step_terms::term::holds` meets its contract.
 -- Assumes nothing.
 use mathlib.Core.Path.{ap₂, _∙_}
-use Rattle.program.specs.Stored.{testOf}
+use Rattle.program.specs.Stored.{testIn}
 use Rattle.machine.specs.Value.{holds, compareReadings}
 use borrow.Author.Needs.{needs}
 use Rattle.step_terms.proofs.term.holds.Statement.{statement}
@@ -27,11 +27,11 @@ compare-readings-requires : tie.Need-compare-readings-requires
 compare-readings-requires c κs = search needs
 
 returns : tie.Need-returns
-unfolding testOf holds
+unfolding testIn holds
 returns c = rw (c .enum-told .given .1)
 
 returns-2 : tie.Need-returns-2
-unfolding testOf holds
+unfolding testIn holds
 returns-2 c =
     rw (c .before .before .before .before .test .given .1)
     (c .compare-readings .ensures ∙ ap₂ (compareReadings _) (c .before .before .term-value .ensures) (c .before .term-value2 .ensures))

@@ -4,7 +4,7 @@ use mathlib.Core.Path.{_≡_, sym, ap, _∙_}
 use native.Mathlib.Omega.{arith}
 use lib.ListN.{length}
 use denote.Ref.{now}
-use Rattle.plan_lines.specs.Held.{facts-in}
+use Rattle.plan_lines.specs.Held.{factsIn}
 use Rattle.plan_lines.proofs.Search.{facts-length}
 use Rattle.program.specs.declared.location.Location.the-variants.{Line}
 use Rattle.text_plan.proofs.Listing.{chain-own, chain-cell, chain-line, found-at, found-none}
@@ -13,7 +13,7 @@ use Rattle.text_plan.proofs.locate.locate_chain.Statement.{statement}
 use Rattle.text_plan.proofs.locate.locate_chain.Tie as tie
 
 -- the number of the plan's lines
-lines : (c : tie.Start) → length (facts-in (now (c .args .keys)) (c .args .count)) ≡ c .args .count
+lines : (c : tie.Start) → length (factsIn (now (c .args .keys)) (c .args .count)) ≡ c .args .count
 lines c = facts-length (now (c .args .keys)) (c .args .count) (omega (arith, c .pre .0 .taken≤, c .pre .0 .places))
 
 returns : tie.Need-returns

@@ -2,7 +2,7 @@
 -- Assumes nothing.
 use mathlib.Core.Path.{sym, _∙_}
 use borrow.Author.Needs.{needs}
-use Rattle.text_forms.specs.Line.{sent}
+use Rattle.text_forms.specs.Line.{sentForms}
 use Rattle.text_local.proofs.Actions.{or-refused, or-found}
 use Rattle.text_remote.proofs.remote.read_sent.Statement.{statement}
 use Rattle.text_remote.proofs.remote.read_sent.Tie as tie
@@ -20,7 +20,7 @@ read-of-sort-requires-2 : tie.Need-read-of-sort-requires-2
 read-of-sort-requires-2 c κs = search needs
 
 returns : tie.Need-returns
-unfolding sent
+unfolding sentForms
 returns c =
     let s = c .before .before .before .before .before .args .sizes in
     λ f w e.
@@ -28,7 +28,7 @@ returns c =
     ∙ sym (or-refused s _ _ (sym (c .before .before .before .read-of-sort .ensures f w e) ∙ c .before .enum-told .given .1))
 
 returns-2 : tie.Need-returns-2
-unfolding sent
+unfolding sentForms
 returns-2 c =
     let s = c .before .before .before .before .before .args .sizes in
     λ f w e. sym (or-found s _ _ (sym (c .before .before .before .read-of-sort .ensures f w e) ∙ c .before .rule .given .1))
