@@ -81,8 +81,7 @@ pub fn message_of(
         return Sent::Nothing;
     };
     let test = slot.test;
-    let at = located.at;
-    if !term::holds(cells, filled, values, marks, sizes, u, test, at.test) {
+    if !term::holds(cells, filled, values, marks, sizes, u, test, located.at.test) {
         return Sent::Nothing;
     }
     send(
@@ -96,6 +95,6 @@ pub fn message_of(
         field,
         target,
         x,
-        at.rule,
+        located.at.rule,
     )
 }

@@ -105,11 +105,10 @@ pub fn local_write(
         return Write::Nothing;
     }
     let test = slot.test;
-    let at = located.at;
-    if !term::holds(cells, filled, values, marks, sizes, u, test, at.test) {
+    if !term::holds(cells, filled, values, marks, sizes, u, test, located.at.test) {
         return Write::Nothing;
     }
-    let at = at.rule;
+    let at = located.at.rule;
     match rule {
         Rule::Set(field, x) => {
             let first = at.first;

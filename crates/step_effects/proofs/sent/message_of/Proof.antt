@@ -43,7 +43,7 @@ returns-2 c = send-nothing _ _ (c .before .holds .ensures) (c .if1 .taken)
 send-requires : tie.Need-send-requires
 unfolding targetIn
 send-requires c κs =
-    let r = c .before .before .before .before in
+    let r = c .before .before .before in
     let p = r .before .before .before .before .before .before .pre in
     let found = rw (r .rule .given .1) at (p .0 .2 .rule) in
     ((p .0 .0, p .0 .1, found), rw (r .rule .given .1) at (p .1))
@@ -52,7 +52,7 @@ returns-3 : tie.Need-returns-3
 unfolding targetIn expressionIn sentBy
 returns-3 c =
     let e = c .before in
-    let r = e .before .before .before .before in
+    let r = e .before .before .before in
     c .send .ensures ∙ send-done _ _ (e .before .holds .ensures) (e .if1 .left) (r .rule .given .1)
 
 pub message-of-spec : {M : Type 1} → statement M
