@@ -21,18 +21,9 @@ pub fn of_run(ran: RunAnswer) -> [u64; 8]
     ]
 }
 
-// A look's answer.
-pub fn of_inspection(inspected: InspectAnswer) -> [u64; 8]
-    ensures { λ r. ⌜ r ≡ inspectNumbers inspected ⌝ }
+// The answer of an inspection.
+pub fn of_inspection(answer: InspectAnswer) -> [u64; 8]
+    ensures { λ r. ⌜ r ≡ inspectNumbers answer ⌝ }
 {
-    [
-        inspected.line as u64,
-        0,
-        0,
-        0,
-        0,
-        0,
-        inspected.lines as u64,
-        0,
-    ]
+    [answer.line as u64, 0, 0, 0, 0, 0, answer.lines as u64, 0]
 }

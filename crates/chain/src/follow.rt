@@ -37,21 +37,21 @@ pub fn field_at(sizes: Sizes, column: usize) -> usize
 }
 
 // What is read of the cell of record u and a field.
-pub fn read_cell(values: &[u8], marks: &[u8], sizes: Sizes, u: usize, field: usize) -> Reading
-    requires { ⌜ Parts sizes (now values) (now marks) × (u < sizes .records) × (hasField sizes field ≡ true) ⌝ }
-    ensures { λ r. ⌜ r ≡ readCell sizes (cellsOf (now (values .entry)) (now (marks .entry))) u field ⌝ }
+pub fn read_cell(cells: &[u8], filled: &[u8], sizes: Sizes, u: usize, field: usize) -> Reading
+    requires { ⌜ Parts sizes (now cells) (now filled) × (u < sizes .records) × (hasField sizes field ≡ true) ⌝ }
+    ensures { λ r. ⌜ r ≡ readCell sizes (cellsOf (now (cells .entry)) (now (filled .entry))) u field ⌝ }
 {
     reading::read_of(cells::cell_at(
-        values,
-        marks,
+        cells,
+        filled,
         register::cell_index(sizes, u, column(sizes, field)),
     ))
 }
 
 // The value of a packed chain at record u.
-pub fn follow(values: &[u8], marks: &[u8], sizes: Sizes, chain: u64, u: usize) -> Reading
-    requires { ⌜ Parts sizes (now values) (now marks) × Valid sizes (cellsOf (now values) (now marks)) × (u < sizes .records) × (readable sizes (unpack chain) ≡ true) ⌝ }
-    ensures { λ r. ⌜ r ≡ valueAtRecord sizes (cellsOf (now (values .entry)) (now (marks .entry))) (unpack chain) u ⌝ }
+pub fn follow(cells: &[u8], filled: &[u8], sizes: Sizes, chain: u64, u: usize) -> Reading
+    requires { ⌜ Parts sizes (now cells) (now filled) × Valid sizes (cellsOf (now cells) (now filled)) × (u < sizes .records) × (readable sizes (unpack chain) ≡ true) ⌝ }
+    ensures { λ r. ⌜ r ≡ valueAtRecord sizes (cellsOf (now (cells .entry)) (now (filled .entry))) (unpack chain) u ⌝ }
 {
     let mut reading = Reading::Value(integers::of_index(u));
     let mut rest = chain;
@@ -60,7 +60,7 @@ pub fn follow(values: &[u8], marks: &[u8], sizes: Sizes, chain: u64, u: usize) -
             return Reading::Missing;
         };
         let field = packed::first_hop(rest) as usize;
-        reading = read_cell(values, marks, sizes, integers::index(value), field);
+        reading = read_cell(cells, filled, sizes, integers::index(value), field);
         rest = packed::rest_hops(rest);
     }
     reading

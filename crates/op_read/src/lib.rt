@@ -77,9 +77,9 @@ fn read_loaded(file: &[u8], sizes: Sizes, text: &[u8], u: u64) -> ReadingAnswer
             if sizes.records as u64 <= u {
                 return ReadingAnswer::Record;
             }
-            let values = cells::values_part(file, sizes);
-            let marks = cells::marks_part(file, sizes);
-            ReadingAnswer::Read(follow::follow(values, marks, sizes, chain, u as usize))
+            let cells = cells::values_part(file, sizes);
+            let filled = cells::marks_part(file, sizes);
+            ReadingAnswer::Read(follow::follow(cells, filled, sizes, chain, u as usize))
         }
     }
 }

@@ -81,7 +81,16 @@ pub fn message_of(
         return Sent::Nothing;
     };
     let test = slot.test;
-    if !term::holds(cells, filled, values, marks, sizes, u, test, located.at.test) {
+    if !term::holds(
+        cells,
+        filled,
+        values,
+        marks,
+        sizes,
+        u,
+        test,
+        located.at.test,
+    ) {
         return Sent::Nothing;
     }
     send(

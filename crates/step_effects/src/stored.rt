@@ -105,7 +105,16 @@ pub fn local_write(
         return Write::Nothing;
     }
     let test = slot.test;
-    if !term::holds(cells, filled, values, marks, sizes, u, test, located.at.test) {
+    if !term::holds(
+        cells,
+        filled,
+        values,
+        marks,
+        sizes,
+        u,
+        test,
+        located.at.test,
+    ) {
         return Write::Nothing;
     }
     let at = located.at.rule;

@@ -18,11 +18,11 @@ use Rattle.chain.proofs.follow.follow.Statement.{statement}
 use Rattle.chain.proofs.follow.follow.Tie as tie
 
 abbrev Inv-loop : tie.InvT-loop
-Inv-loop values marks sizes chain u reading₀ rest₀ reading rest =
-    (readable sizes (unpack rest) ≡ true) × Underway sizes (cellsOf values marks) (valueAtRecord sizes (cellsOf values marks) (unpack chain) u) (unpack rest) reading
+Inv-loop cells filled sizes chain u reading₀ rest₀ reading rest =
+    (readable sizes (unpack rest) ≡ true) × Underway sizes (cellsOf cells filled) (valueAtRecord sizes (cellsOf cells filled) (unpack chain) u) (unpack rest) reading
 
 abbrev μ-loop : tie.MeasureT-loop
-μ-loop values marks sizes chain u reading₀ rest₀ reading rest = length (unpack rest)
+μ-loop cells filled sizes chain u reading₀ rest₀ reading rest = length (unpack rest)
 
 -- the loop and the entry, from where the hop is known, and the value that is reached
 abbrev at : tie.After-first-hop Inv-loop μ-loop → tie.At-loop Inv-loop μ-loop

@@ -38,7 +38,7 @@ returns c =
     let s = k .before .before .before .before in
     let a = s .args in
     c .read-of .ensures ∙ ap readOf (c .before .cell-at .ensures)
-    ∙ cell-read (a .sizes) (now (a .values)) (now (a .marks)) (s .pre .0) (a .u) (a .field) (k .cell-index .result) (s .pre .1) (s .pre .2)
+    ∙ cell-read (a .sizes) (now (a .cells)) (now (a .filled)) (s .pre .0) (a .u) (a .field) (k .cell-index .result) (s .pre .1) (s .pre .2)
     (k .cell-index .ensures ∙ ap (cellIndex (a .sizes) (a .u)) (k .before .column .ensures))
 
 pub read-cell-spec : {M : Type 1} → statement M
