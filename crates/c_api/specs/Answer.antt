@@ -5,9 +5,9 @@ use mathlib.Core.Path.{_≡_}
 use mathlib.Core.List.{List, [], _∷_}
 use lib.IntN.{ℤ}
 use lib.ListN.{length}
-use Rattle.register.specs.Outcome.{Outcome, done, refused}
-use Rattle.rules.specs.Program.{Program, mostLines}
-use Rattle.answers.specs.declared.reading.ReadNumbers.{ReadNumbers}
+use Rattle.laws.specs.Outcome.{Outcome, done, refused}
+use Rattle.program.specs.Program.{Program, mostLines}
+use Rattle.api_read.specs.declared.reading.ReadNumbers.{ReadNumbers}
 
 -- what `plot_read` answers: its result, its value and its answer array
 pub record ReadAnswer (n : ReadNumbers) (result : ℕ) (value : ℤ) (answer : List ℕ) : Type 0 where

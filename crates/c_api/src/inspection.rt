@@ -1,8 +1,8 @@
 // The look at a step.
 ghost use lib.ListN.{length};
-ghost use Rattle.inspect.specs.Inspection.{inspection};
+ghost use Rattle.op_inspect.specs.Inspection.{inspection};
 ghost use Rattle.c_api.specs.InspectAnswer.{InspectCalled};
-use answer_array;
+use api_answer;
 
 // Shows a step, counted from 1, after its round t: the refusal number, 0 for none. On a refusal both arrays stay as they are.
 #[no_mangle]
@@ -17,7 +17,7 @@ pub extern "C" fn plot_inspect(
 ) -> u32
     ensures { λ r. ⌜ InspectCalled (inspection (now (file .entry)) (now (text .entry)) step (length (now (values .entry))) (length (now (marks .entry)))) (now (file .entry)) t (now (values .entry)) (now (marks .entry)) (now (values .exit)) (now (marks .exit)) r (now (answer .exit)) ⌝ }
 {
-    let looked = inspect::inspect(file, text, step, t, values, marks);
-    *answer = answer_array::of_look(looked);
-    looked.refusal
+    let inspected = op_inspect::inspect(file, text, step, t, values, marks);
+    *answer = api_answer::of_inspection(inspected);
+    inspected.refusal
 }

@@ -1,8 +1,8 @@
 // A single reading.
-ghost use Rattle.read_chain.specs.Reading.{reading};
-ghost use Rattle.answers.specs.Numbers.{readNumbers};
+ghost use Rattle.op_read.specs.Reading.{reading};
+ghost use Rattle.api_read.specs.Numbers.{readNumbers};
 ghost use Rattle.c_api.specs.Answer.{ReadAnswer};
-use answers::reading;
+use api_read::reading;
 
 // The reading of a chain at record u: the refusal number, 0 for none.
 #[no_mangle]
@@ -15,7 +15,7 @@ pub extern "C" fn plot_read(
 ) -> u32
     ensures { λ r. ⌜ ReadAnswer (readNumbers (reading (now (file .entry)) (now (text .entry)) u)) r (now (value .exit)) (now (answer .exit)) ⌝ }
 {
-    let numbers = reading::numbers(read_chain::reading(file, text, u));
+    let numbers = reading::numbers(op_read::reading(file, text, u));
     let found = numbers.value;
     *value = found;
     *answer = [numbers.line, 0, 0, 0, 0, 0, numbers.filled, 0];

@@ -1,9 +1,9 @@
 // The two runs.
-ghost use Rattle.message_machine.specs.declared.Machine.the-variants.{Direct, Messages};
-ghost use Rattle.runs.specs.Direct.{directRun};
-ghost use Rattle.runs.specs.Answer.{lengths};
+ghost use Rattle.machine_messages.specs.declared.Machine.the-variants.{Direct, Messages};
+ghost use Rattle.op_run.specs.Direct.{directRun};
+ghost use Rattle.op_run.specs.Answer.{lengths};
 ghost use Rattle.c_api.specs.RunAnswer.{RunCalled};
-use answer_array;
+use api_answer;
 
 // Runs a text over a register, every reading by following references: the refusal number, 0 for none.
 #[no_mangle]
@@ -18,8 +18,8 @@ pub extern "C" fn plot_run_direct(
 ) -> u32
     ensures { λ r. ⌜ RunCalled Direct (directRun (now (file .entry)) (now (text .entry)) budget (lengths (now (out .entry)) (now (values .entry)) (now (marks .entry)))) (now (file .entry)) (now (out .entry)) (now (values .entry)) (now (marks .entry)) (now (out .exit)) (now (values .exit)) (now (marks .exit)) r (now (answer .exit)) ⌝ }
 {
-    let ran = runs::run_direct(file, text, budget, out, values, marks);
-    *answer = answer_array::of_run(ran);
+    let ran = op_run::run_direct(file, text, budget, out, values, marks);
+    *answer = api_answer::of_run(ran);
     ran.refusal
 }
 
@@ -36,7 +36,7 @@ pub extern "C" fn plot_run_messages(
 ) -> u32
     ensures { λ r. ⌜ RunCalled Messages (directRun (now (file .entry)) (now (text .entry)) budget (lengths (now (out .entry)) (now (values .entry)) (now (marks .entry)))) (now (file .entry)) (now (out .entry)) (now (values .entry)) (now (marks .entry)) (now (out .exit)) (now (values .exit)) (now (marks .exit)) r (now (answer .exit)) ⌝ }
 {
-    let ran = runs::run_messages(file, text, budget, out, values, marks);
-    *answer = answer_array::of_run(ran);
+    let ran = op_run::run_messages(file, text, budget, out, values, marks);
+    *answer = api_answer::of_run(ran);
     ran.refusal
 }

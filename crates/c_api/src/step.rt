@@ -1,7 +1,7 @@
 // The plan of a step.
-ghost use Rattle.rules.specs.Text.{planOfStep};
+ghost use Rattle.text_rules.specs.Text.{planOfStep};
 ghost use Rattle.c_api.specs.PlanAnswer.{PlanAnswer};
-use plan_arrays;
+use api_plan;
 
 // The plan of a step, counted from 1: the refusal number, 0 for none. On a refusal the three arrays stay as they are.
 #[no_mangle]
@@ -16,14 +16,14 @@ pub extern "C" fn plot_plan(
 ) -> u32
     ensures { λ r. ⌜ PlanAnswer (planOfStep (now (file .entry)) (now (text .entry)) step) r (now (answer .exit)) (record { kinds = now (kinds .entry); chains = now (chains .entry); rounds = now (rounds .entry) }) (record { kinds = now (kinds .exit); chains = now (chains .exit); rounds = now (rounds .exit) }) ⌝ }
 {
-    let found = program::step::plan_step(file, text, step);
+    let found = op_check::step::plan_step(file, text, step);
     if found.refusal != 0 {
         *answer = [found.line as u64, 0, 0, 0, 0, 0, 0, 0];
         return found.refusal;
     }
     let plan = found.plan;
     let count = plan.count;
-    plan_arrays::fill(plan, kinds, chains, rounds);
+    api_plan::fill(plan, kinds, chains, rounds);
     *answer = [
         0,
         0,
@@ -32,7 +32,7 @@ pub extern "C" fn plot_plan(
         0,
         0,
         count as u64,
-        plan_arrays::flag_number(found.remote),
+        api_plan::flag_number(found.remote),
     ];
     0
 }

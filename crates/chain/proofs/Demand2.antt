@@ -7,7 +7,8 @@ use mathlib.Core.List.{List, [], _∷_}
 use lib.IntN.{pos}
 use Rattle.register.specs.declared.Sizes.{Sizes}
 use Rattle.register.specs.declared.cells.Cell.{Cell}
-use Rattle.register.specs.declared.cells.Cell.the-variants.{Missing, Value}
+use Rattle.chain.specs.declared.reading.Reading.{Reading}
+use Rattle.chain.specs.declared.reading.Reading.the-variants.{Missing, Value}
 use Rattle.chain.specs.Word.{hop, follow, valueAtRecord}
 use Rattle.chain.specs.Way.{way, isFilled, allFilled}
 
@@ -15,10 +16,10 @@ and-end : (a : Bool) → a ≡ a && true
 and-end true = refl
 and-end false = refl
 
--- from a missing cell nothing is reached; from a filled one, what the rest of the way gives
-filled-from : (s : Sizes) (cells : List Cell) (c : Cell) (w : List ℕ) → isFilled (follow s cells c w) ≡ isFilled c && allFilled (way s cells c w)
+-- from nothing nothing is reached; from a value, what the rest of the way gives
+filled-from : (s : Sizes) (cells : List Cell) (x : Reading) (w : List ℕ) → isFilled (follow s cells x w) ≡ isFilled x && allFilled (way s cells x w)
 unfolding follow way allFilled isFilled hop
-filled-from s cells c [] = and-end (isFilled c)
+filled-from s cells x [] = and-end (isFilled x)
 filled-from s cells Missing (f ∷ w) = filled-from s cells Missing w
 filled-from s cells (Value z) (f ∷ w) = filled-from s cells (hop s cells (Value z) f) w
 

@@ -9,7 +9,7 @@ use borrow.Author.Tests.{ltb-true}
 use lib.Dec.{leb, ltb}
 use Rattle.register.specs.Shape.{Limits}
 use Rattle.register.specs.declared.Sizes.{Sizes}
-use Rattle.integers.proofs.Bools.{and-both}
+use Rattle.laws.proofs.Bools.{and-both}
 use Rattle.chain.specs.Word.{hasField, readable}
 use Rattle.chain.proofs.Packing.{Kinded, none, last, more}
 

@@ -7,7 +7,8 @@ use native.Mathlib.Omega.{arith}
 use native.Mathlib.Nat.{pow-suc, mod-lt}
 use native.Mathlib.Decide.{decLt, ℕ-discrete}
 use borrow.Author.Tests.{ne-eqb, le-leb, lt-leb}
-use Rattle.chain.specs.Word.{push, pack, unpackWithin, unpack}
+use lib.ListN.{length, drop}
+use Rattle.chain.specs.Word.{push, pack, unpackWithin, unpack, FirstHop}
 
 -- the cases of `push`
 pub push-first : (f : ℕ) → push 0 f ≡ f + 1
@@ -51,6 +52,11 @@ pub unpack-none : unpack 0 ≡ []
 unfolding unpack
 unpack-none = none-within 0
 
+-- a packed word that has a hop is not 0
+pub packed-some : (n : ℕ) → 1 ≤ length (unpack n) → 1 ≤ n
+packed-some zero h = absurd (omega (arith, ap length unpack-none))
+packed-some (suc n) h = omega arith
+
 pub unpack-last : (n : ℕ) → 1 ≤ n → n ≤ 16 → unpack n ≡ (n - 1) ∷ []
 unfolding unpack
 unpack-last n lo hi = enough n (suc n) n (omega arith) (omega arith) ∙ last-within n n lo hi
@@ -60,6 +66,26 @@ unfolding unpack
 unpack-more n h =
     enough n (suc n) n (omega arith) (omega arith) ∙ more-within n n h
     ∙ ap (λ (w : List ℕ). (n - 9) % 8 ∷ w) (enough n ((n - 9) / 8) ((n - 9) / 8) (omega arith) (omega arith))
+
+-- the first hop of a packed word, and the hops behind it
+pub first-last : (n : ℕ) → 1 ≤ n → n ≤ 16 → FirstHop (n - 1) (unpack n)
+first-last n lo hi = rw (unpack-last n lo hi) (record { splits = refl; below = omega arith })
+
+pub first-more : (n : ℕ) → 16 < n → FirstHop ((n - 9) % 8) (unpack n)
+first-more n h = rw (unpack-more n h) (record { splits = refl; below = omega arith })
+
+pub first-some : {f : ℕ} {w : List ℕ} → FirstHop f w → w ≢ []
+first-some h e = let z : _≡_ {A = ℕ} 0 1 = cc (h .splits) in omega arith
+
+pub rest-last : (n : ℕ) → n ≤ 16 → unpack 0 ≡ drop 1 (unpack n)
+rest-last zero h = rw unpack-none
+rest-last (suc n) h = rw (unpack-none, unpack-last (suc n) (omega arith) h)
+
+pub rest-more : (n : ℕ) → 16 < n → unpack ((n - 9) / 8) ≡ drop 1 (unpack n)
+rest-more n h = sym (ap (drop 1) (unpack-more n h))
+
+pub taken-apart : {f : ℕ} {w r : List ℕ} → FirstHop f w → r ≡ drop 1 w → w ≡ f ∷ r
+taken-apart {f} h e = h .splits ∙ ap (λ (w : List ℕ). f ∷ w) (sym e)
 
 -- a hop in front of a packed word
 pub unpack-push : (n f : ℕ) → (n ≡ 0 → f < 16) → (n ≢ 0 → f < 8) → unpack (push n f) ≡ f ∷ unpack n
@@ -133,7 +159,7 @@ unfolding pack
 pack-none {w} {n} e h z = let q : 0 ≡ n = ap pack (sym z) ∙ e in omega arith
 
 -- more than one hop: something is left after the first
-pub tail-some : (n : ℕ) → 16 < n → unpack ((n - 9) / 8) ≢ []
+tail-some : (n : ℕ) → 16 < n → unpack ((n - 9) / 8) ≢ []
 tail-some n h = pack-none (pack-unpack ((n - 9) / 8)) (omega arith)
 
 pub unpack-kinded : (n : ℕ) → Kinded (unpack n)

@@ -1,23 +1,24 @@
--- The cells on the way of a reading, in the order in which they are reached.
+-- What is read on the way of a chain, in the order in which the cells are reached.
 use Prim.Native.Nat.{ℕ}
 use mathlib.Core.Bool.{Bool, true, false, _&&_}
 use mathlib.Core.List.{List, [], _∷_}
 use Rattle.register.specs.declared.Sizes.{Sizes}
 use Rattle.register.specs.declared.cells.Cell.{Cell}
-use Rattle.register.specs.declared.cells.Cell.the-variants.{Missing, Value}
+use Rattle.chain.specs.declared.reading.Reading.{Reading}
+use Rattle.chain.specs.declared.reading.Reading.the-variants.{Missing, Value}
 use Rattle.chain.specs.Word.{hop}
 
--- the cell behind each hop
-unfoldable pub way : Sizes → List Cell → Cell → List ℕ → List Cell
-way s cells c [] = []
-way s cells c (f ∷ w) = hop s cells c f ∷ way s cells (hop s cells c f) w
+-- what is read by each hop
+unfoldable pub way : Sizes → List Cell → Reading → List ℕ → List Reading
+way s cells x [] = []
+way s cells x (f ∷ w) = hop s cells x f ∷ way s cells (hop s cells x f) w
 
--- whether a cell has a value
-unfoldable pub isFilled : Cell → Bool
+-- whether a value is read: "filled"
+unfoldable pub isFilled : Reading → Bool
 isFilled Missing = false
 isFilled (Value z) = true
 
--- whether all of these cells have values
-unfoldable pub allFilled : List Cell → Bool
+-- whether each of these has a value
+unfoldable pub allFilled : List Reading → Bool
 allFilled [] = true
-allFilled (c ∷ cs) = isFilled c && allFilled cs
+allFilled (x ∷ xs) = isFilled x && allFilled xs

@@ -1,16 +1,19 @@
 -- A chain as its hop word: the fields from the inside out. Fields 0 to 7 are the references A to H, 8 to 15 the measures
 -- M to T. A word packed into one number is how programs and plans hold a chain.
-use Prim.Native.Nat.{ℕ, zero, suc, _+_, _-_, _*_, _/_, _%_, _≤_}
+use Prim.Native.Nat.{ℕ, zero, suc, _+_, _-_, _*_, _/_, _%_, _≤_, _<_}
 use mathlib.Core.Path.{_≡_}
 use mathlib.Core.Bool.{Bool, true, cond, _&&_, _||_}
 use mathlib.Core.List.{List, [], _∷_}
 use lib.Dec.{leb, ltb, eqb}
-use lib.IntN.{pos, natAbs}
-use lib.ListN.{length, getD}
+use lib.IntN.{ℤ, pos, natAbs}
+use lib.ListN.{length, getD, drop}
+use Rattle.integers.specs.Range.{isIndex}
 use Rattle.register.specs.File.{cellIndex}
 use Rattle.register.specs.declared.Sizes.{Sizes}
 use Rattle.register.specs.declared.cells.Cell.{Cell}
-use Rattle.register.specs.declared.cells.Cell.the-variants.{Missing, Value}
+use Rattle.register.specs.declared.cells.Cell.the-variants.{Missing as Unfilled, Value as Filled}
+use Rattle.chain.specs.declared.reading.Reading.{Reading}
+use Rattle.chain.specs.declared.reading.Reading.the-variants.{Missing, Value}
 
 -- whether a field is one of the references A to H
 unfoldable pub isReference : ℕ → Bool
@@ -39,23 +42,38 @@ column s f = cond (isReference f) f (s .references + (f - 8))
 unfoldable pub fieldAt : Sizes → ℕ → ℕ
 fieldAt s c = cond (ltb c (s .references)) c (8 + (c - s .references))
 
--- the cell of record u and field f
-unfoldable pub cell : Sizes → List Cell → ℕ → ℕ → Cell
-cell s cells u f = getD cells (cellIndex s u (column s f)) Missing
+-- what is read of a stored cell: nothing of an unfilled one
+unfoldable pub readOf : Cell → Reading
+readOf Unfilled = Missing
+readOf (Filled z) = Value z
 
--- one hop: on from the record that a cell refers to; an unfilled cell stays unfilled
-unfoldable pub hop : Sizes → List Cell → Cell → ℕ → Cell
+-- what is read of the cell of record u and field f
+unfoldable pub readCell : Sizes → List Cell → ℕ → ℕ → Reading
+readCell s cells u f = readOf (getD cells (cellIndex s u (column s f)) Unfilled)
+
+-- one hop: on from the record that a reading refers to; where nothing is read, nothing is read behind it
+unfoldable pub hop : Sizes → List Cell → Reading → ℕ → Reading
 hop s cells Missing f = Missing
-hop s cells (Value z) f = cell s cells (natAbs z) f
+hop s cells (Value z) f = readCell s cells (natAbs z) f
 
 -- "Its value at a record is found by following hop by hop"
-unfoldable pub follow : Sizes → List Cell → Cell → List ℕ → Cell
-follow s cells c [] = c
-follow s cells c (f ∷ w) = follow s cells (hop s cells c f) w
+unfoldable pub follow : Sizes → List Cell → Reading → List ℕ → Reading
+follow s cells x [] = x
+follow s cells x (f ∷ w) = follow s cells (hop s cells x f) w
 
 -- the value of a chain at record u: at `u` alone the record's own number
-unfoldable pub valueAtRecord : Sizes → List Cell → List ℕ → ℕ → Cell
+unfoldable pub valueAtRecord : Sizes → List Cell → List ℕ → ℕ → Reading
 valueAtRecord s cells w u = follow s cells (Value (pos u)) w
+
+-- whether a reading leads to one of n records
+unfoldable pub refersTo : ℕ → Reading → Bool
+refersTo n Missing = true
+refersTo n (Value z) = isIndex n z
+
+-- the value that is read, 0 where none is
+unfoldable pub readingValue : Reading → ℤ
+readingValue Missing = pos 0
+readingValue (Value z) = z
 
 -- one more hop in front of a packed word
 unfoldable pub push : ℕ → ℕ → ℕ
@@ -77,3 +95,8 @@ unpackWithin (suc k) n =
 -- the word of a packed number
 unfoldable pub unpack : ℕ → List ℕ
 unpack n = unpackWithin n n
+
+-- f is the innermost hop of a word, the first of it
+pub record FirstHop (f : ℕ) (w : List ℕ) : Type 0 where
+  pub splits : w ≡ f ∷ drop 1 w
+  pub below : f < 16

@@ -5,10 +5,12 @@ ghost use Prim.Native.Nat.{_≤_, _<_};
 ghost use Rattle.register.specs.Cells.{cellsOf};
 ghost use Rattle.register.specs.File.{width};
 ghost use Rattle.register.specs.Shape.{Limits, Parts, Valid};
-ghost use Rattle.chain.specs.Word.{hasField, column as columnOf, fieldAt, cell as cellIn, readable, unpack, valueAtRecord};
+ghost use Rattle.chain.specs.Word.{hasField, column as columnOf, fieldAt, readCell, readable, unpack, valueAtRecord};
+use crate::packed;
+use crate::reading;
+use crate::reading::Reading;
 use register::Sizes;
 use register::cells;
-use register::cells::Cell;
 
 // Where a field stands in a record.
 pub fn column(sizes: Sizes, field: usize) -> usize
@@ -34,36 +36,32 @@ pub fn field_at(sizes: Sizes, column: usize) -> usize
     }
 }
 
-// The cell of record u and a field.
-pub fn cell_of(values: &[u8], marks: &[u8], sizes: Sizes, u: usize, field: usize) -> Cell
-    requires { ⌜ Parts sizes (now values) (now marks) × (u < sizes .records) × (hasField sizes field ≡ true) ⌝ }
-    ensures { λ r. ⌜ r ≡ cellIn sizes (cellsOf (now (values .entry)) (now (marks .entry))) u field ⌝ }
+// What is read of the cell of record u and a field.
+pub fn read_cell(cells: &[u8], filled: &[u8], sizes: Sizes, u: usize, field: usize) -> Reading
+    requires { ⌜ Parts sizes (now cells) (now filled) × (u < sizes .records) × (hasField sizes field ≡ true) ⌝ }
+    ensures { λ r. ⌜ r ≡ readCell sizes (cellsOf (now (cells .entry)) (now (filled .entry))) u field ⌝ }
 {
-    cells::cell_at(
-        values,
-        marks,
+    reading::read_of(cells::cell_at(
+        cells,
+        filled,
         register::cell_index(sizes, u, column(sizes, field)),
-    )
+    ))
 }
 
 // The value of a packed chain at record u.
-pub fn follow(values: &[u8], marks: &[u8], sizes: Sizes, chain: u64, u: usize) -> Cell
-    requires { ⌜ Parts sizes (now values) (now marks) × Valid sizes (cellsOf (now values) (now marks)) × (u < sizes .records) × (readable sizes (unpack chain) ≡ true) ⌝ }
-    ensures { λ r. ⌜ r ≡ valueAtRecord sizes (cellsOf (now (values .entry)) (now (marks .entry))) (unpack chain) u ⌝ }
+pub fn follow(cells: &[u8], filled: &[u8], sizes: Sizes, chain: u64, u: usize) -> Reading
+    requires { ⌜ Parts sizes (now cells) (now filled) × Valid sizes (cellsOf (now cells) (now filled)) × (u < sizes .records) × (readable sizes (unpack chain) ≡ true) ⌝ }
+    ensures { λ r. ⌜ r ≡ valueAtRecord sizes (cellsOf (now (cells .entry)) (now (filled .entry))) (unpack chain) u ⌝ }
 {
-    let mut at = u;
+    let mut reading = Reading::Value(integers::of_index(u));
     let mut rest = chain;
-    while 16 < rest {
-        let field = (rest - 9) % 8;
-        let Cell::Value(value) = cell_of(values, marks, sizes, at, field as usize) else {
-            return Cell::Missing;
+    while rest != 0 {
+        let Reading::Value(value) = reading else {
+            return Reading::Missing;
         };
-        at = integers::index(value);
-        rest = (rest - 9) / 8;
+        let field = packed::first_hop(rest) as usize;
+        reading = read_cell(cells, filled, sizes, integers::index(value), field);
+        rest = packed::rest_hops(rest);
     }
-    if rest == 0 {
-        Cell::Value(integers::of_index(at))
-    } else {
-        cell_of(values, marks, sizes, at, (rest - 1) as usize)
-    }
+    reading
 }

@@ -10,8 +10,9 @@ use borrow.Author.Tests.{eqb-true}
 use lib.Dec.{eqb}
 use lib.ListN.{length, drop}
 use lib.Seq.{drop-drop}
-use Rattle.integers.proofs.Bools.{and-both, and-true, true-false}
-use Rattle.chain_text.specs.Text.{isCapital, Form, formed, unformed, printed, form, every}
+use Rattle.laws.proofs.Bools.{and-both, and-true, true-false}
+use Rattle.chain_text.specs.Text.{isCapital, Form, formed, unformed, printed, form}
+use Rattle.laws.specs.Lists.{every}
 use Rattle.chain_text.specs.Scan.{startsWith, openLetters, closes}
 use Rattle.chain_text.proofs.Forms.{spelled, printed-form}
 

@@ -9,8 +9,9 @@ use borrow.Author.Tests.{eqb-true, ne-eqb, leb-true}
 use lib.Dec.{eqb, leb}
 use lib.ListN.{length, getD, drop, length-append, length-drop, drop-of-length-le}
 use lib.Seq.{drop-cons, drop-at}
-use Rattle.integers.proofs.Bools.{and-both, and-true, true-false}
-use Rattle.chain_text.specs.Text.{isCapital, Form, formed, unformed, printed, closed, form, every}
+use Rattle.laws.proofs.Bools.{and-both, and-true, true-false}
+use Rattle.chain_text.specs.Text.{isCapital, Form, formed, unformed, printed, closed, form}
+use Rattle.laws.specs.Lists.{every}
 use Rattle.chain_text.specs.Scan.{startsWith, opens}
 
 -- a capital is not `u`

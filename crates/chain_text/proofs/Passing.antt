@@ -10,44 +10,41 @@ use lib.ListN.{length, take, length-append}
 use lib.Seq.{take-all}
 use Rattle.register.specs.Shape.{Limits}
 use Rattle.register.specs.declared.Sizes.{Sizes}
-use Rattle.integers.proofs.Bools.{and-both, and-true, or-left, or-right}
+use Rattle.laws.proofs.Bools.{and-both, and-true, or-left, or-right}
 use Rattle.chain.specs.Word.{hasField, readable, Passes, pack, unpack}
-use Rattle.chain_text.specs.Text.{fieldOf, names, every, isReferenceLetter, innerReferences, lettersRefusal, wordOf}
+use Rattle.chain_text.specs.Text.{letterField, names, isReferenceLetter, innerReferences, lettersRefusal, wordOf}
+use Rattle.laws.specs.Lists.{every}
 use Rattle.chain.proofs.Packing.{unpack-pack}
 use Rattle.chain.proofs.Fields.{readable-kinded}
+use Rattle.laws.proofs.Lists.{every-append}
 
 -- the field of a letter that names one
-pub reference-field : (s : Sizes) (l : ℕ) → names s l ≡ true → isReferenceLetter l ≡ true → fieldOf l < s .references
-unfolding names isReferenceLetter fieldOf
+pub reference-field : (s : Sizes) (l : ℕ) → names s l ≡ true → isReferenceLetter l ≡ true → letterField l < s .references
+unfolding names isReferenceLetter letterField
 reference-field s l n r =
     let both = and-both (leb 65 l) (ltb l (65 + s .references)) (sym (ap (λ (t : Bool). cond t (leb 65 l && ltb l (65 + s .references)) (ltb l (77 + s .measures))) r) ∙ n) in
     rw r (omega (arith, leb-true 65 l (both .0), ltb-true l (65 + s .references) (both .1)))
 
-pub measure-field : (s : Sizes) (l : ℕ) → names s l ≡ true → isReferenceLetter l ≡ false → (8 ≤ fieldOf l) × (fieldOf l < 8 + s .measures)
-unfolding names isReferenceLetter fieldOf
+pub measure-field : (s : Sizes) (l : ℕ) → names s l ≡ true → isReferenceLetter l ≡ false → (8 ≤ letterField l) × (letterField l < 8 + s .measures)
+unfolding names isReferenceLetter letterField
 measure-field s l n r =
     let low : 77 ≤ l = ltb-false l 77 r in
     let high : l < 77 + s .measures = ltb-true l (77 + s .measures) (sym (ap (λ (t : Bool). cond t (leb 65 l && ltb l (65 + s .references)) (ltb l (77 + s .measures))) r) ∙ n) in
     rw r (omega arith, omega arith)
 
-pub named-field : (s : Sizes) (l : ℕ) → names s l ≡ true → hasField s (fieldOf l) ≡ true
+pub named-field : (s : Sizes) (l : ℕ) → names s l ≡ true → hasField s (letterField l) ≡ true
 unfolding hasField
 named-field s l n = go (isReferenceLetter l) refl
   where
-    go : (t : Bool) → isReferenceLetter l ≡ t → ltb (fieldOf l) (s .references) || (leb 8 (fieldOf l) && ltb (fieldOf l) (8 + s .measures)) ≡ true
+    go : (t : Bool) → isReferenceLetter l ≡ t → ltb (letterField l) (s .references) || (leb 8 (letterField l) && ltb (letterField l) (8 + s .measures)) ≡ true
     go true r = or-left _ (lt-ltb _ _ (reference-field s l n r))
     go false r =
         let f = measure-field s l n r in
-        or-right (ltb (fieldOf l) (s .references)) (sym (and-true _ (le-leb 8 (fieldOf l) (f .0))) ∙ lt-ltb (fieldOf l) (8 + s .measures) (f .1))
+        or-right (ltb (letterField l) (s .references)) (sym (and-true _ (le-leb 8 (letterField l) (f .0))) ∙ lt-ltb (letterField l) (8 + s .measures) (f .1))
 
 -- every letter's field is a reference
 below : (s : Sizes) → List ℕ → Bool
 below s w = every (λ f. ltb f (s .references)) w
-
-every-append : (p : ℕ → Bool) (v w : List ℕ) → every p v ≡ true → every p w ≡ true → every p (v ++ w) ≡ true
-unfolding every
-every-append p [] w hv hw = hw
-every-append p (a ∷ v) w hv hw = let both = and-both (p a) (every p v) hv in sym (and-true (every p (v ++ w)) (both .0)) ∙ every-append p v w (both .1) hw
 
 word-below : (s : Sizes) (ls : List ℕ) → every (names s) ls ≡ true → every isReferenceLetter ls ≡ true → below s (wordOf ls) ≡ true
 unfolding below every wordOf
@@ -55,7 +52,7 @@ word-below s [] n r = refl
 word-below s (l ∷ ls) n r =
     let ns = and-both (names s l) (every (names s) ls) n in
     let rs = and-both (isReferenceLetter l) (every isReferenceLetter ls) r in
-    every-append _ (wordOf ls) (fieldOf l ∷ []) (word-below s ls (ns .1) (rs .1)) (sym (and-true true (lt-ltb _ _ (reference-field s l (ns .0) (rs .0)))))
+    every-append _ (wordOf ls) (letterField l ∷ []) (word-below s ls (ns .1) (rs .1)) (sym (and-true true (lt-ltb _ _ (reference-field s l (ns .0) (rs .0)))))
 
 readable-last : (s : Sizes) (w : List ℕ) (f : ℕ) → below s w ≡ true → hasField s f ≡ true → readable s (w ++ (f ∷ [])) ≡ true
 unfolding below every readable
@@ -98,7 +95,7 @@ module _ (s : Sizes) (ls : List ℕ) where
           go [] n k = refl
           go (l ∷ ls) n k =
               let ns = and-both (names s l) (every (names s) ls) n in
-              readable-last s (wordOf ls) (fieldOf l) (word-below s ls (ns .1) k) (named-field s l (ns .0))
+              readable-last s (wordOf ls) (letterField l) (word-below s ls (ns .1) k) (named-field s l (ns .0))
 
       -- what was packed is the word
       pub letters-unpacked : Limits s → ltb 16 (length ls) ≡ false → unpack (pack (wordOf (take 16 ls))) ≡ wordOf ls

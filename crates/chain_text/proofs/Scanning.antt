@@ -12,8 +12,8 @@ use borrow.Author.Tests.{eq-eqb, ne-eqb}
 use lib.ListN.{length, getD, drop}
 use lib.Seq.{drop-drop, getD-drop}
 use Rattle.register.specs.declared.Sizes.{Sizes}
-use Rattle.integers.proofs.Bools.{and-both, true-false}
-use Rattle.chain_text.specs.Text.{isCapital, fieldOf, Form, formed, unformed, closed, form}
+use Rattle.laws.proofs.Bools.{and-both, true-false}
+use Rattle.chain_text.specs.Text.{isCapital, letterField, Form, formed, unformed, closed, form}
 use Rattle.chain_text.specs.Scan.{startsWith, opens, step, steps, chainEnd, scannedFrom, scanned, openLetters, closes, firstOf, closedBy}
 use Rattle.chain_text.specs.declared.letters.Letters.{Letters}
 use Rattle.chain_text.specs.declared.text.Scanned.{Scanned}
@@ -181,7 +181,7 @@ pub step-small : (s : Sizes) (k : ℕ) (x : Letters) (l : ℕ) → isCapital l �
 unfolding step
 step-small s k x l cap h hk small =
     let e : suc (16 - k) ≡ 16 - (k - 1) = omega arith in
-    rw (ne-eqb k 0 h, ← e) (push-small (x .packed) (fieldOf l) (16 - k) small (capital-field l cap))
+    rw (ne-eqb k 0 h, ← e) (push-small (x .packed) (letterField l) (16 - k) small (capital-field l cap))
 
 -- a chain in brackets is its inner chain, closed
 pub scan-inner : (s : Sizes) (k : ℕ) (x : Letters) (t : List ℕ) (at : ℕ) → opens (drop at t) ≡ true

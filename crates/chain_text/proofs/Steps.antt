@@ -10,9 +10,10 @@ use borrow.Author.Tests.{eq-eqb, ne-eqb, leb-true, ltb-true, le-ltb, lt-ltb}
 use lib.Dec.{leb, ltb, eqb, leb·suc-suc}
 use lib.ListN.{length, take}
 use Rattle.register.specs.declared.Sizes.{Sizes}
-use Rattle.integers.proofs.Bools.{and-both}
+use Rattle.laws.proofs.Bools.{and-both}
 use Rattle.chain.specs.Word.{push, pack}
-use Rattle.chain_text.specs.Text.{isCapital, fieldOf, names, every, isReferenceLetter, innerReferences, wordOf}
+use Rattle.chain_text.specs.Text.{isCapital, letterField, names, isReferenceLetter, innerReferences, wordOf}
+use Rattle.laws.specs.Lists.{every}
 use Rattle.chain_text.specs.Scan.{summary, step, steps}
 use Rattle.chain_text.specs.declared.letters.Letters.{Letters}
 use Rattle.chain.proofs.Packing.{push-positive}
@@ -24,7 +25,7 @@ module _ (s : Sizes) (k : ℕ) (x : Letters) (l : ℕ) (n : Bool) (named : n ≡
   unfolding step isReferenceLetter
   step-full e = simp (named, eq-eqb k 0 e, or-true)
 
-  pub step-room : (p : ℕ) → p ≡ push (x .packed) (fieldOf l) → k ≢ 0
+  pub step-room : (p : ℕ) → p ≡ push (x .packed) (letterField l) → k ≢ 0
       → record { packed = p; named = x .named && n; kinded = x .kinded && (eqb (x .packed) 0 || ltb l 77); long = x .long } ≡ step s k x l
   unfolding step isReferenceLetter
   step-room p e h = simp (named, e, ne-eqb k 0 h, or-false)
@@ -34,8 +35,8 @@ pub capital-low : (l : ℕ) → isCapital l ≡ true → 65 ≤ l
 unfolding isCapital
 capital-low l h = leb-true 65 l (and-both (leb 65 l) (leb l 90) h .0)
 
-pub capital-field : (l : ℕ) → isCapital l ≡ true → fieldOf l ≤ 21
-unfolding isCapital fieldOf
+pub capital-field : (l : ℕ) → isCapital l ≡ true → letterField l ≤ 21
+unfolding isCapital letterField
 capital-field l h = go (ltb l 77) refl
   where
     high : l ≤ 90
@@ -88,7 +89,7 @@ module _ (s : Sizes) where
   unfolding step
   step-positive zero x l h = h
   step-positive (suc k) x l h =
-      λ e. omega (arith, e, push-positive (x .packed) (fieldOf l), ap (λ (t : Bool). cond t (x .packed) (push (x .packed) (fieldOf l))) (ne-eqb (suc k) 0 (λ z. omega arith)))
+      λ e. omega (arith, e, push-positive (x .packed) (letterField l), ap (λ (t : Bool). cond t (x .packed) (push (x .packed) (letterField l))) (ne-eqb (suc k) 0 (λ z. omega arith)))
 
   steps-kinded : (k : ℕ) (x : Letters) (ls : List ℕ) → x .packed ≢ 0 → steps s k x ls .kinded ≡ x .kinded && every isReferenceLetter ls
   unfolding steps step every
@@ -105,11 +106,11 @@ module _ (s : Sizes) where
   steps-packed zero x (l ∷ ls) v h = steps-packed zero (step s zero x l) ls v h
   steps-packed (suc k) x (l ∷ ls) v h =
       let room : suc k - 1 ≡ k = omega arith in
-      let next : step s (suc k) x l .packed ≡ pack (fieldOf l ∷ v) =
-      ap (λ (t : Bool). cond t (x .packed) (push (x .packed) (fieldOf l))) (ne-eqb (suc k) 0 (λ z. omega arith)) ∙ ap (λ (n : ℕ). push n (fieldOf l)) h in
+      let next : step s (suc k) x l .packed ≡ pack (letterField l ∷ v) =
+      ap (λ (t : Bool). cond t (x .packed) (push (x .packed) (letterField l))) (ne-eqb (suc k) 0 (λ z. omega arith)) ∙ ap (λ (n : ℕ). push n (letterField l)) h in
       ap (λ (n : ℕ). steps s n (step s (suc k) x l) ls .packed) room
-      ∙ steps-packed k (step s (suc k) x l) ls (fieldOf l ∷ v) next
-      ∙ ap pack (sym (append-assoc (wordOf (take k ls)) (fieldOf l ∷ []) v))
+      ∙ steps-packed k (step s (suc k) x l) ls (letterField l ∷ v) next
+      ∙ ap pack (sym (append-assoc (wordOf (take k ls)) (letterField l ∷ []) v))
 
 -- all steps from the start
 abbrev pub start : Letters
@@ -118,7 +119,7 @@ start = record { packed = 0; named = true; kinded = true; long = false }
 start-kinded : (s : Sizes) (ls : List ℕ) → steps s 16 start ls .kinded ≡ innerReferences ls
 unfolding steps step innerReferences
 start-kinded s [] = refl
-start-kinded s (l ∷ ls) = steps-kinded s 15 (step s 16 start l) ls (λ e. omega (arith, e, push-positive 0 (fieldOf l)))
+start-kinded s (l ∷ ls) = steps-kinded s 15 (step s 16 start l) ls (λ e. omega (arith, e, push-positive 0 (letterField l)))
 
 pub steps-summary : (s : Sizes) (ls : List ℕ) → steps s 16 start ls ≡ summary s ls
 unfolding summary pack

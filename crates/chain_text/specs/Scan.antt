@@ -7,7 +7,8 @@ use lib.Dec.{ltb, eqb}
 use lib.ListN.{length, take, drop, getD}
 use Rattle.register.specs.declared.Sizes.{Sizes}
 use Rattle.chain.specs.Word.{push, pack}
-use Rattle.chain_text.specs.Text.{Form, formed, unformed, form, isCapital, fieldOf, names, every, isReferenceLetter, innerReferences, wordOf}
+use Rattle.chain_text.specs.Text.{Form, formed, unformed, form, isCapital, letterField, names, isReferenceLetter, innerReferences, wordOf}
+use Rattle.laws.specs.Lists.{every}
 use Rattle.chain_text.specs.declared.letters.Letters.{Letters}
 use Rattle.chain_text.specs.declared.text.Opened.{Opened}
 use Rattle.chain_text.specs.declared.text.Head.{Head}
@@ -38,7 +39,7 @@ summary s ls = record {
 -- one more letter, with room for k more hops
 unfoldable pub step : Sizes → ℕ → Letters → ℕ → Letters
 step s k x l = record {
-  packed = cond (eqb k 0) (x .packed) (push (x .packed) (fieldOf l));
+  packed = cond (eqb k 0) (x .packed) (push (x .packed) (letterField l));
   named = x .named && names s l;
   kinded = x .kinded && (eqb (x .packed) 0 || isReferenceLetter l);
   long = x .long || eqb k 0;

@@ -5,6 +5,7 @@ use mathlib.Core.List.{List, [], _∷_, _++_}
 use lib.Dec.{leb, ltb, eqb}
 use lib.ListN.{length}
 use Rattle.register.specs.declared.Sizes.{Sizes}
+use Rattle.laws.specs.Lists.{every}
 
 -- "any capital counts as a field letter"
 unfoldable pub isCapital : ℕ → Bool
@@ -35,8 +36,8 @@ form (b ∷ d ∷ rest) =
     (cond (isCapital b && eqb d 91) (closed b (form rest)) unformed)
 
 -- the field of a letter: A to H are 0 to 7, M to T 8 to 15
-unfoldable pub fieldOf : ℕ → ℕ
-fieldOf l = cond (ltb l 77) (l - 65) (l - 69)
+unfoldable pub letterField : ℕ → ℕ
+letterField l = cond (ltb l 77) (l - 65) (l - 69)
 
 -- letters of references come before M
 unfoldable pub isReferenceLetter : ℕ → Bool
@@ -45,11 +46,6 @@ isReferenceLetter l = ltb l 77
 -- whether a letter names a field of the register: A, B, .. the first r, M, N, .. the first m
 unfoldable pub names : Sizes → ℕ → Bool
 names s l = cond (isReferenceLetter l) (leb 65 l && ltb l (65 + s .references)) (ltb l (77 + s .measures))
-
--- whether every element of a list passes
-unfoldable pub every : (ℕ → Bool) → List ℕ → Bool
-every p [] = true
-every p (a ∷ l) = p a && every p l
 
 -- "Every field but the outermost is a reference field."
 unfoldable pub innerReferences : List ℕ → Bool
@@ -67,4 +63,4 @@ lettersRefusal s ls =
 -- "Its hops are its letters from the inside out."
 unfoldable pub wordOf : List ℕ → List ℕ
 wordOf [] = []
-wordOf (l ∷ ls) = wordOf ls ++ (fieldOf l ∷ [])
+wordOf (l ∷ ls) = wordOf ls ++ (letterField l ∷ [])

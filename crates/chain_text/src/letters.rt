@@ -3,7 +3,7 @@ ghost use mathlib.Core.Path.{_≡_};
 ghost use mathlib.Core.Bool.{true};
 ghost use Prim.Native.Nat.{_+_, _-_, _*_, _^_, _≤_};
 ghost use Rattle.register.specs.Shape.{Limits};
-ghost use Rattle.chain_text.specs.Text.{isCapital, fieldOf, names};
+ghost use Rattle.chain_text.specs.Text.{isCapital, letterField, names};
 ghost use Rattle.chain_text.specs.Scan.{step as stepOf};
 use chain::packed;
 use register::Sizes;
@@ -26,7 +26,7 @@ pub fn is_capital(b: u8) -> bool
 // The field of a capital letter.
 pub fn field_of(letter: u8) -> u64
     requires { ⌜ 65 ≤ letter ⌝ }
-    ensures { λ r. ⌜ r ≡ fieldOf letter ⌝ }
+    ensures { λ r. ⌜ r ≡ letterField letter ⌝ }
 {
     if letter < 77 {
         (letter - 65) as u64

@@ -1,8 +1,8 @@
 -- What a run counts, step by step.
 use mathlib.Core.Bool.{Bool, cond}
 use Prim.Native.Nat.{ℕ, _+_}
-use Rattle.message_machine.specs.declared.Machine.{Machine}
-use Rattle.message_machine.specs.declared.Machine.the-variants.{Direct, Messages}
+use Rattle.machine_messages.specs.declared.Machine.{Machine}
+use Rattle.machine_messages.specs.declared.Machine.the-variants.{Direct, Messages}
 use Rattle.gather.specs.declared.counts.Counts.{Counts}
 
 -- no exchange and no message

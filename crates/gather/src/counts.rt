@@ -3,7 +3,7 @@ ghost use mathlib.Core.Path.{_≡_};
 ghost use mathlib.Core.Bool.{cond};
 ghost use Prim.Native.Nat.{_≤_};
 ghost use Rattle.gather.specs.Counted.{countsAfter};
-use message_machine::Machine;
+use machine_messages::Machine;
 
 // Exchanges, and the messages sent in them: none in a direct run.
 pub struct Counts {
@@ -26,7 +26,8 @@ fn own_exchange(sends: bool) -> usize
 
 // With those of a step that is finished: what its lines took, and its remote messages in an exchange of their own.
 pub fn count(machine: Machine, counts: Counts, gathered: Counts, sends: bool, sent: usize) -> Counts
-    requires { ⌜ (counts .exchanges ≤ 4611686018427387904) × (counts .messages ≤ 4611686018427387904) × (gathered .exchanges ≤ 65536) × (gathered .messages ≤ 1048576) × (sent ≤ 1048576) ⌝ }
+    requires { ⌜ (counts .exchanges ≤ 4611686018427387904) × (counts .messages ≤ 4611686018427387904)
+        × (gathered .exchanges ≤ 65536) × (gathered .messages ≤ 1048576) × (sent ≤ 1048576) ⌝ }
     ensures { λ r. ⌜ r ≡ countsAfter machine counts gathered sends sent ⌝ }
 {
     match machine {

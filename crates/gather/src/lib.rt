@@ -1,22 +1,23 @@
 // The readings of a step: the places of its plan's Read lines, filled by following references or by messages.
+ghost use mathlib.Core.Path.{_≡_};
 ghost use Prim.Native.Nat.{_*_, _≤_};
 ghost use lib.ListN.{length};
 ghost use Rattle.register.specs.File.{cellsOfFile};
 ghost use Rattle.register.specs.Shape.{Register};
-ghost use Rattle.plan.specs.Held.{facts-in, plan-of};
-ghost use Rattle.messages.specs.Lines.{Planned};
+ghost use Rattle.plan_lines.specs.Held.{factsIn, planOf};
+ghost use Rattle.gather_exchanges.specs.Lines.{StepPlanned};
 ghost use Rattle.gather.specs.Gathered.{GatheredBy};
 use crate::counts::Counts;
-use fill;
-use message_machine::Machine;
-use messages;
-use plan;
+use gather_exchanges;
+use gather_follow;
+use machine_messages::Machine;
+use plan_lines;
 use register::Sizes;
 use register::cells;
 
 pub mod counts;
 
-// Fills the places of a plan's Read lines; what that took.
+// Fills the places of those Read lines of a plan that a rule reads; what that took.
 pub fn gather<'a>(
     file: &[u8],
     values: &mut [i64],
@@ -27,23 +28,26 @@ pub fn gather<'a>(
     rounds: &'a [u8; 64],
     backs: &'a [u8; 64],
     reads: &'a [u8; 64],
+    wanted: &'a [bool; 64],
     count: usize,
 ) -> Counts
-    requires { ⌜ Register sizes (now file) × Planned sizes (plan-of (now keys) (now rounds) (now backs) (now reads) count) × (count * sizes .records ≤ length (now values)) × (count * sizes .records ≤ length (now marks)) ⌝ }
-    ensures { λ r. ⌜ GatheredBy machine sizes (cellsOfFile sizes (now (file .entry))) (facts-in (now (keys .entry)) count) (now (values .entry)) (now (marks .entry)) (now (values .exit)) (now (marks .exit)) r ⌝ }
+    requires { ⌜ Register sizes (now file) × StepPlanned sizes (planOf (now keys) (now rounds) (now backs) (now reads) count) × (length (now wanted) ≡ 64)
+        × (count * sizes .records ≤ length (now values)) × (count * sizes .records ≤ length (now marks)) ⌝ }
+    ensures { λ r. ⌜ GatheredBy machine sizes (cellsOfFile sizes (now (file .entry))) (factsIn (now (keys .entry)) count) (now (wanted .entry))
+        (now (values .entry)) (now (marks .entry)) (now (values .exit)) (now (marks .exit)) r ⌝ }
 {
     let cells = cells::values_part(file, sizes);
     let filled = cells::marks_part(file, sizes);
     match machine {
         Machine::Direct => {
-            fill::fill(cells, filled, values, marks, sizes, keys, count);
+            gather_follow::fill(cells, filled, values, marks, sizes, keys, wanted, count);
             counts::NONE
         }
         Machine::Messages => {
-            let last = plan::last_round(rounds, count);
+            let last = plan_lines::last_round(rounds, count);
             Counts {
                 exchanges: last as usize,
-                messages: messages::exchange_to(
+                messages: gather_exchanges::exchange_to(
                     cells,
                     filled,
                     values,

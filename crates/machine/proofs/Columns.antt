@@ -7,25 +7,25 @@ use native.Mathlib.Omega.{arith}
 use native.Mathlib.Decide.{decLt}
 use Rattle.register.specs.declared.Sizes.{Sizes}
 use Rattle.register.specs.declared.cells.Cell.{Cell}
-use Rattle.chain.specs.Word.{cell}
-use Rattle.machine.specs.Run.{sameCell, sameColumn}
+use Rattle.chain.specs.Word.{readCell}
+use Rattle.machine.specs.Run.{sameReading, sameColumn}
 
 module _ (s : Sizes) (f : ℕ) (before after : List Cell) where
-  -- whether a record has the same cell before and after
+  -- whether the same is read at a record before and after
   abbrev pub sameAt : ℕ → Bool
-  sameAt n = sameCell (cell s before n f) (cell s after n f)
+  sameAt n = sameReading (readCell s before n f) (readCell s after n f)
 
   -- no record is compared yet
   pub sameColumn-none : sameColumn s f before after 0 ≡ true
   unfolding sameColumn
   sameColumn-none = refl
 
-  -- one more record with the same cell
+  -- one more record where the same is read
   pub sameColumn-same : (n : ℕ) → sameColumn s f before after n ≡ true → sameAt n ≡ true → sameColumn s f before after (suc n) ≡ true
   unfolding sameColumn
   sameColumn-same n h e = rw (h, e)
 
-  -- a record with another cell
+  -- a record where something else is read
   pub sameColumn-other : (m n : ℕ) → n < m → sameAt n ≡ false → sameColumn s f before after m ≡ false
   unfolding sameColumn
   sameColumn-other zero n h e = absurd (omega arith)

@@ -1,41 +1,37 @@
 -- Lists of rules and of messages: one more at the end, none for a step with no remote rule, and the number of cells kept.
 use Prim.Native.Nat.{ℕ, zero, suc}
 use mathlib.Core.Path.{_≡_, refl, ap₂, _∙_}
-use mathlib.Core.Bool.{Bool, true, false, cond, _&&_, _||_, or-false, or-assoc}
+use mathlib.Core.Bool.{false, _&&_, _||_, or-false, or-assoc}
 use mathlib.Core.List.{List, [], _∷_, _++_, append-nil, append-assoc}
 use mathlib.Core.Option.{Option, none, some}
 use lib.Dec.{eqb}
 use lib.ListN.{length, length-set}
-use Rattle.integers.proofs.Bools.{or-neither, true-false}
+use Rattle.laws.proofs.Bools.{or-neither, true-false, cond-both}
 use Rattle.register.specs.declared.Sizes.{Sizes}
 use Rattle.register.specs.declared.cells.Cell.{Cell}
+use Rattle.chain.specs.declared.reading.Reading.{Reading}
 use Rattle.chain.specs.Word.{column}
-use Rattle.rules.specs.Program.{Action, set, sum, difference, least, total, Rule, isRemote, hasRemote, fieldOf}
+use Rattle.program.specs.Program.{Target, own, remote, Rule, isRemote, someTarget, hasRemote, targetField}
 use Rattle.machine.specs.declared.message.Message.{Message}
 use Rattle.machine.specs.Value.{holds}
 use Rattle.machine.specs.Local.{stored, store, localRule, localRules, localRecords, offends, sumOffends}
-use Rattle.machine.specs.Remote.{actionMessages, ruleMessages, messages, recordMessages, deliver, deliverAll}
+use Rattle.machine.specs.Remote.{sentBy, ruleMessages, messages, recordMessages, deliver, deliverAll}
 use Rattle.machine.specs.Step.{stepCells}
 
--- what holds of both arms
-pub cond-both : {A : Type 0} (P : A → Type 0) (b : Bool) (x y : A) → P x → P y → P (cond b x y)
-cond-both P true x y h k = h
-cond-both P false x y h k = k
-
 -- one rule more: what it stores, whether its sum offends, and what it sends
-pub localRules-more : (s : Sizes) (read : List ℕ → Cell) (u : ℕ) (rs : List Rule) (r : Rule) (cells : List Cell)
+pub localRules-more : (s : Sizes) (read : List ℕ → Reading) (u : ℕ) (rs : List Rule) (r : Rule) (cells : List Cell)
     → localRules s read u (rs ++ (r ∷ [])) cells ≡ localRule s read u r (localRules s read u rs cells)
 unfolding localRules
 localRules-more s read u [] r cells = refl
 localRules-more s read u (q ∷ rs) r cells = localRules-more s read u rs r (localRule s read u q cells)
 
-pub sumOffends-more : (s : Sizes) (read : List ℕ → Cell) (rs : List Rule) (r : Rule) (c : ℕ)
-    → sumOffends s read (rs ++ (r ∷ [])) c ≡ sumOffends s read rs c || (offends read r && eqb (column s (fieldOf (r .action))) c)
+pub sumOffends-more : (s : Sizes) (read : List ℕ → Reading) (rs : List Rule) (r : Rule) (c : ℕ)
+    → sumOffends s read (rs ++ (r ∷ [])) c ≡ sumOffends s read rs c || (offends read r && eqb (column s (targetField (r .target))) c)
 unfolding sumOffends
 sumOffends-more s read [] r c = or-false _
 sumOffends-more s read (q ∷ rs) r c = simp (sumOffends-more s read rs r c, or-assoc)
 
-pub messages-more : (read : List ℕ → Cell) (rs : List Rule) (r : Rule) → messages read (rs ++ (r ∷ [])) ≡ messages read rs ++ ruleMessages read r
+pub messages-more : (read : List ℕ → Reading) (rs : List Rule) (r : Rule) → messages read (rs ++ (r ∷ [])) ≡ messages read rs ++ ruleMessages read r
 unfolding messages
 messages-more read [] r = append-nil (ruleMessages read r)
 messages-more read (q ∷ rs) r = simp (messages-more read rs r, append-assoc)
@@ -47,26 +43,23 @@ deliverAll-append s cells [] ns = refl
 deliverAll-append s cells (m ∷ ms) ns = deliverAll-append s (deliver s cells m) ms ns
 
 -- local rules send nothing
-actionMessages-local : (read : List ℕ → Cell) (a : Action) → isRemote a ≡ false → actionMessages read a ≡ []
-unfolding isRemote actionMessages
-actionMessages-local read (set f x) e = refl
-actionMessages-local read (sum f x y) e = refl
-actionMessages-local read (difference f x y) e = refl
-actionMessages-local read (least f c x) e = true-false refl e
-actionMessages-local read (total f c x) e = true-false refl e
+sentBy-local : (read : List ℕ → Reading) (t : Target) (x : Reading) → isRemote t ≡ false → sentBy read t x ≡ []
+unfolding isRemote sentBy
+sentBy-local read (own f) x e = refl
+sentBy-local read (remote k f c) x e = true-false refl e
 
-pub ruleMessages-local : (read : List ℕ → Cell) (r : Rule) → isRemote (r .action) ≡ false → ruleMessages read r ≡ []
+pub ruleMessages-local : (read : List ℕ → Reading) (r : Rule) → isRemote (r .target) ≡ false → ruleMessages read r ≡ []
 unfolding ruleMessages
-ruleMessages-local read r e = cond-both (λ ms. ms ≡ []) (holds read (r .test)) _ _ (actionMessages-local read (r .action) e) refl
+ruleMessages-local read r e = cond-both (λ ms. ms ≡ []) (holds read (r .test)) _ _ (sentBy-local read (r .target) _ e) refl
 
-messages-local : (read : List ℕ → Cell) (rs : List Rule) → hasRemote rs ≡ false → messages read rs ≡ []
-unfolding messages hasRemote
+messages-local : (read : List ℕ → Reading) (rs : List Rule) → hasRemote rs ≡ false → messages read rs ≡ []
+unfolding messages hasRemote someTarget
 messages-local read [] e = refl
 messages-local read (r ∷ rs) e =
-    let none = or-neither (isRemote (r .action)) (hasRemote rs) e in
+    let none = or-neither (isRemote (r .target)) (hasRemote rs) e in
     ap₂ _++_ (ruleMessages-local read r (none .0)) (messages-local read rs (none .1))
 
-pub recordMessages-local : (read : ℕ → List ℕ → Cell) (rs : List Rule) (n : ℕ) → hasRemote rs ≡ false → recordMessages read rs n ≡ []
+pub recordMessages-local : (read : ℕ → List ℕ → Reading) (rs : List Rule) (n : ℕ) → hasRemote rs ≡ false → recordMessages read rs n ≡ []
 unfolding recordMessages
 recordMessages-local read rs zero e = refl
 recordMessages-local read rs (suc n) e = ap₂ _++_ (recordMessages-local read rs n e) (messages-local (read n) rs e)
@@ -77,16 +70,17 @@ unfolding store
 store-length s u none cells = refl
 store-length s u (some p) cells = length-set cells _ _
 
-pub localRule-length : (s : Sizes) (read : List ℕ → Cell) (u : ℕ) (r : Rule) (cells : List Cell) → length (localRule s read u r cells) ≡ length cells
+pub localRule-length : (s : Sizes) (read : List ℕ → Reading) (u : ℕ) (r : Rule) (cells : List Cell) → length (localRule s read u r cells) ≡ length cells
 unfolding localRule
-localRule-length s read u r cells = cond-both (λ (l : List Cell). length l ≡ length cells) (holds read (r .test)) _ _ (store-length s u (stored read (r .action)) cells) refl
+localRule-length s read u r cells =
+    cond-both (λ (l : List Cell). length l ≡ length cells) (holds read (r .test)) _ _ (store-length s u (stored read r) cells) refl
 
-pub localRules-length : (s : Sizes) (read : List ℕ → Cell) (u : ℕ) (rs : List Rule) (cells : List Cell) → length (localRules s read u rs cells) ≡ length cells
+pub localRules-length : (s : Sizes) (read : List ℕ → Reading) (u : ℕ) (rs : List Rule) (cells : List Cell) → length (localRules s read u rs cells) ≡ length cells
 unfolding localRules
 localRules-length s read u [] cells = refl
 localRules-length s read u (r ∷ rs) cells = localRules-length s read u rs (localRule s read u r cells) ∙ localRule-length s read u r cells
 
-pub localRecords-length : (s : Sizes) (read : ℕ → List ℕ → Cell) (rs : List Rule) (n : ℕ) (cells : List Cell)
+pub localRecords-length : (s : Sizes) (read : ℕ → List ℕ → Reading) (rs : List Rule) (n : ℕ) (cells : List Cell)
     → length (localRecords s read rs n cells) ≡ length cells
 unfolding localRecords
 localRecords-length s read rs zero cells = refl
@@ -101,7 +95,7 @@ unfolding deliverAll
 deliverAll-length s cells [] = refl
 deliverAll-length s cells (m ∷ ms) = deliverAll-length s (deliver s cells m) ms ∙ deliver-length s cells m
 
-pub stepCells-length : (s : Sizes) (read : ℕ → List ℕ → Cell) (rs : List Rule) (cells : List Cell) → length (stepCells s read rs cells) ≡ length cells
+pub stepCells-length : (s : Sizes) (read : ℕ → List ℕ → Reading) (rs : List Rule) (cells : List Cell) → length (stepCells s read rs cells) ≡ length cells
 unfolding stepCells
 stepCells-length s read rs cells =
     let n = s .records in

@@ -1,6 +1,6 @@
 -- A step that does not stop keeps a register valid: the values are in range, and the references lead to records.
 use Prim.Native.Nat.{ℕ, zero, suc, _<_}
-use mathlib.Core.Path.{_≡_, refl, sym, ap, _∙_}
+use mathlib.Core.Path.{_≡_, refl, sym, _∙_}
 use mathlib.Core.Bool.{true, false}
 use mathlib.Core.List.{List, [], _∷_}
 use native.Mathlib.Omega.{arith}
@@ -9,106 +9,115 @@ use lib.Signed.{ltZ}
 use mir.Syntax.{w32}
 use mir.Val.{SFits}
 use Rattle.integers.specs.Range.{inRange}
-use Rattle.integers.proofs.Bools.{and-both, true-false}
+use Rattle.laws.proofs.Bools.{and-both, true-false, cond-both}
 use Rattle.integers.proofs.Complement.{range-fits, fits-range}
 use Rattle.register.specs.Cells.{valueOf}
 use Rattle.register.specs.Shape.{Limits, Valid, refersWithin}
 use Rattle.register.specs.declared.Sizes.{Sizes}
 use Rattle.register.specs.declared.cells.Cell.{Cell}
-use Rattle.register.specs.declared.cells.Cell.the-variants.{Missing, Value}
-use Rattle.chain.specs.Word.{isReference, Passes}
-use Rattle.rules.specs.Program.{Term, reading, constant, Action, set, sum, difference, least, total, Rule}
-use Rattle.rules.specs.Passed.{Each, isReferenceWord, isReferenceTerm, TermPasses, Alike, Measured, ActionPasses, RulePasses, RulesPass}
-use Rattle.rules.proofs.Checked.{each-append}
-use Rattle.machine.specs.declared.message.Sort.{Sort}
-use Rattle.machine.specs.declared.message.Sort.the-variants.{Least, Total}
+use Rattle.register.specs.declared.cells.Cell.the-variants.{Missing as Unfilled, Value as Filled}
+use Rattle.chain.specs.declared.reading.Reading.{Reading}
+use Rattle.chain.specs.declared.reading.Reading.the-variants.{Missing, Value}
+use Rattle.chain.specs.Word.{isReference, Passes, readOf, refersTo, readingValue}
+use Rattle.chain.proofs.ReadOf.{read-value}
+use Rattle.program.specs.declared.rule.Sort.{Sort}
+use Rattle.program.specs.declared.rule.Sort.the-variants.{Least, Total}
+use Rattle.program.specs.Program.{Expression, reading, constant, operation, Target, own, remote, Rule, targetField}
+use Rattle.laws.specs.Lists.{Each}
+use Rattle.program.specs.Passed.{isReferenceWord, isReferenceExpression, ExpressionPasses, TargetPasses, RulePasses, RulesPass}
+use Rattle.laws.proofs.Lists.{each-append}
 use Rattle.machine.specs.declared.message.Message.{Message}
-use Rattle.machine.specs.Value.{both, termValue, holds, cellInRange}
-use Rattle.machine.specs.Local.{formed, stored, store, localRule, localRules, localRecords}
-use Rattle.machine.specs.Remote.{sentTo, actionMessages, ruleMessages, messages, recordMessages, smaller, merged, deliver, deliverAll}
+use Rattle.machine.specs.Value.{both, value, holds, readingInRange, cellInRange}
+use Rattle.machine.specs.Local.{storedCell, storedTo, stored, store, localRule, localRules, localRecords}
+use Rattle.machine.specs.Remote.{sentTo, sentBy, ruleMessages, messages, recordMessages, smaller, merged, deliver, deliverAll}
 use Rattle.machine.specs.Step.{stepCells, stops}
-use Rattle.machine.proofs.Folding.{cond-both, stepCells-length}
+use Rattle.machine.proofs.Folding.{stepCells-length}
 use Rattle.machine.proofs.Stops.{in-range-each}
 use Rattle.machine.proofs.Refers.{Refers, Change, change-refers}
 
 -- a cell in range fits, and one that fits is in range
 pub in-range-fits : (c : Cell) → cellInRange c ≡ true → SFits w32 (valueOf c)
-unfolding cellInRange valueOf inRange
-in-range-fits Missing e = record { sfits = omega arith }
-in-range-fits (Value z) e = let bounds = and-both _ _ e in range-fits z (bounds .0) (bounds .1)
+unfolding cellInRange readingInRange readingValue inRange
+in-range-fits c e = rw (← read-value c) (go (readOf c) e)
+  where
+    go : (x : Reading) → readingInRange x ≡ true → SFits w32 (readingValue x)
+    go Missing e = record { sfits = omega arith }
+    go (Value z) e = let bounds = and-both _ _ e in range-fits z (bounds .0) (bounds .1)
 
 pub fits-in-range : (c : Cell) → SFits w32 (valueOf c) → cellInRange c ≡ true
-unfolding cellInRange valueOf
-fits-in-range Missing h = refl
-fits-in-range (Value z) h = fits-range z h
+unfolding cellInRange readingInRange readingValue
+fits-in-range c h = go (readOf c) (rw (read-value c) h)
+  where
+    go : (x : Reading) → SFits w32 (readingValue x) → readingInRange x ≡ true
+    go Missing h = refl
+    go (Value z) h = fits-range z h
 
--- "`<?=` keeps the smaller": one of two references
-smaller-refers : (n : ℕ) (c : Cell) (a : ℤ) → refersWithin n c ≡ true → refersWithin n (Value a) ≡ true → refersWithin n (smaller c a) ≡ true
-unfolding smaller
-smaller-refers n Missing a hc ha = ha
-smaller-refers n (Value z) a hc ha = cond-both (λ c. refersWithin n c ≡ true) (ltZ a z) _ _ ha hc
+-- a cell refers where the reading does that it is made of
+stored-refers : (n : ℕ) (x : Reading) → refersWithin n (storedCell x) ≡ refersTo n x
+unfolding storedCell refersWithin refersTo
+stored-refers n Missing = refl
+stored-refers n (Value z) = refl
+
+-- "`<?=` keeps the smaller": one of two references; `+=` is for measures
+merged-refers : (n : ℕ) (k : Sort) (c : Cell) (a : ℤ) → (k ≡ Total → ⊥) → refersWithin n c ≡ true → refersWithin n (Filled a) ≡ true
+    → refersWithin n (merged k c a) ≡ true
+unfolding merged smaller
+merged-refers n Least Unfilled a h hc ha = ha
+merged-refers n Least (Filled z) a h hc ha = cond-both (λ c. refersWithin n c ≡ true) (ltZ a z) _ _ ha hc
+merged-refers n Total c a h hc ha = absurd (h refl)
 
 -- what a message does to its cell
 abbrev Sound : Sizes → Message → Type 0
 Sound s m = Change s (m .field) (λ c. merged (m .sort) c (m .amount))
 
 -- a remote write, if it is sent
-sent-sound : (s : Sizes) (k : Sort) (f : ℕ) (c x : Cell) → ((a : ℤ) → x ≡ Value a → Change s f (λ d. merged k d a)) → Each (Sound s) (sentTo k f c x)
-unfolding sentTo both
-sent-sound s k f Missing x h = tt
-sent-sound s k f (Value v) Missing h = tt
-sent-sound s k f (Value v) (Value a) h = (h a refl, tt)
+sent-sound : (s : Sizes) (k : Sort) (f : ℕ) (c x : Reading) → (k ≡ Total → isReference f ≡ false) → Change s f (λ d. storedCell x)
+    → Each (Sound s) (sentTo k f c x)
+unfolding sentTo both storedCell
+sent-sound s k f Missing x m w = tt
+sent-sound s k f (Value v) Missing m w = tt
+sent-sound s k f (Value v) (Value a) m w =
+    (record { field = w .field; refers = λ r d h. merged-refers (s .records) k d a (λ q. true-false r (m q)) h (w .refers r d h) }, tt)
 
 -- one record, whose reference words lead to records
-module _ (s : Sizes) (lim : Limits s) (read : List ℕ → Cell)
-    (within : (w : List ℕ) → Passes s w → isReferenceWord w ≡ true → refersWithin (s .records) (read w) ≡ true) where
-  -- so do its reference terms, for a number is none
-  term-refers : (x : Term) → TermPasses s x → isReferenceTerm x ≡ true → refersWithin (s .records) (termValue read x) ≡ true
-  unfolding isReferenceTerm termValue
-  term-refers (reading w) k e = within w k e
-  term-refers (constant z) k e = true-false e refl
+module _ (s : Sizes) (lim : Limits s) (read : List ℕ → Reading)
+    (within : (w : List ℕ) → Passes s w → isReferenceWord w ≡ true → refersTo (s .records) (read w) ≡ true) where
+  -- so do its reference expressions, for a number or a sum is none
+  value-refers : (x : Expression) → ExpressionPasses s x → isReferenceExpression x ≡ true → refersTo (s .records) (value read x) ≡ true
+  unfolding isReferenceExpression value
+  value-refers (reading w) k e = within w k e
+  value-refers (constant z) k e = true-false e refl
+  value-refers (operation op x y) k e = true-false e refl
 
-  -- and what is written to a reference
-  alike-refers : {f : ℕ} {x : Term} → Alike s f x → isReference f ≡ true → refersWithin (s .records) (termValue read x) ≡ true
-  alike-refers {f} {x} k e = term-refers x (k .passes) (sym (k .alike) ∙ e)
-
-  -- any change of a measure
-  measured : {f : ℕ} {x : Term} {g : Cell → Cell} → Measured s f x → Change s f g
-  measured k = record { field = k .field; refers = λ e. true-false e (k .measure) }
+  -- and what a rule writes to a reference
+  written : (r : Rule) → RulePasses s r → Change s (targetField (r .target)) (λ c. storedCell (value read (r .expression)))
+  written r k = record { field = k .field; refers = λ e c h. stored-refers _ _ ∙ value-refers (r .expression) (k .expression) (sym (k .alike) ∙ e) }
 
   -- what a local rule stores, one rule, and rules in order
-  store-refers : (u : ℕ) (a : Action) → ActionPasses s a → (cells : List Cell) → Refers s cells → Refers s (store s u (stored read a) cells)
-  unfolding store stored
-  store-refers u (set f x) k cells h = change-refers s lim (record { field = k .field; refers = λ e c d. alike-refers k e }) u cells h
-  store-refers u (sum f x y) k cells h = change-refers s lim {g = λ c. formed read (sum f x y)} (measured (k .0)) u cells h
-  store-refers u (difference f x y) k cells h = change-refers s lim {g = λ c. formed read (difference f x y)} (measured (k .0)) u cells h
-  store-refers u (least f c x) k cells h = h
-  store-refers u (total f c x) k cells h = h
+  store-refers : (u : ℕ) (t : Target) (x : Reading) → Change s (targetField t) (λ c. storedCell x) → (cells : List Cell) → Refers s cells
+      → Refers s (store s u (storedTo t x) cells)
+  unfolding store storedTo targetField
+  store-refers u (own f) x w cells h = change-refers s lim w u cells h
+  store-refers u (remote k f c) x w cells h = h
 
   localRule-refers : (u : ℕ) (r : Rule) → RulePasses s r → (cells : List Cell) → Refers s cells → Refers s (localRule s read u r cells)
-  unfolding localRule
-  localRule-refers u r k cells h = cond-both (Refers s) (holds read (r .test)) _ _ (store-refers u (r .action) (k .action) cells h) h
+  unfolding localRule stored
+  localRule-refers u r k cells h = cond-both (Refers s) (holds read (r .test)) _ _ (store-refers u (r .target) _ (written r k) cells h) h
 
   localRules-refers : (u : ℕ) (rs : List Rule) → Each (RulePasses s) rs → (cells : List Cell) → Refers s cells → Refers s (localRules s read u rs cells)
   unfolding localRules
   localRules-refers u [] k cells h = h
   localRules-refers u (r ∷ rs) k cells h = localRules-refers u rs (k .1) _ (localRule-refers u r (k .0) cells h)
 
-  -- the messages of an action, of a rule, and of rules
-  actionMessages-sound : (a : Action) → ActionPasses s a → Each (Sound s) (actionMessages read a)
-  unfolding actionMessages merged
-  actionMessages-sound (set f x) k = tt
-  actionMessages-sound (sum f x y) k = tt
-  actionMessages-sound (difference f x y) k = tt
-  actionMessages-sound (least f c x) k = sent-sound s Least f (read c) (termValue read x) (λ a e. record {
-    field = k .1 .field;
-    refers = λ r d h. smaller-refers (s .records) d a h (sym (ap (refersWithin (s .records)) e) ∙ alike-refers (k .1) r);
-  })
-  actionMessages-sound (total f c x) k = sent-sound s Total f (read c) (termValue read x) (λ a e. measured (k .1))
+  -- the messages to a target, of a rule, and of rules
+  sentBy-sound : (t : Target) (x : Reading) → TargetPasses s t → Change s (targetField t) (λ c. storedCell x) → Each (Sound s) (sentBy read t x)
+  unfolding sentBy targetField
+  sentBy-sound (own f) x p w = tt
+  sentBy-sound (remote k f c) x p w = sent-sound s k f (read c) x (p .measure) w
 
   ruleMessages-sound : (r : Rule) → RulePasses s r → Each (Sound s) (ruleMessages read r)
   unfolding ruleMessages
-  ruleMessages-sound r k = cond-both (Each (Sound s)) (holds read (r .test)) (actionMessages read (r .action)) [] (actionMessages-sound (r .action) (k .action)) tt
+  ruleMessages-sound r k = cond-both (Each (Sound s)) (holds read (r .test)) _ [] (sentBy-sound (r .target) _ (k .target) (written r k)) tt
 
   messages-sound : (rs : List Rule) → Each (RulePasses s) rs → Each (Sound s) (messages read rs)
   unfolding messages
@@ -122,9 +131,9 @@ deliverAll-refers s lim [] k cells h = h
 deliverAll-refers s lim (m ∷ ms) k cells h = deliverAll-refers s lim ms (k .1) _ (change-refers s lim (k .0) (m .target) cells h)
 
 -- all records: the local rules, then the messages
-module _ (s : Sizes) (lim : Limits s) (read : ℕ → List ℕ → Cell) (rs : List Rule) (k : Each (RulePasses s) rs) where
+module _ (s : Sizes) (lim : Limits s) (read : ℕ → List ℕ → Reading) (rs : List Rule) (k : Each (RulePasses s) rs) where
   abbrev Within : ℕ → Type 0
-  Within n = (u : ℕ) (w : List ℕ) → u < n → Passes s w → isReferenceWord w ≡ true → refersWithin (s .records) (read u w) ≡ true
+  Within n = (u : ℕ) (w : List ℕ) → u < n → Passes s w → isReferenceWord w ≡ true → refersTo (s .records) (read u w) ≡ true
 
   localRecords-refers : (n : ℕ) → Within n → (cells : List Cell) → Refers s cells → Refers s (localRecords s read rs n cells)
   unfolding localRecords
@@ -141,8 +150,8 @@ module _ (s : Sizes) (lim : Limits s) (read : ℕ → List ℕ → Cell) (rs : L
       (messages-sound s lim (read n) (λ v. w n v (omega arith)) rs k)
 
 -- the cells behind a step
-pub stepCells-valid : {s : Sizes} {cells : List Cell} → Valid s cells → {rs : List Rule} → RulesPass s rs → (read : ℕ → List ℕ → Cell)
-    → ((u : ℕ) (w : List ℕ) → u < s .records → Passes s w → isReferenceWord w ≡ true → refersWithin (s .records) (read u w) ≡ true)
+pub stepCells-valid : {s : Sizes} {cells : List Cell} → Valid s cells → {rs : List Rule} → RulesPass s rs → (read : ℕ → List ℕ → Reading)
+    → ((u : ℕ) (w : List ℕ) → u < s .records → Passes s w → isReferenceWord w ≡ true → refersTo (s .records) (read u w) ≡ true)
     → stops s read rs cells ≡ false → Valid s (stepCells s read rs cells)
 unfolding stepCells
 stepCells-valid {s} {cells} v {rs} k read within go-on = record {

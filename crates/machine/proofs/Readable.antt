@@ -6,13 +6,13 @@ use mathlib.Core.List.{List, [], _∷_, List·Memᴰ}
 use native.Mathlib.Omega.{arith}
 use lib.Dec.{ltb}
 use lib.ListN.{length, take, drop}
-use Rattle.integers.proofs.Bools.{and-both}
+use Rattle.laws.proofs.Bools.{and-both}
 use Rattle.register.specs.declared.Sizes.{Sizes}
 use Rattle.chain.specs.Word.{hasField, readable}
-use Rattle.chain_text.specs.Text.{every}
-use Rattle.knowledge.specs.Plan.{Fact, back, read, hops, half, front, rest, back-need, read-need}
-use Rattle.knowledge.specs.Half.{half-below}
-use Rattle.knowledge.specs.Promise.{Needed, itself, by-back, by-read, Wanted}
+use Rattle.laws.specs.Lists.{every}
+use Rattle.plan_theory.specs.Plan.{Fact, back, read, hops, half, front, rest, backNeed, readNeed}
+use Rattle.plan_theory.proofs.Half.{half-below}
+use Rattle.plan_theory.specs.Promise.{Needed, itself, by-back, by-read, Wanted}
 
 -- every hop is a reference of the register
 abbrev pub referring : Sizes → List ℕ → Bool
@@ -59,12 +59,12 @@ module _ (s : Sizes) where
       rw (a, referring-readable (g ∷ w) b) refl
 
   -- the two needs of a line
-  pub back-follows : (f : Fact) → 2 ≤ hops f → Follows s f → Follows s (back-need f)
+  pub back-follows : (f : Fact) → 2 ≤ hops f → Follows s f → Follows s (backNeed f)
   unfolding front
   back-follows (back w) l h = referring-take (half (length w)) w h
   back-follows (read w) l h = readable-take (half (length w)) w h (half-below (length w) l)
 
-  pub read-follows : (f : Fact) → Follows s f → Follows s (read-need f)
+  pub read-follows : (f : Fact) → Follows s f → Follows s (readNeed f)
   unfolding rest
   read-follows (back w) h = readable-drop (half (length w)) w (referring-readable w h)
   read-follows (read w) h = readable-drop (half (length w)) w h

@@ -1,47 +1,41 @@
 -- Every reading of rules that pass can be followed, and so can every line of their plan.
 use Prim.Native.Nat.{ℕ, _<_}
-use mathlib.Core.Path.{sym, subst}
-use mathlib.Core.List.{List, [], _∷_, _++_, List·Memᴰ, List·Memᴰ·head, List·Memᴰ·tail}
+use mathlib.Core.List.{List, [], _∷_}
 use lib.ListN.{length}
 use Rattle.register.specs.declared.Sizes.{Sizes}
 use Rattle.chain.specs.Word.{Passes}
-use Rattle.knowledge.specs.Plan.{line}
-use Rattle.knowledge.specs.Kept.{plan-promise}
-use Rattle.rules.specs.Program.{Term, reading, constant, Test, always, when, Action, set, sum, difference, least, total, Rule, termReadings, testReadings, actionReadings, ruleReadings, readings, stepPlan}
-use Rattle.rules.specs.Passed.{Each, TermPasses, TestPasses, ActionPasses, RulePasses, RulesPass}
-use Rattle.rules.proofs.Checked.{each-append}
+use Rattle.plan_theory.specs.Plan.{line}
+use Rattle.plan_theory.proofs.Kept.{plan-promise}
+use Rattle.program.specs.Program.{Expression, reading, constant, operation, Test, always, when, Target, own, remote, Rule, expressionReadings, testReadings, targetReadings, ruleReadings, readings, stepPlan}
+use Rattle.laws.specs.Lists.{Each}
+use Rattle.program.specs.Passed.{ExpressionPasses, TestPasses, TargetPasses, RulePasses, RulesPass}
+use Rattle.laws.proofs.Lists.{each-append, each-of}
 use Rattle.machine.proofs.Readable.{Follows, wanted-follows}
 
--- one of a list
-pub each-of : {A : Type 0} (P : A → Type 0) {l : List A} {a : A} → Each P l → List·Memᴰ a l → P a
-each-of P h (List·Memᴰ·head e) = subst P (sym e) (h .0)
-each-of P h (List·Memᴰ·tail m) = each-of P (h .1) m
-
 module _ (s : Sizes) where
-  term-pass : (x : Term) → TermPasses s x → Each (Passes s) (termReadings x)
-  unfolding termReadings
-  term-pass (reading w) k = (k, tt)
-  term-pass (constant z) k = tt
-
-  terms-pass : (x y : Term) → TermPasses s x → TermPasses s y → Each (Passes s) (termReadings x ++ termReadings y)
-  terms-pass x y k m = each-append (Passes s) (termReadings x) (termReadings y) (term-pass x k) (term-pass y m)
+  -- the readings of an expression, of a test, and of a target
+  expression-pass : (x : Expression) → ExpressionPasses s x → Each (Passes s) (expressionReadings x)
+  unfolding expressionReadings
+  expression-pass (reading w) k = (k, tt)
+  expression-pass (constant z) k = tt
+  expression-pass (operation op x y) k = each-append (Passes s) (expressionReadings x) _ (expression-pass x (k .0 .0)) (expression-pass y (k .1 .0))
 
   test-pass : (t : Test) → TestPasses s t → Each (Passes s) (testReadings t)
   unfolding testReadings
   test-pass always k = tt
-  test-pass (when x c y) k = terms-pass x y (k .0) (k .1)
+  test-pass (when x c y) k = each-append (Passes s) (expressionReadings x) _ (expression-pass x (k .0)) (expression-pass y (k .1))
 
-  action-pass : (a : Action) → ActionPasses s a → Each (Passes s) (actionReadings a)
-  unfolding actionReadings
-  action-pass (set f x) k = term-pass x (k .passes)
-  action-pass (sum f x y) k = terms-pass x y (k .0 .passes) (k .1 .passes)
-  action-pass (difference f x y) k = terms-pass x y (k .0 .passes) (k .1 .passes)
-  action-pass (least f c x) k = (k .0 .passes, term-pass x (k .1 .passes))
-  action-pass (total f c x) k = (k .0 .passes, term-pass x (k .1 .passes))
+  target-pass : (t : Target) → TargetPasses s t → Each (Passes s) (targetReadings t)
+  unfolding targetReadings
+  target-pass (own f) k = tt
+  target-pass (remote k f c) p = (p .passes, tt)
 
+  -- those of a rule, and of rules
   pub rule-pass : (r : Rule) → RulePasses s r → Each (Passes s) (ruleReadings r)
   unfolding ruleReadings
-  rule-pass r k = each-append (Passes s) (testReadings (r .test)) (actionReadings (r .action)) (test-pass (r .test) (k .test)) (action-pass (r .action) (k .action))
+  rule-pass r k =
+      each-append (Passes s) (testReadings (r .test)) _ (test-pass (r .test) (k .test))
+      (each-append (Passes s) (targetReadings (r .target)) _ (target-pass (r .target) (k .target)) (expression-pass (r .expression) (k .expression)))
 
   pub readings-pass : (rs : List Rule) → Each (RulePasses s) rs → Each (Passes s) (readings rs)
   unfolding readings

@@ -16,7 +16,7 @@ use Rattle.register.specs.declared.cells.Cell.the-variants.{Missing}
 use Rattle.register.proofs.Bounds.{width-references}
 use Rattle.chain.specs.Word.{isReference, hasField, column}
 use Rattle.chain.proofs.Following.{column-below}
-use Rattle.knowledge.specs.Cases.{true-or-false}
+use Rattle.laws.proofs.Cases.{true-or-false}
 
 -- a cell is changed at place j, perhaps the one that is looked at
 change-keeps : (P : Cell → Type 0) (g : Cell → Cell) → ((c : Cell) → P c → P (g c)) → (cells : List Cell) (j i : ℕ)

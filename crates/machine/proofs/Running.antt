@@ -11,11 +11,11 @@ use lib.Seq.{drop-length}
 use Rattle.register.specs.Shape.{Valid}
 use Rattle.register.specs.declared.Sizes.{Sizes}
 use Rattle.register.specs.declared.cells.Cell.{Cell}
-use Rattle.rules.specs.Program.{Step, Program}
-use Rattle.rules.specs.Passed.{openBehind, Loops, StepPasses, ProgramPasses}
-use Rattle.rules.proofs.Checked.{each-back}
+use Rattle.program.specs.Program.{Step, Program}
+use Rattle.program.specs.Passed.{openBehind, Loops, StepPasses, ProgramPasses}
+use Rattle.laws.proofs.Lists.{each-back}
 use Rattle.machine.specs.Step.{stepCells, stops}
-use Rattle.machine.specs.Run.{Reader, direct, Pass, begins, goesOn, entered, following, Ending, complete, spent, offended, Run, behind, stepFirst, runFrom, run}
+use Rattle.machine.specs.Run.{Reader, direct, Pass, begins, goesOn, entered, following, Ending, complete, exhausted, offended, Run, behind, stepFirst, runFrom, run}
 use Rattle.machine.proofs.Keeping.{stepCells-valid}
 use Rattle.machine.proofs.Direct.{direct-refers}
 use Rattle.machine.proofs.RunningPass.{openBefore, fits-before, begins-outside, back-outside, passFrom, entered-drop, following-drop}
@@ -105,9 +105,9 @@ module _ {s : Sizes} {p : Program} {budget : ℕ} {start : List Cell} {step firs
     running-passes k = rw here at (each-back (StepPasses s) (take step p) (drop step p) (rw take-append-drop (k .each))) .0
 
     -- the budget is spent
-    pub running-spent : finished ≡ budget → run s (direct s) p budget start ≡ record { cells = cells; trace = trace; ending = spent }
+    pub running-exhausted : finished ≡ budget → run s (direct s) p budget start ≡ record { cells = cells; trace = trace; ending = exhausted }
     unfolding runFrom
-    running-spent e = let none-left : budget - finished ≡ 0 = omega arith in running-end (rw (none-left, here))
+    running-exhausted e = let none-left : budget - finished ≡ 0 = omega arith in running-end (rw (none-left, here))
 
     -- x stops
     pub running-offended : finished < budget → stops s (direct s (x .rules) cells) (x .rules) cells ≡ true

@@ -6,13 +6,13 @@ use mathlib.Core.List.{List}
 use mathlib.Core.Option.{Option, none, some}
 use borrow.Author.Tests.{eqb-true}
 use lib.ListN.{drop}
-use Rattle.integers.proofs.Bools.{true-false}
+use Rattle.laws.proofs.Bools.{true-false}
 use Rattle.register.specs.declared.Sizes.{Sizes}
 use Rattle.register.specs.declared.cells.Cell.{Cell}
-use Rattle.rules.specs.declared.around.Setting.{Setting}
-use Rattle.rules.specs.declared.around.Setting.the-variants.{Single, Looped}
-use Rattle.rules.specs.Program.{Program}
-use Rattle.rules.specs.Passed.{settingFits, openBehind}
+use Rattle.program.specs.declared.setting.Setting.{Setting}
+use Rattle.program.specs.declared.setting.Setting.the-variants.{Single, Looped}
+use Rattle.program.specs.Program.{Program}
+use Rattle.program.specs.Passed.{settingFits, openBehind}
 use Rattle.machine.specs.Run.{Pass, begins, goesOn, entered, following}
 
 -- the loop that is open before a step

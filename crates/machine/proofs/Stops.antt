@@ -8,15 +8,17 @@ use native.Mathlib.Omega.{arith}
 use native.Mathlib.Decide.{decLt}
 use borrow.Author.Tests.{not-false}
 use lib.ListN.{length, getD, List·getD-eq-default}
-use Rattle.integers.proofs.Bools.{or-right, or-neither, true-false}
+use Rattle.laws.proofs.Bools.{or-right, or-neither, true-false}
 use Rattle.register.specs.File.{width, cellCount, cellIndex}
 use Rattle.register.proofs.Bounds.{place-row, place-column, place-is}
 use Rattle.register.specs.declared.Sizes.{Sizes}
 use Rattle.register.specs.declared.cells.Cell.{Cell}
 use Rattle.register.specs.declared.cells.Cell.the-variants.{Missing}
-use Rattle.knowledge.specs.Cases.{true-or-false, lt-or-le}
-use Rattle.rules.specs.Program.{Rule}
-use Rattle.machine.specs.Value.{cellInRange}
+use Rattle.chain.specs.declared.reading.Reading.{Reading}
+use Rattle.chain.specs.Word.{readOf}
+use Rattle.laws.proofs.Cases.{true-or-false, lt-or-le}
+use Rattle.program.specs.Program.{Rule}
+use Rattle.machine.specs.Value.{readingInRange, cellInRange}
 use Rattle.machine.specs.Local.{sumOffends}
 use Rattle.machine.specs.Step.{stepCells, offendsAt, someBelow, stops}
 use Rattle.machine.proofs.Folding.{stepCells-length}
@@ -44,10 +46,10 @@ each-place s P each j h =
 
 -- a missing cell is in range
 missing-in-range : {c : Cell} → c ≡ Missing → cellInRange c ≡ true
-unfolding cellInRange
+unfolding cellInRange readingInRange readOf
 missing-in-range e = rw e
 
-module _ (s : Sizes) (read : ℕ → List ℕ → Cell) (rs : List Rule) (cells : List Cell) where
+module _ (s : Sizes) (read : ℕ → List ℕ → Reading) (rs : List Rule) (cells : List Cell) where
   -- a step stops where a sum or total offends
   pub stops-at : (u c : ℕ) → u < s .records → c < width s → offendsAt s read rs cells u c ≡ true → stops s read rs cells ≡ true
   unfolding stops

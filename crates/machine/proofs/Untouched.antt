@@ -2,32 +2,32 @@
 use Prim.Native.Nat.{ℕ, zero, suc, _<_}
 use mathlib.Core.Path.{_≡_, refl, sym, ap, _∙_}
 use mathlib.Core.Logic.{_≢_}
-use mathlib.Core.Bool.{true, false}
+use mathlib.Core.Bool.{false}
 use mathlib.Core.List.{List, [], _∷_}
 use borrow.Author.Tests.{eq-eqb}
 use lib.Dec.{eqb}
 use lib.ListN.{getD, set as put}
 use lib.Seq.{getD-set-other}
-use Rattle.integers.proofs.Bools.{or-neither, true-false}
+use Rattle.laws.proofs.Bools.{or-neither, true-false, cond-both}
 use Rattle.register.specs.File.{width, cellIndex}
 use Rattle.register.specs.Shape.{Limits}
 use Rattle.register.specs.declared.Sizes.{Sizes}
 use Rattle.register.specs.declared.cells.Cell.{Cell}
-use Rattle.register.specs.declared.cells.Cell.the-variants.{Missing, Value}
-use Rattle.chain.specs.Word.{hasField, column, fieldAt}
+use Rattle.register.specs.declared.cells.Cell.the-variants.{Missing as Unfilled}
+use Rattle.chain.specs.declared.reading.Reading.{Reading}
+use Rattle.chain.specs.declared.reading.Reading.the-variants.{Missing, Value}
+use Rattle.chain.specs.Word.{column, fieldAt}
 use Rattle.chain.proofs.Following.{column-below, field-column}
-use Rattle.rules.specs.Program.{Action, set, sum, difference, least, total, Rule, fieldOf, writes}
-use Rattle.rules.specs.Check.{someAction}
-use Rattle.rules.specs.Passed.{Each, ActionPasses, RulePasses}
-use Rattle.rules.proofs.Checked.{each-append}
-use Rattle.machine.specs.declared.message.Sort.{Sort}
-use Rattle.machine.specs.declared.message.Sort.the-variants.{Least, Total}
+use Rattle.program.specs.declared.rule.Sort.{Sort}
+use Rattle.program.specs.Program.{Target, own, remote, Rule, targetField, writes, someTarget}
+use Rattle.laws.specs.Lists.{Each}
+use Rattle.program.specs.Passed.{RulePasses}
+use Rattle.laws.proofs.Lists.{each-append}
 use Rattle.machine.specs.declared.message.Message.{Message}
-use Rattle.machine.specs.Value.{both, termValue, holds}
-use Rattle.machine.specs.Local.{stored, store, localRule, localRules, localRecords}
-use Rattle.machine.specs.Remote.{sentTo, actionMessages, ruleMessages, messages, recordMessages, deliver, deliverAll}
+use Rattle.machine.specs.Value.{both, value, holds}
+use Rattle.machine.specs.Local.{storedCell, storedTo, stored, store, localRule, localRules, localRecords}
+use Rattle.machine.specs.Remote.{sentTo, sentBy, ruleMessages, messages, recordMessages, deliver, deliverAll}
 use Rattle.machine.specs.Step.{stepCells}
-use Rattle.machine.proofs.Folding.{cond-both}
 use Rattle.machine.proofs.Refers.{place-column}
 
 -- a field that stands in another column than c
@@ -36,37 +36,34 @@ record Elsewhere (s : Sizes) (c f : ℕ) : Type 0 where
   other : column s f ≢ c
 
 abbrev AllElsewhere : Sizes → ℕ → List Rule → Type 0
-AllElsewhere s c rs = Each (λ (r : Rule). Elsewhere s c (fieldOf (r .action))) rs
+AllElsewhere s c rs = Each (λ (r : Rule). Elsewhere s c (targetField (r .target))) rs
 
 abbrev SentElsewhere : Sizes → ℕ → List Message → Type 0
 SentElsewhere s c ms = Each (λ (m : Message). Elsewhere s c (m .field)) ms
 
 -- the messages of such rules go to other columns
 module _ (s : Sizes) (c : ℕ) where
-  sent-elsewhere : (k : Sort) (f : ℕ) (d x : Cell) → Elsewhere s c f → SentElsewhere s c (sentTo k f d x)
+  sent-elsewhere : (k : Sort) (f : ℕ) (d x : Reading) → Elsewhere s c f → SentElsewhere s c (sentTo k f d x)
   unfolding sentTo both
   sent-elsewhere k f Missing x e = tt
   sent-elsewhere k f (Value v) Missing e = tt
   sent-elsewhere k f (Value v) (Value a) e = (e, tt)
 
-  module _ (read : List ℕ → Cell) where
-    action-elsewhere : (a : Action) → Elsewhere s c (fieldOf a) → SentElsewhere s c (actionMessages read a)
-    unfolding actionMessages fieldOf
-    action-elsewhere (set f x) e = tt
-    action-elsewhere (sum f x y) e = tt
-    action-elsewhere (difference f x y) e = tt
-    action-elsewhere (least f d x) e = sent-elsewhere Least f (read d) (termValue read x) e
-    action-elsewhere (total f d x) e = sent-elsewhere Total f (read d) (termValue read x) e
+  module _ (read : List ℕ → Reading) where
+    target-elsewhere : (t : Target) (x : Reading) → Elsewhere s c (targetField t) → SentElsewhere s c (sentBy read t x)
+    unfolding sentBy targetField
+    target-elsewhere (own f) x e = tt
+    target-elsewhere (remote k f d) x e = sent-elsewhere k f (read d) x e
 
     messages-elsewhere : (rs : List Rule) → AllElsewhere s c rs → SentElsewhere s c (messages read rs)
     unfolding messages ruleMessages
     messages-elsewhere [] e = tt
     messages-elsewhere (r ∷ rs) e =
         each-append (λ (m : Message). Elsewhere s c (m .field)) (ruleMessages read r) (messages read rs)
-        (cond-both (SentElsewhere s c) (holds read (r .test)) (actionMessages read (r .action)) [] (action-elsewhere (r .action) (e .0)) tt)
+        (cond-both (SentElsewhere s c) (holds read (r .test)) _ [] (target-elsewhere (r .target) (value read (r .expression)) (e .0)) tt)
         (messages-elsewhere rs (e .1))
 
-  records-elsewhere : (read : ℕ → List ℕ → Cell) (rs : List Rule) (n : ℕ) → AllElsewhere s c rs → SentElsewhere s c (recordMessages read rs n)
+  records-elsewhere : (read : ℕ → List ℕ → Reading) (rs : List Rule) (n : ℕ) → AllElsewhere s c rs → SentElsewhere s c (recordMessages read rs n)
   unfolding recordMessages
   records-elsewhere read rs zero e = tt
   records-elsewhere read rs (suc n) e =
@@ -76,30 +73,28 @@ module _ (s : Sizes) (c : ℕ) where
 -- the cell of record u in column c
 module _ (s : Sizes) (c : ℕ) (b : c < width s) (u : ℕ) where
   abbrev here : List Cell → Cell
-  here cells = getD cells (cellIndex s u c) Missing
+  here cells = getD cells (cellIndex s u c) Unfilled
 
   put-here : (cells : List Cell) (v f : ℕ) (x : Cell) → Elsewhere s c f → here (put cells (cellIndex s v (column s f)) x) ≡ here cells
   put-here cells v f x e =
-      getD-set-other cells (cellIndex s v (column s f)) (cellIndex s u c) x Missing (λ q. e .other (sym (place-column s u v c (column s f) b (e .below) q)))
+      getD-set-other cells (cellIndex s v (column s f)) (cellIndex s u c) x Unfilled (λ q. e .other (sym (place-column s u v c (column s f) b (e .below) q)))
 
   -- stays through the local rules
-  module _ (read : List ℕ → Cell) (v : ℕ) where
-    store-here : (a : Action) (cells : List Cell) → Elsewhere s c (fieldOf a) → here (store s v (stored read a) cells) ≡ here cells
-    unfolding store stored fieldOf
-    store-here (set f x) cells e = put-here cells v f _ e
-    store-here (sum f x y) cells e = put-here cells v f _ e
-    store-here (difference f x y) cells e = put-here cells v f _ e
-    store-here (least f d x) cells e = refl
-    store-here (total f d x) cells e = refl
+  store-here : (v : ℕ) (t : Target) (x : Reading) (cells : List Cell) → Elsewhere s c (targetField t) → here (store s v (storedTo t x) cells) ≡ here cells
+  unfolding store storedTo targetField
+  store-here v (own f) x cells e = put-here cells v f (storedCell x) e
+  store-here v (remote k f d) x cells e = refl
 
-    local-here : (rs : List Rule) (cells : List Cell) → AllElsewhere s c rs → here (localRules s read v rs cells) ≡ here cells
-    unfolding localRules localRule
-    local-here [] cells e = refl
-    local-here (r ∷ rs) cells e =
-        local-here rs (localRule s read v r cells) (e .1)
-        ∙ cond-both (λ (l : List Cell). here l ≡ here cells) (holds read (r .test)) (store s v (stored read (r .action)) cells) cells (store-here (r .action) cells (e .0)) refl
+  local-here : (read : List ℕ → Reading) (v : ℕ) (rs : List Rule) (cells : List Cell) → AllElsewhere s c rs → here (localRules s read v rs cells) ≡ here cells
+  unfolding localRules localRule stored
+  local-here read v [] cells e = refl
+  local-here read v (r ∷ rs) cells e =
+      local-here read v rs (localRule s read v r cells) (e .1)
+      ∙ cond-both (λ (l : List Cell). here l ≡ here cells) (holds read (r .test)) _ cells
+      (store-here v (r .target) (value read (r .expression)) cells (e .0)) refl
 
-  records-here : (read : ℕ → List ℕ → Cell) (rs : List Rule) (n : ℕ) (cells : List Cell) → AllElsewhere s c rs → here (localRecords s read rs n cells) ≡ here cells
+  records-here : (read : ℕ → List ℕ → Reading) (rs : List Rule) (n : ℕ) (cells : List Cell) → AllElsewhere s c rs
+      → here (localRecords s read rs n cells) ≡ here cells
   unfolding localRecords
   records-here read rs zero cells e = refl
   records-here read rs (suc n) cells e = local-here (read n) n rs (localRecords s read rs n cells) e ∙ records-here read rs n cells e
@@ -110,29 +105,20 @@ module _ (s : Sizes) (c : ℕ) (b : c < width s) (u : ℕ) where
   deliver-here [] cells e = refl
   deliver-here (m ∷ ms) cells e = deliver-here ms (deliver s cells m) (e .1) ∙ put-here cells (m .target) (m .field) _ (e .0)
 
-  step-here : (read : ℕ → List ℕ → Cell) (rs : List Rule) (cells : List Cell) → AllElsewhere s c rs → here (stepCells s read rs cells) ≡ here cells
+  step-here : (read : ℕ → List ℕ → Reading) (rs : List Rule) (cells : List Cell) → AllElsewhere s c rs → here (stepCells s read rs cells) ≡ here cells
   unfolding stepCells
   step-here read rs cells e =
       let n = s .records in
       deliver-here (recordMessages read rs n) (localRecords s read rs n cells) (records-elsewhere s c read rs n e) ∙ records-here read rs n cells e
 
--- a rule that passes writes a field of the register
-action-field : (s : Sizes) (a : Action) → ActionPasses s a → hasField s (fieldOf a) ≡ true
-unfolding fieldOf
-action-field s (set f x) k = k .field
-action-field s (sum f x y) k = k .0 .field
-action-field s (difference f x y) k = k .0 .field
-action-field s (least f c x) k = k .1 .field
-action-field s (total f c x) k = k .1 .field
-
 -- no rule writes the field of column c
-unwritten : (s : Sizes) → Limits s → (c : ℕ) (rs : List Rule) → Each (RulePasses s) rs → someAction (writes (fieldAt s c)) rs ≡ false → AllElsewhere s c rs
-unfolding someAction writes
+unwritten : (s : Sizes) → Limits s → (c : ℕ) (rs : List Rule) → Each (RulePasses s) rs → someTarget (writes (fieldAt s c)) rs ≡ false → AllElsewhere s c rs
+unfolding someTarget writes
 unwritten s lim c [] k n = tt
 unwritten s lim c (r ∷ rs) k n =
-    let f = fieldOf (r .action) in
-    let field = action-field s (r .action) (k .0 .action) in
-    let not = or-neither (eqb (fieldAt s c) f) (someAction (writes (fieldAt s c)) rs) n in (
+    let f = targetField (r .target) in
+    let field = k .0 .field in
+    let not = or-neither (eqb (fieldAt s c) f) (someTarget (writes (fieldAt s c)) rs) n in (
       record {
         below = column-below s lim f field;
         other = λ e. true-false {A = ⊥} (eq-eqb (fieldAt s c) f (ap (fieldAt s) (sym e) ∙ field-column s lim f field)) (not .0);
@@ -141,6 +127,7 @@ unwritten s lim c (r ∷ rs) k n =
     )
 
 -- so the step leaves it as it is
-pub step-untouched : (s : Sizes) → Limits s → (read : ℕ → List ℕ → Cell) (rs : List Rule) (cells : List Cell) → Each (RulePasses s) rs → (u c : ℕ) → c < width s
-    → someAction (writes (fieldAt s c)) rs ≡ false → getD (stepCells s read rs cells) (cellIndex s u c) Missing ≡ getD cells (cellIndex s u c) Missing
+pub step-untouched : (s : Sizes) → Limits s → (read : ℕ → List ℕ → Reading) (rs : List Rule) (cells : List Cell) → Each (RulePasses s) rs
+    → (u c : ℕ) → c < width s
+    → someTarget (writes (fieldAt s c)) rs ≡ false → getD (stepCells s read rs cells) (cellIndex s u c) Unfilled ≡ getD cells (cellIndex s u c) Unfilled
 step-untouched s lim read rs cells k u c b n = step-here s c b u read rs cells (unwritten s lim c rs k n)

@@ -3,5 +3,4 @@ pub mod Value
 pub mod Local
 pub mod Remote
 pub mod Step
-pub mod Alike
 pub mod Run

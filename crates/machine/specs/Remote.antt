@@ -9,36 +9,34 @@ use Rattle.register.specs.File.{cellIndex}
 use Rattle.register.specs.declared.Sizes.{Sizes}
 use Rattle.register.specs.declared.cells.Cell.{Cell}
 use Rattle.register.specs.declared.cells.Cell.the-variants.{Missing, Value}
+use Rattle.chain.specs.declared.reading.Reading.{Reading}
 use Rattle.chain.specs.Word.{column}
-use Rattle.rules.specs.Program.{Action, set, sum, difference, least, total, Rule}
-use Rattle.machine.specs.declared.message.Sort.{Sort}
-use Rattle.machine.specs.declared.message.Sort.the-variants.{Least, Total}
+use Rattle.program.specs.declared.rule.Sort.{Sort}
+use Rattle.program.specs.declared.rule.Sort.the-variants.{Least, Total}
+use Rattle.program.specs.Program.{Target, own, remote, Rule}
 use Rattle.machine.specs.declared.message.Message.{Message}
-use Rattle.machine.specs.Value.{both, termValue, holds}
+use Rattle.machine.specs.Value.{both, value, holds}
 
 -- "One whose C or X is unfilled does nothing."
-unfoldable pub sentTo : Sort → ℕ → Cell → Cell → List Message
+unfoldable pub sentTo : Sort → ℕ → Reading → Reading → List Message
 sentTo k f c x = both [] (λ v a. record { sort = k; target = natAbs v; field = f; amount = a } ∷ []) c x
 
--- the message of a rule without its test: a local rule sends none
-unfoldable pub actionMessages : (List ℕ → Cell) → Action → List Message
-actionMessages read (set f x) = []
-actionMessages read (sum f x y) = []
-actionMessages read (difference f x y) = []
-actionMessages read (least f c x) = sentTo Least f (read c) (termValue read x)
-actionMessages read (total f c x) = sentTo Total f (read c) (termValue read x)
+-- the message that takes a value where a rule writes: a local rule sends none
+unfoldable pub sentBy : (List ℕ → Reading) → Target → Reading → List Message
+sentBy read (own f) x = []
+sentBy read (remote k f c) x = sentTo k f (read c) x
 
 -- "A remote write whose test, if any, holds and whose C and X are filled is one letter; any other sends none."
-unfoldable pub ruleMessages : (List ℕ → Cell) → Rule → List Message
-ruleMessages read r = cond (holds read (r .test)) (actionMessages read (r .action)) []
+unfoldable pub ruleMessages : (List ℕ → Reading) → Rule → List Message
+ruleMessages read r = cond (holds read (r .test)) (sentBy read (r .target) (value read (r .expression))) []
 
 -- the messages of one record
-unfoldable pub messages : (List ℕ → Cell) → List Rule → List Message
+unfoldable pub messages : (List ℕ → Reading) → List Rule → List Message
 messages read [] = []
 messages read (r ∷ rs) = ruleMessages read r ++ messages read rs
 
 -- of the records below n
-unfoldable pub recordMessages : (ℕ → List ℕ → Cell) → List Rule → ℕ → List Message
+unfoldable pub recordMessages : (ℕ → List ℕ → Reading) → List Rule → ℕ → List Message
 recordMessages read rs zero = []
 recordMessages read rs (suc n) = recordMessages read rs n ++ messages (read n) rs
 

@@ -1,4 +1,4 @@
--- A run: steps until none is left, the budget (document 01's allowance) is spent, or a step stops.
+-- A run: steps until none is left, the budget (document 01's allowance) is exhausted, or a step stops.
 use mathlib.Core.Bool.{Bool, true, false, cond, not, _&&_, _||_}
 use mathlib.Core.List.{List, [], _∷_}
 use Prim.Native.Nat.{ℕ, zero, suc, _+_, _*_}
@@ -7,32 +7,33 @@ use Rattle.integers.specs.Range.{eqZ}
 use Rattle.register.specs.File.{width}
 use Rattle.register.specs.declared.Sizes.{Sizes}
 use Rattle.register.specs.declared.cells.Cell.{Cell}
-use Rattle.register.specs.declared.cells.Cell.the-variants.{Missing, Value}
-use Rattle.chain.specs.Word.{cell, valueAtRecord}
-use Rattle.rules.specs.declared.around.Setting.{Setting}
-use Rattle.rules.specs.declared.around.Setting.the-variants.{Single, Looped}
-use Rattle.rules.specs.Program.{Rule, Step, Program}
+use Rattle.chain.specs.declared.reading.Reading.{Reading}
+use Rattle.chain.specs.declared.reading.Reading.the-variants.{Missing, Value}
+use Rattle.chain.specs.Word.{readCell, valueAtRecord}
+use Rattle.program.specs.declared.setting.Setting.{Setting}
+use Rattle.program.specs.declared.setting.Setting.the-variants.{Single, Looped}
+use Rattle.program.specs.Program.{Rule, Step, Program}
 use Rattle.machine.specs.Step.{stepCells, stops}
 
 -- what each record reads in a step, over the cells before it
 abbrev pub Reader : Type 0
-Reader = List Rule → List Cell → ℕ → List ℕ → Cell
+Reader = List Rule → List Cell → ℕ → List ℕ → Reading
 
 -- the machine that document 01 calls straight: hop by hop
 unfoldable pub direct : Sizes → Reader
 direct s rs cells u w = valueAtRecord s cells w u
 
 -- "the same, values and marks"
-unfoldable pub sameCell : Cell → Cell → Bool
-sameCell Missing Missing = true
-sameCell Missing (Value b) = false
-sameCell (Value a) Missing = false
-sameCell (Value a) (Value b) = eqZ a b
+unfoldable pub sameReading : Reading → Reading → Bool
+sameReading Missing Missing = true
+sameReading Missing (Value b) = false
+sameReading (Value a) Missing = false
+sameReading (Value a) (Value b) = eqZ a b
 
 -- whether field f is the same for the records below n
 unfoldable pub sameColumn : Sizes → ℕ → List Cell → List Cell → ℕ → Bool
 sameColumn s f before after zero = true
-sameColumn s f before after (suc n) = sameColumn s f before after n && sameCell (cell s before n f) (cell s after n f)
+sameColumn s f before after (suc n) = sameColumn s f before after n && sameReading (readCell s before n f) (readCell s after n f)
 
 -- The pass of a loop: the steps from its first on, and the cells as it began.
 pub record Pass : Type 0 where
@@ -59,7 +60,7 @@ following s g rest after p = cond (goesOn s g (p .before) after) rest (p .steps)
 
 -- how a run ends: no step is left; 20; 21, at this step over these cells
 pub data Ending : Type 0 where
-  complete spent : Ending
+  complete exhausted : Ending
   offended : List Rule → List Cell → Ending
 
 -- the cells at the end, the finished steps, each with the cells before it, and how it ends
@@ -87,10 +88,10 @@ stepFirst s reader goOn (x ∷ rest) p cells =
     (behind x cells (goOn (following s (x .setting) rest after pass) pass after))
 
 -- the run of the steps to come, with a budget for this many more: "Before each step, if the finished steps equal the
--- allowance .. the run is stopped as spent"
+-- allowance .. the run is stopped as exhausted"
 unfoldable pub runFrom : Sizes → Reader → ℕ → List Step → Pass → List Cell → Run
 runFrom s reader zero [] p cells = ended cells complete
-runFrom s reader zero (x ∷ rest) p cells = ended cells spent
+runFrom s reader zero (x ∷ rest) p cells = ended cells exhausted
 runFrom s reader (suc budget) steps p cells = stepFirst s reader (runFrom s reader budget) steps p cells
 
 -- the run of a program over the cells of a register

@@ -1,10 +1,5 @@
 // A remote write on its way.
-
-// `<?=` or `+=`
-pub enum Sort {
-    Least,
-    Total,
-}
+use program::rule::Sort;
 
 // To the cell of a record and a field.
 pub struct Message {

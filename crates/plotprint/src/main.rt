@@ -4,10 +4,10 @@ ghost use Prim.Native.Nat.{_≤_};
 ghost use lib.ListN.{length};
 ghost use Rattle.io.specs.Counts.{Counts};
 ghost use Rattle.register.specs.Load.{load as loadOf};
-ghost use Rattle.register.specs.Outcome.{done};
-ghost use Rattle.listing.specs.Room.{pageRoom};
+ghost use Rattle.laws.specs.Outcome.{done};
+ghost use Rattle.print_listing.specs.Room.{pageRoom};
 use libc::STDOUT_FILENO;
-use listing;
+use print_listing;
 use print_run;
 use register::LoadAnswer;
 use register::Sizes;
@@ -36,9 +36,9 @@ fn loaded_answer(file: &[u8], text: &[u8], sizes: Sizes, page: &mut [u8]) -> usi
     let ran = print_run::run(file, text, out);
     if ran.refusal != 0 {
         let place = print_run::behind_at(ran.refusal, ran.line, ran.finished);
-        return listing::put_refused(page, ran.refusal, place);
+        return print_listing::put_refused(page, ran.refusal, place);
     }
-    listing::put_listing(page, out, sizes, ran)
+    print_listing::put_listing(page, out, sizes, ran)
 }
 
 // What is printed for a register file and a text.
@@ -49,7 +49,7 @@ fn answer(file: &[u8], text: &[u8], page: &mut [u8]) -> usize
     match register::load(file) {
         LoadAnswer::Loaded(sizes) => loaded_answer(file, text, sizes, page),
         LoadAnswer::Refused(refusal) => {
-            listing::put_refused(page, register::number_of(refusal), 0)
+            print_listing::put_refused(page, register::number_of(refusal), 0)
         }
     }
 }

@@ -7,22 +7,23 @@ use native.Mathlib.Omega.{arith}
 use native.Mathlib.Nat.{mul-le-mul-left}
 use borrow.Author.Tests.{ltb-true, le-ltb}
 use lib.ListN.{length}
-use Rattle.integers.proofs.Bools.{and-both}
-use Rattle.register.specs.Outcome.{Outcome, done, refused, after}
+use Rattle.laws.proofs.Bools.{and-both}
+use Rattle.laws.specs.Outcome.{Outcome, done, refused, after}
 use Rattle.register.specs.File.{width, cellCount, sizesOf}
 use Rattle.register.specs.declared.Sizes.{Sizes}
 use Rattle.register.proofs.Bounds.{limits}
 use Rattle.chain.specs.Word.{readable, Passes}
-use Rattle.knowledge.specs.Plan.{read, add-readings, plan}
-use Rattle.knowledge.specs.Lines.{add-none}
-use Rattle.rules.specs.Program.{Program, readings, stepPlan, mostLines}
-use Rattle.rules.specs.Passed.{Each, StepPasses}
-use Rattle.rules.specs.Text.{check}
+use Rattle.plan_theory.specs.Plan.{read, addReadings, plan}
+use Rattle.plan_theory.proofs.Lines.{add-none}
+use Rattle.program.specs.Program.{Program, readings, stepPlan, mostLines}
+use Rattle.laws.specs.Lists.{Each}
+use Rattle.program.specs.Passed.{StepPasses}
+use Rattle.text_rules.specs.Text.{check}
 use Rattle.machine.specs.Run.{scratch, isShort}
 use Rattle.machine.proofs.Readings.{readings-pass}
-use Rattle.program.proofs.Passed.{loaded, passed, few-lines}
-use Rattle.runs.specs.Direct.{Lengths, directRun}
-use Rattle.runs.proofs.Answering.{run-refused, run-done}
+use Rattle.op_check.proofs.Passed.{loaded, passed, few-lines}
+use Rattle.op_run.specs.Direct.{Lengths, directRun}
+use Rattle.op_run.proofs.Answering.{run-refused, run-done}
 use Rattle.print_run.specs.RanBy.{printedRun}
 
 -- a register without reference fields
@@ -35,8 +36,8 @@ module _ (s : Sizes) (none : s .references ≡ 0) where
   few-hops (f ∷ g ∷ w) e = absurd (omega (arith, none, ltb-true f (s .references) (and-both _ _ e .0)))
 
   -- no reading adds a line
-  no-line : (ws : List (List ℕ)) → Each (Passes s) ws → add-readings [] ws ≡ []
-  unfolding add-readings
+  no-line : (ws : List (List ℕ)) → Each (Passes s) ws → addReadings [] ws ≡ []
+  unfolding addReadings
   no-line [] h = refl
   no-line (w ∷ ws) h = rw (add-none [] (read w) (few-hops w (h .0 .follows))) (no-line ws (h .1))
 

@@ -3,14 +3,14 @@ use mathlib.Core.Path.{_≡_}
 use mathlib.Core.List.{List}
 use Prim.Native.Nat.{ℕ}
 use lib.IntN.{ℤ}
-use Rattle.register.specs.Outcome.{Outcome, done, after}
+use Rattle.laws.specs.Outcome.{Outcome, done, after}
 use Rattle.register.specs.File.{sizesOf, cellsOfFile}
-use Rattle.rules.specs.Text.{check}
+use Rattle.text_rules.specs.Text.{check}
 use Rattle.machine.specs.Run.{Run, direct, run}
-use Rattle.message_machine.specs.declared.Machine.the-variants.{Messages}
-use Rattle.run_program.specs.declared.RunAnswer.{RunAnswer}
-use Rattle.runs.specs.Answer.{Answered}
-use Rattle.listing.specs.declared.Ran.{Ran}
+use Rattle.machine_messages.specs.declared.Machine.the-variants.{Messages}
+use Rattle.run_steps.specs.declared.RunAnswer.{RunAnswer}
+use Rattle.op_run.specs.Answer.{Answered}
+use Rattle.print_listing.specs.declared.Ran.{Ran}
 
 -- the run by letters, "allowance 1,000"; no refusal 18 or 19, for no length of a buffer is in it
 unfoldable pub printedRun : List ℕ → List ℕ → Outcome Run

@@ -4,7 +4,7 @@ ghost use Prim.Native.Nat.{_≤_};
 ghost use lib.ListN.{length};
 ghost use Rattle.print_run.specs.Behind.{behindAt};
 ghost use Rattle.print_run.specs.RanBy.{RanBy};
-use listing::Ran;
+use print_listing::Ran;
 
 // "allowance 1,000"
 const BUDGET: u16 = 1000;
@@ -16,7 +16,7 @@ pub fn run(file: &[u8], text: &[u8], out: &mut [u8]) -> Ran
 {
     let mut values = [0i64; 6600];
     let mut marks = [0u8; 6600];
-    let answer = runs::run_messages(file, text, BUDGET, out, &mut values, &mut marks);
+    let answer = op_run::run_messages(file, text, BUDGET, out, &mut values, &mut marks);
     let counts = answer.counts;
     Ran {
         refusal: answer.refusal,

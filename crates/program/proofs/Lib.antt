@@ -1,4 +1,4 @@
--- Laws of the definitions of `specs/`, for the proofs here and in the crates above.
-pub mod Checks
-pub mod Passed
-pub mod Room
+-- Laws of a program and of its array.
+pub mod Rules
+pub mod Frames
+pub mod Locations

@@ -1,2 +1,6 @@
--- What the plan of a step answers.
-pub mod StepPlan
+-- A read program: what it is, how its array holds it, and what one that passed keeps to.
+pub mod Program
+pub mod Passed
+pub mod Stored
+pub mod Location
+pub mod Kept

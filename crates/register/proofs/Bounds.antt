@@ -5,7 +5,7 @@ use mathlib.Core.Bool.{Bool, true, _&&_}
 use native.Mathlib.Omega.{arith}
 use native.Mathlib.Nat.{mul-le-mul-right, mul-le-mul-left, div-add-mod', div-lt-iff-lt-mul, mod-lt}
 use borrow.Author.Tests.{leb-true, le-leb}
-use Rattle.integers.proofs.Bools.{and-both}
+use Rattle.laws.proofs.Bools.{and-both}
 use Rattle.register.specs.File.{width, cellCount, cellIndex}
 use Rattle.register.specs.Load.{withinLimits}
 use Rattle.register.specs.Shape.{Limits}

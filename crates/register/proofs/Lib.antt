@@ -1,5 +1,4 @@
 -- Laws of the definitions of `specs/`, for the proofs here and in the crates above.
-pub mod First
 pub mod Bounds
 pub mod Refusals
 pub mod Parts

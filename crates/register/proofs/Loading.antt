@@ -8,7 +8,7 @@ use native.Mathlib.Omega.{arith}
 use borrow.Author.Tests.{lt-ltb, le-ltb, eq-eqb, ne-eqb}
 use lib.ListN.{length, take, drop, length-drop}
 use lib.Seq.{length-take-le}
-use Rattle.register.specs.Outcome.{Outcome, done, refused, unless}
+use Rattle.laws.specs.Outcome.{Outcome, done, refused, unless}
 use Rattle.register.specs.File.{cellCount, sizesOf, valuesPart, marksPart}
 use Rattle.register.specs.Load.{withinLimits, cellsRefusal, loadSized, load, refusalNumber}
 use Rattle.register.specs.Shape.{Limits, Parts}

@@ -8,13 +8,13 @@ use native.Mathlib.Numerals.{add-one}
 use borrow.Author.Tests.{lt-ltb}
 use lib.IntN.{ℤ, pos}
 use Rattle.integers.specs.Range.{eqZ, isIndex}
-use Rattle.register.specs.Outcome.{first}
+use Rattle.laws.specs.Outcome.{first}
 use Rattle.register.specs.Load.{cellRefusal, refusalNumber, checkNumber}
 use Rattle.register.specs.declared.Refusal.{Refusal}
 use Rattle.register.specs.declared.Refusal.the-variants.{Length, SizeLimit, Mark, MissingValue, Reference}
 use Rattle.register.specs.declared.check.Check.{Check}
 use Rattle.register.specs.declared.check.Check.the-variants.{Passed, Failed}
-use Rattle.register.proofs.First.{first-more, first-found}
+use Rattle.laws.proofs.First.{first-more, first-found}
 
 pub number-positive : (r : Refusal) → refusalNumber r ≢ 0
 unfolding refusalNumber

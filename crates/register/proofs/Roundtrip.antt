@@ -14,7 +14,7 @@ use mir.Syntax.{w32}
 use mir.Val.{SFits}
 use Rattle.integers.specs.Bytes.{wordAt, wordBytes}
 use Rattle.integers.proofs.Bytes.{word-read, word-again, word-behind, value-fits}
-use Rattle.register.specs.Outcome.{Outcome, done, refused, unless}
+use Rattle.laws.specs.Outcome.{Outcome, done, refused, unless}
 use Rattle.register.specs.Cells.{valueOf, cellAt, cellsOf, valuesOf, marksOf}
 use Rattle.register.specs.File.{width, cellCount, cellIndex, sizesOf, valuesPart, marksPart, cellsOfFile, fileOf}
 use Rattle.register.specs.Load.{withinLimits, cellRefusal, refusalAt, recordRefusal, cellsRefusal, load}
@@ -26,7 +26,7 @@ use Rattle.register.proofs.Loading.{file-parts, load-short, load-large,
 use Rattle.register.proofs.Bounds.{limits, limits-test, cellIndex-below, width-references}
 use Rattle.register.proofs.Arrays.{Again, arrays-again, cellOf-fits, valuesOf-length, marksOf-length, valuesOf-at, marksOf-at, cellsOf-arrays, cellsOf-at, cellsOf-length}
 use Rattle.register.proofs.Sound.{sound-place, sound-refers, cell-sound}
-use Rattle.register.proofs.First.{each-first}
+use Rattle.laws.proofs.First.{each-first}
 
 -- what a file that loads is like
 pub record Loads (s : Sizes) (file : List ℕ) : Type 0 where

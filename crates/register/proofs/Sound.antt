@@ -17,7 +17,7 @@ use Rattle.register.specs.Shape.{refersWithin}
 use Rattle.register.specs.declared.Sizes.{Sizes}
 use Rattle.register.specs.declared.cells.Cell.{Cell}
 use Rattle.register.specs.declared.cells.Cell.the-variants.{Missing, Value}
-use Rattle.register.proofs.First.{first-each}
+use Rattle.laws.proofs.First.{first-each}
 use Rattle.register.proofs.Bounds.{place-row, place-column, place-is}
 use Rattle.register.proofs.Refusals.{refused-mark, missing-zero, refused-missing, filled-measure, filled-reference, refused-reference}
 use Rattle.register.proofs.Arrays.{Canonical}

@@ -1,5 +1,4 @@
 -- The register file of document 01.
-pub mod Outcome
 pub mod Cells
 pub mod File
 pub mod Load

@@ -7,7 +7,7 @@ use lib.IntN.{ℤ, pos}
 use lib.ListN.{length, getD}
 use Rattle.integers.specs.Bytes.{valueAt}
 use Rattle.integers.specs.Range.{eqZ, isIndex}
-use Rattle.register.specs.Outcome.{Outcome, done, refused, unless, first}
+use Rattle.laws.specs.Outcome.{Outcome, done, refused, unless, first}
 use Rattle.register.specs.declared.Sizes.{Sizes}
 use Rattle.register.specs.declared.Refusal.{Refusal}
 use Rattle.register.specs.declared.Refusal.the-variants.{Length, SizeLimit, Mark, MissingValue, Reference}

@@ -8,7 +8,7 @@ use lib.ListN.{length, getD}
 use mir.Syntax.{w32}
 use mir.Val.{SFits}
 use Rattle.integers.specs.Range.{isIndex}
-use Rattle.register.specs.Outcome.{first}
+use Rattle.laws.specs.Outcome.{first}
 use Rattle.register.specs.Cells.{valueOf}
 use Rattle.register.specs.declared.Sizes.{Sizes}
 use Rattle.register.specs.declared.cells.Cell.{Cell}

@@ -35,14 +35,14 @@ pub fn marks_part(file: &[u8], sizes: Sizes) -> &[u8]
 }
 
 // Cell j of the two arrays.
-pub fn cell_at(values: &[u8], marks: &[u8], j: usize) -> Cell
-    requires { ⌜ (4 * j + 4 ≤ length (now values)) × (j < length (now marks)) ⌝ }
-    ensures { λ r. ⌜ r ≡ cellAt (now (values .entry)) (now (marks .entry)) j ⌝ }
+pub fn cell_at(cells: &[u8], filled: &[u8], j: usize) -> Cell
+    requires { ⌜ (4 * j + 4 ≤ length (now cells)) × (j < length (now filled)) ⌝ }
+    ensures { λ r. ⌜ r ≡ cellAt (now (cells .entry)) (now (filled .entry)) j ⌝ }
 {
-    if marks[j] == 0 {
+    if filled[j] == 0 {
         return Cell::Missing;
     }
-    Cell::Value(integers::value_at(values, 4 * j))
+    Cell::Value(integers::value_at(cells, 4 * j))
 }
 
 // Cell j of a file, written to its values part and its marks part.
@@ -62,6 +62,6 @@ fn put(file: &mut [u8], split: usize, j: usize, value: i32, mark: u8)
     ensures { λ _. ⌜ now (file .exit) ≡ set (sets (now (file .entry)) (12 + 4 * j) (valueBytes value)) (split + j) mark ⌝ }
 {
     integers::put_value(&mut file[12..split], 4 * j, value);
-    let marks = &mut file[split..];
-    marks[j] = mark;
+    let filled = &mut file[split..];
+    filled[j] = mark;
 }

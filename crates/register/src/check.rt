@@ -2,7 +2,7 @@
 ghost use mathlib.Core.Path.{_≡_};
 ghost use Prim.Native.Nat.{_+_, _*_, _≤_, _<_};
 ghost use lib.Dec.{ltb};
-ghost use Rattle.register.specs.Outcome.{first};
+ghost use Rattle.laws.specs.Outcome.{first};
 ghost use Rattle.register.specs.File.{width};
 ghost use Rattle.register.specs.Load.{cellRefusal, refusalAt, recordRefusal, cellsRefusal, checkNumber};
 ghost use Rattle.register.specs.Shape.{Parts, Fields};
@@ -37,55 +37,55 @@ fn check_cell(records: usize, reference: bool, value: i32, mark: u8) -> Check
 }
 
 // The cell of record u and field f, a reference or a measure.
-fn check_at(values: &[u8], marks: &[u8], sizes: Sizes, u: usize, f: usize, reference: bool) -> Check
-    requires { ⌜ Parts sizes (now values) (now marks) × (u < sizes .records) × (f < width sizes) × (ltb f (sizes .references) ≡ reference) ⌝ }
-    ensures { λ r. ⌜ checkNumber r ≡ refusalAt sizes (now (values .entry)) (now (marks .entry)) u f ⌝ }
+fn check_at(cells: &[u8], filled: &[u8], sizes: Sizes, u: usize, f: usize, reference: bool) -> Check
+    requires { ⌜ Parts sizes (now cells) (now filled) × (u < sizes .records) × (f < width sizes) × (ltb f (sizes .references) ≡ reference) ⌝ }
+    ensures { λ r. ⌜ checkNumber r ≡ refusalAt sizes (now (cells .entry)) (now (filled .entry)) u f ⌝ }
 {
     let j = crate::cell_index(sizes, u, f);
-    let value = integers::value_at(values, 4 * j);
-    check_cell(sizes.records, reference, value, marks[j])
+    let value = integers::value_at(cells, 4 * j);
+    check_cell(sizes.records, reference, value, filled[j])
 }
 
 // The fields `from` to `to` of record u, all references or all measures, where no field before them is refused.
 fn check_fields(
-    values: &[u8],
-    marks: &[u8],
+    cells: &[u8],
+    filled: &[u8],
     sizes: Sizes,
     u: usize,
     from: usize,
     to: usize,
     reference: bool,
 ) -> Check
-    requires { ⌜ Fields sizes (now values) (now marks) u from to reference ⌝ }
-    ensures { λ r. ⌜ checkNumber r ≡ first to (refusalAt sizes (now (values .entry)) (now (marks .entry)) u) ⌝ }
+    requires { ⌜ Fields sizes (now cells) (now filled) u from to reference ⌝ }
+    ensures { λ r. ⌜ checkNumber r ≡ first to (refusalAt sizes (now (cells .entry)) (now (filled .entry)) u) ⌝ }
 {
     for f in from..to {
-        if let Check::Failed(refusal) = check_at(values, marks, sizes, u, f, reference) {
+        if let Check::Failed(refusal) = check_at(cells, filled, sizes, u, f, reference) {
             return Check::Failed(refusal);
         }
     }
     Check::Passed
 }
 
-fn check_record(values: &[u8], marks: &[u8], sizes: Sizes, u: usize) -> Check
-    requires { ⌜ Parts sizes (now values) (now marks) × (u < sizes .records) ⌝ }
-    ensures { λ r. ⌜ checkNumber r ≡ recordRefusal sizes (now (values .entry)) (now (marks .entry)) u ⌝ }
+fn check_record(cells: &[u8], filled: &[u8], sizes: Sizes, u: usize) -> Check
+    requires { ⌜ Parts sizes (now cells) (now filled) × (u < sizes .records) ⌝ }
+    ensures { λ r. ⌜ checkNumber r ≡ recordRefusal sizes (now (cells .entry)) (now (filled .entry)) u ⌝ }
 {
     let references = sizes.references;
     let fields = references + sizes.measures;
-    match check_fields(values, marks, sizes, u, 0, references, true) {
-        Check::Passed => check_fields(values, marks, sizes, u, references, fields, false),
+    match check_fields(cells, filled, sizes, u, 0, references, true) {
+        Check::Passed => check_fields(cells, filled, sizes, u, references, fields, false),
         Check::Failed(refusal) => Check::Failed(refusal),
     }
 }
 
-pub fn check_cells(values: &[u8], marks: &[u8], sizes: Sizes) -> Check
-    requires { ⌜ Parts sizes (now values) (now marks) ⌝ }
-    ensures { λ r. ⌜ checkNumber r ≡ cellsRefusal sizes (now (values .entry)) (now (marks .entry)) ⌝ }
+pub fn check_cells(cells: &[u8], filled: &[u8], sizes: Sizes) -> Check
+    requires { ⌜ Parts sizes (now cells) (now filled) ⌝ }
+    ensures { λ r. ⌜ checkNumber r ≡ cellsRefusal sizes (now (cells .entry)) (now (filled .entry)) ⌝ }
 {
     let records = sizes.records;
     for u in 0..records {
-        if let Check::Failed(refusal) = check_record(values, marks, sizes, u) {
+        if let Check::Failed(refusal) = check_record(cells, filled, sizes, u) {
             return Check::Failed(refusal);
         }
     }

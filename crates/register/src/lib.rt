@@ -68,9 +68,9 @@ fn load_sized(file: &[u8], sizes: Sizes) -> LoadAnswer
     if file.len() != 12 + 5 * count {
         return LoadAnswer::Refused(Refusal::Length);
     }
-    let values = cells::values_part(file, sizes);
-    let marks = cells::marks_part(file, sizes);
-    match check::check_cells(values, marks, sizes) {
+    let cells = cells::values_part(file, sizes);
+    let filled = cells::marks_part(file, sizes);
+    match check::check_cells(cells, filled, sizes) {
         Check::Passed => LoadAnswer::Loaded(sizes),
         Check::Failed(refusal) => LoadAnswer::Refused(refusal),
     }

@@ -6,6 +6,7 @@ pub mod chains;
 pub mod damage;
 pub mod mutations;
 pub mod neighbours;
+pub mod on_failure;
 pub mod padding;
 pub mod random;
 pub mod ranking;

@@ -3,6 +3,7 @@
 mod common;
 
 use common::{any_answer, refusal_name, refused};
+use generate::on_failure::OnFailure;
 use generate::random::Random;
 use generate::tally::Tally;
 use generate::{chains, damage, registers};
@@ -53,6 +54,9 @@ fn name(chain: &[u8], answer: Result<Cell, Refusal>) -> String {
 
 /// One case: the library, lent a value and an answer full of rubbish, sets both whole.
 fn compare(random: &mut Random, tally: &mut Tally, register: &[u8], chain: &[u8], record: u64) {
+    let _failing = OnFailure::new(register)
+        .bytes("chain", chain)
+        .number("record", record);
     let mut value = random.number() as i64;
     let mut answer = any_answer(random);
     let refusal = lent::read(register, chain, record, &mut value, &mut answer);
@@ -64,11 +68,6 @@ fn compare(random: &mut Random, tally: &mut Tally, register: &[u8], chain: &[u8]
             answer
         },
         expected(from_paper),
-        "record {record} of a register of {} bytes {:?}, chain of {} bytes {:?}",
-        register.len(),
-        &register[..register.len().min(60)],
-        chain.len(),
-        String::from_utf8_lossy(&chain[..chain.len().min(80)]),
     );
     tally.count(&name(chain, from_paper));
 }

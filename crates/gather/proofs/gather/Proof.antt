@@ -6,18 +6,18 @@ use borrow.Author.Needs.{needs}
 use denote.Ref.{now}
 use Rattle.register.specs.File.{cellsOfFile}
 use Rattle.register.proofs.Loading.{file-parts}
-use Rattle.knowledge.specs.Plan.{last-round}
-use Rattle.plan.specs.Held.{facts-in}
-use Rattle.rules.specs.Program.{stepPlan}
-use Rattle.fill.specs.Filled.{FollowLines}
-use Rattle.fill.proofs.Readings.{lines-follow}
-use Rattle.messages.proofs.Planned.{planned-lines, planned-followable, planned-count, planned-rounds}
+use Rattle.plan_theory.specs.Plan.{lastRound}
+use Rattle.plan_lines.specs.Held.{factsIn}
+use Rattle.program.specs.Program.{stepPlan}
+use Rattle.gather_follow.specs.Filled.{FollowLines}
+use Rattle.gather_follow.proofs.Readings.{lines-follow}
+use Rattle.gather_exchanges.proofs.Planned.{planned-lines, planned-followable, planned-count, planned-rounds}
 use Rattle.gather.proofs.Gathering.{told-gathered}
 use Rattle.gather.proofs.gather.Statement.{statement}
 use Rattle.gather.proofs.gather.Tie as tie
 
 -- the lines are the step's plan
-facts-are : (c : tie.Start) → facts-in (now (c .args .keys)) (c .args .count) ≡ stepPlan (c .pre .1 .rules)
+facts-are : (c : tie.Start) → factsIn (now (c .args .keys)) (c .args .count) ≡ stepPlan (c .pre .1 .rules)
 facts-are c = c .pre .1 .holds .facts-are
 
 values-part-requires : tie.Need-values-part-requires
@@ -34,8 +34,11 @@ unfolding cellsOfFile
 fill-requires c κs =
     let b = c .before .before .before .before .before .before .before .before in
     let follows = subst (FollowLines (b .args .sizes)) (sym (facts-are b)) (lines-follow (b .args .sizes) (b .pre .1 .passes)) in
-    rw (c .before .before .before .before .before .values-part .ensures, c .before .before .before .before .marks-part .ensures)
-    (file-parts (now (b .args .file)) (b .args .sizes) (b .pre .0 .valid .limits) (b .pre .0 .whole), b .pre .0 .valid, b .pre .1 .holds .keyed, follows, b .pre .2, b .pre .3)
+    rw (c .before .before .before .before .before .values-part .ensures, c .before .before .before .before .marks-part .ensures) (
+      file-parts (now (b .args .file)) (b .args .sizes) (b .pre .0 .valid .limits) (b .pre .0 .whole),
+      b .pre .0 .valid,
+      record { keyed = b .pre .1 .holds .keyed; wanted-length = b .pre .2; follow = follows; values-room = b .pre .3; marks-room = b .pre .4 },
+    )
 
 enum-told-2 : tie.Need-enum-told-2
 enum-told-2 c = search needs
@@ -45,8 +48,8 @@ last-round-requires c κs =
     let b = c .before .before .before .before .before .before in
     (b .pre .1 .holds .rounds-are .places, b .pre .1 .holds .keyed .taken≤)
 
-cast-t20 : tie.Need-cast-t20
-cast-t20 c = search needs
+cast-t21 : tie.Need-cast-t21
+cast-t21 c = search needs
 
 exchange-to-requires : tie.Need-exchange-to-requires
 unfolding cellsOfFile
@@ -55,7 +58,7 @@ exchange-to-requires c κs =
     rw (c .before .before .before .before .before .before .values-part .ensures, c .before .before .before .before .before .marks-part .ensures) (
       file-parts (now (b .args .file)) (b .args .sizes) (b .pre .0 .valid .limits) (b .pre .0 .whole),
       b .pre .0 .valid,
-      record { lines = planned-lines (b .pre .1); follow = planned-followable (b .pre .1); values-room = b .pre .2; marks-room = b .pre .3 },
+      record { lines = planned-lines (b .pre .1); follow = planned-followable (b .pre .1); values-room = b .pre .3; marks-room = b .pre .4 },
     )
 
 same-length : tie.Need-same-length
@@ -67,10 +70,11 @@ same-length-2 c = search needs
 returns : tie.Need-returns
 unfolding cellsOfFile
 returns c =
-    let filled = rw (c .before .before .before .before .before .before .before .before .before .values-part .ensures, c .before .before .before .before .before .before .before .before .marks-part .ensures) at (c .before .before .before .fill .ensures) in
+    let m = c .before .before .before .before .before .before .before .before in
+    let filled = rw (m .before .values-part .ensures, m .marks-part .ensures) at (c .before .before .before .fill .ensures) in
     rw (c .before .before .before .before .before .before .enum-told .given .1)
     (record {
-      filled = rw (planned-count (c .before .before .before .before .before .before .before .before .before .before .before .before .pre .1)) filled;
+      filled = rw (planned-count (m .before .before .before .before .pre .1)) filled;
       counted = refl;
       few-exchanges = omega arith;
       few-messages = omega arith;
@@ -83,7 +87,8 @@ same-length-4 : tie.Need-same-length-4
 same-length-4 c = search needs
 
 -- the last round, and what the exchanges up to it make
-last-is : (c : tie.After-last-round) → c .last-round .result ≡ last-round (facts-in (now (c .before .before .before .before .before .before .before .args .keys)) (c .before .before .before .before .before .before .before .args .count))
+last-is : (c : tie.After-last-round) → let b = c .before .before .before .before .before .before .before in
+    c .last-round .result ≡ lastRound (factsIn (now (b .args .keys)) (b .args .count))
 last-is c =
     let b = c .before .before .before .before .before .before .before in
     c .last-round .ensures .last-is _ (planned-count (b .pre .1)) (planned-rounds (b .pre .1))
@@ -108,7 +113,7 @@ gather-spec =
     fill-requires
     enum-told-2
     last-round-requires
-    cast-t20
+    cast-t21
     exchange-to-requires
     same-length
     same-length-2

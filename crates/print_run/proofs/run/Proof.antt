@@ -8,7 +8,7 @@ use lib.ListN.{replicate}
 use native.Mathlib.Omega.{arith}
 use borrow.Author.Needs.{needs}
 use denote.Ref.{now}
-use Rattle.runs.specs.Answer.{lengths}
+use Rattle.op_run.specs.Answer.{lengths}
 use Rattle.print_run.proofs.Enough.{run-printed}
 use Rattle.print_run.proofs.run.Statement.{statement}
 use Rattle.print_run.proofs.run.Tie as tie

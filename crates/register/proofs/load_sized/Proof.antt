@@ -6,7 +6,7 @@ use native.Mathlib.Omega.{arith}
 use borrow.Author.Needs.{needs}
 use lib.ListN.{length}
 use denote.Ref.{now}
-use Rattle.register.specs.Outcome.{done, unless}
+use Rattle.laws.specs.Outcome.{done, unless}
 use Rattle.register.specs.File.{cellCount}
 use Rattle.register.specs.Load.{loadSized, cellsRefusal, outcomeOf, refusalNumber, checkNumber}
 use Rattle.register.specs.Shape.{Parts}

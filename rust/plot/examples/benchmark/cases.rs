@@ -1,5 +1,6 @@
 //! Registers and texts whose runs are timed.
 
+use generate::chains;
 use generate::ranking::{self, list};
 use reference::register::{Cell, MAX_FIELDS, MAX_RECORDS, Sizes, encode};
 
@@ -27,7 +28,8 @@ fn case(name: &'static str, register: Vec<u8>, text: Vec<u8>, budget: u16) -> Ca
 /// The runs that are timed by both machines.
 pub fn cases() -> Vec<Case> {
     vec![
-        case("32 rules of 16 hops", chains(), long_rules(), 1),
+        case("32 rules of 16 hops", far_about(), long_rules(), 1),
+        case("8 chains of 16 hops, 15 common", full(), in_common(), 1),
         case(
             "32 remote sums to one record",
             to_first(),
@@ -47,9 +49,13 @@ pub fn cases() -> Vec<Case> {
 
 /// So many steps of so many rules each over all records.
 pub fn equal_rules(name: &'static str, steps: usize, rules: usize) -> Case {
-    let rules = b"M[u] := M[A[u]]\n".repeat(rules);
-    let step = [b"step\n", &rules[..], b"end\n"].concat();
+    let step = step(&b"M[u] := M[A[u]]\n".repeat(rules));
     case(name, list(MAX_RECORDS), step.repeat(steps), steps as u16)
+}
+
+/// A step of these rules.
+fn step(rules: &[u8]) -> Vec<u8> {
+    [b"step\n", rules, b"end\n"].concat()
 }
 
 /// A register file by its cells.
@@ -70,25 +76,31 @@ fn sizes(records: usize, references: usize, measures: usize) -> Sizes {
 }
 
 /// One reference field that leads far about, and eight measures.
-fn chains() -> Vec<u8> {
+fn far_about() -> Vec<u8> {
     file(sizes(MAX_RECORDS, 1, 8), |u, f| match f {
         0 => Cell::Value(((u * 2_654_435 + 977) % MAX_RECORDS) as i32),
         _ => Cell::Value((u % 100) as i32),
     })
 }
 
+/// A step that stores to each of these fields, one by one, its own cell behind
+/// the same references, which come the outermost first.
+fn reading_behind(references: &[u8], fields: impl Iterator<Item = u8>) -> Vec<u8> {
+    let rule = |field: u8| {
+        let chain = chains::text(&[&[field], references].concat());
+        [&[field], &b"[u] := "[..], &chain, b"\n"].concat()
+    };
+    step(&fields.flat_map(rule).collect::<Vec<u8>>())
+}
+
 fn long_rules() -> Vec<u8> {
-    let mut text = b"step\n".to_vec();
-    for rule in 0..32 {
-        let letter = b'M' + rule % 8;
-        text.extend([letter, b'[', b'u', b']', b' ', b':', b'=', b' ', letter]);
-        text.extend(b"[A".repeat(15));
-        text.extend(b"[u]");
-        text.extend(b"]".repeat(15));
-        text.push(b'\n');
-    }
-    text.extend(b"end\n");
-    text
+    reading_behind(&[b'A'; 15], (0..32).map(|rule| b'M' + rule % 8))
+}
+
+/// All eight measures behind the same 15 references. The plan's parts of these all
+/// differ, so that the eight readings have 51 lines and only this in common.
+fn in_common() -> Vec<u8> {
+    reading_behind(b"HEFCDABHGFEDCBA", b'M'..=b'T')
 }
 
 /// Every record refers to the first.
@@ -100,12 +112,7 @@ fn to_first() -> Vec<u8> {
 }
 
 fn remote_rules() -> Vec<u8> {
-    [
-        &b"step\n"[..],
-        &b"remote M[A[u]] += M[u]\n".repeat(32),
-        b"end\n",
-    ]
-    .concat()
+    step(&b"remote M[A[u]] += M[u]\n".repeat(32))
 }
 
 fn few() -> Vec<u8> {
@@ -115,7 +122,7 @@ fn few() -> Vec<u8> {
     })
 }
 
-/// All fields that there are; the first reference leads far about.
+/// All fields that there are; every reference leads far about.
 fn full() -> Vec<u8> {
     file(sizes(MAX_RECORDS, MAX_FIELDS, MAX_FIELDS), |u, f| {
         Cell::Value(((u * 2_654_435 + 977 * f) % MAX_RECORDS) as i32)

@@ -39,6 +39,11 @@ impl Folder {
         Folder::new(name, register, text, &begins)
     }
 
+    /// Register and text; a file that is not there counts as empty.
+    pub fn inputs(&self) -> [&[u8]; 2] {
+        [&self.register, &self.text].map(|file| file.as_deref().unwrap_or_default())
+    }
+
     fn without_register(self) -> Folder {
         Folder {
             register: None,

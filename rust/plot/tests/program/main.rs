@@ -4,6 +4,7 @@ mod folders;
 mod generated;
 
 use folders::Folder;
+use generate::on_failure::OnFailure;
 use generate::tally::Tally;
 use reference::print::print;
 use std::fs;
@@ -39,12 +40,6 @@ fn printed(program: &Path, place: &Path, folder: &Folder) -> String {
     String::from_utf8(ran.stdout).expect("it prints plain text")
 }
 
-/// What the reference prints; a file that is not there counts as empty.
-fn expected(folder: &Folder) -> String {
-    let register = folder.register.as_deref().unwrap_or_default();
-    print(register, folder.text.as_deref().unwrap_or_default())
-}
-
 /// What was printed, for counting.
 fn outcome(printed: &str) -> &str {
     match printed.split_once(" at ") {
@@ -62,8 +57,10 @@ fn program_prints_what_the_reference_does() {
     fs::create_dir_all(&place).expect("the place for the folders can be made");
     let mut tally = Tally::default();
     for folder in folders::folders().into_iter().chain(generated::folders()) {
+        let [register, text] = folder.inputs();
+        let _failing = OnFailure::new(register).bytes("text", text);
         let printed = printed(&program, &place.join(&folder.name), &folder);
-        assert_eq!(printed, expected(&folder), "{}", folder.name);
+        assert_eq!(printed, print(register, text), "{}", folder.name);
         assert!(
             printed.starts_with(&folder.begins),
             "{}: {printed}",

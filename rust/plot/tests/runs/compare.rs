@@ -48,11 +48,12 @@ impl Left {
 /// Runs a trial by both machines, which must agree with each other, and in
 /// exchanges with the plans. Gives what the message machine left.
 pub fn compare(random: &mut Random, trial: &Trial) -> Left {
+    let _failing = trial.on_failure();
     let direct = DIRECT.compare(random, trial);
     let messages = MESSAGES.compare(random, trial);
     let exchanges = messages.answer[lent::EXCHANGES];
-    assert_eq!(messages.in_common(), direct.in_common(), "{}", shown(trial));
-    assert_eq!(exchanges, planned::exchanges(trial), "{}", shown(trial));
+    assert_eq!(messages.in_common(), direct.in_common(), "both machines");
+    assert_eq!(exchanges, planned::exchanges(trial), "exchanges");
     messages
 }
 
@@ -60,19 +61,18 @@ impl Machine {
     /// Runs a trial by the library and by the reference.
     fn compare(&self, random: &mut Random, trial: &Trial) -> Left {
         let left = self.by_library(random, trial);
-        let context = || format!("{}: {}", self.name, shown(trial));
         let mut output = trial.buffers.output.clone();
         let (register, text) = (&trial.register, &trial.text);
         let run = (self.reference)(register, text, trial.budget, &mut output, trial.scratch());
         let expected = match &run {
             Err(refusal) => {
-                assert_eq!(left.buffers, trial.buffers, "{}", context());
+                assert_eq!(left.buffers, trial.buffers, "{}", self.name);
                 refused(*refusal)
             }
             Ok(run) => answered(run, &left.answer),
         };
-        assert_eq!((left.number, left.answer), expected, "{}", context());
-        assert_eq!(left.buffers.output, output, "{}", context());
+        assert_eq!((left.number, left.answer), expected, "{}", self.name);
+        assert_eq!(left.buffers.output, output, "{}", self.name);
         left
     }
 
@@ -105,11 +105,4 @@ fn answered(run: &Run, given: &Answer) -> (u32, Answer) {
         answer[lent::FIELD] = place.field as u64;
     }
     (run.end.number(), answer)
-}
-
-/// A trial, for the message of a failure.
-fn shown(trial: &Trial) -> String {
-    let text = String::from_utf8_lossy(&trial.text);
-    let (file, budget) = (trial.register.len(), trial.budget);
-    format!("a register of {file} bytes, budget {budget}:\n{text}")
 }

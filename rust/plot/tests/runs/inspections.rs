@@ -31,19 +31,22 @@ impl Look<'_> {
     /// Inspects by both with buffers like these, and counts what came of it. Gives
     /// the refusal number.
     fn compare(&self, random: &mut Random, tally: &mut Tally, before: &RunBuffers) -> u32 {
+        let _failing = trials::on_failure(self.register, self.text, before)
+            .number("step", self.step)
+            .number("t", self.t);
         let (mut buffers, mut expected) = (before.clone(), before.clone());
         let found = self.by_library(random, &mut buffers);
         let shown = match self.by_reference(&mut expected) {
             Err(refusal) => {
-                assert_eq!(found, refused(refusal), "{}", self.shown());
+                assert_eq!(found, refused(refusal));
                 0
             }
             Ok(lines) => {
-                assert_eq!(found, answered(lines), "{}", self.shown());
+                assert_eq!(found, answered(lines));
                 lines * self.records()
             }
         };
-        assert_eq!(buffers, expected, "{}", self.shown());
+        assert_eq!(buffers, expected);
         assert_eq!(buffers.values[shown..], before.values[shown..]);
         assert_eq!(buffers.marks[shown..], before.marks[shown..]);
         let sent = buffers.marks[..shown].iter().filter(|&&mark| mark == 1);
@@ -81,13 +84,6 @@ impl Look<'_> {
             &mut answer,
         );
         (number, answer)
-    }
-
-    /// The input, for the message of a failure.
-    fn shown(&self) -> String {
-        let text = String::from_utf8_lossy(self.text);
-        let (file, step, t) = (self.register.len(), self.step, self.t);
-        format!("step {step} after round {t}, a register of {file} bytes:\n{text}")
     }
 }
 

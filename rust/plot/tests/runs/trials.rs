@@ -1,6 +1,7 @@
 //! What is run: a register, a text, a budget, and buffers full of rubbish.
 
 use generate::cases::Case;
+use generate::on_failure::OnFailure;
 use generate::random::Random;
 use generate::{damage, mutations, neighbours, registers};
 use plot::lent::RunBuffers;
@@ -31,6 +32,11 @@ impl Trial {
         }
     }
 
+    /// Prints the trial if the test fails.
+    pub fn on_failure(&self) -> OnFailure<'_> {
+        on_failure(&self.register, &self.text, &self.buffers).number("budget", self.budget)
+    }
+
     /// The lengths of the scratch buffers.
     pub fn scratch(&self) -> Scratch {
         Scratch {
@@ -38,6 +44,15 @@ impl Trial {
             marks: self.buffers.marks.len(),
         }
     }
+}
+
+/// Prints register, text and the lengths of the buffers if the test fails.
+pub fn on_failure<'a>(register: &'a [u8], text: &'a [u8], buffers: &RunBuffers) -> OnFailure<'a> {
+    OnFailure::new(register)
+        .bytes("text", text)
+        .number("output", buffers.output.len() as u64)
+        .number("values", buffers.values.len() as u64)
+        .number("marks", buffers.marks.len() as u64)
 }
 
 /// Buffers of these lengths, full of rubbish.

@@ -2,6 +2,7 @@
 //! is full of rubbish, so that what it must set and what it must leave shows.
 
 use crate::common::{any_answer, refusal_name, refused};
+use generate::on_failure::OnFailure;
 use generate::random::Random;
 use plot::lent::{self, Answer, CHAIN_BYTES, PlanBuffers};
 use reference::plan::LineKind;
@@ -30,6 +31,7 @@ pub fn compare(random: &mut Random, register: &[u8], text: &[u8]) -> Result<Prog
 
 /// The check by both.
 fn check(random: &mut Random, register: &[u8], text: &[u8]) -> Result<Program, Refusal> {
+    let _failing = OnFailure::new(register).bytes("text", text);
     let mut answer = any_answer(random);
     let number = lent::check(register, text, &mut answer);
     let program = text::check(register, text);
@@ -42,7 +44,7 @@ fn check(random: &mut Random, register: &[u8], text: &[u8]) -> Result<Program, R
             (0, answer)
         }
     };
-    assert_eq!((number, answer), expected, "check of {}", shown(text));
+    assert_eq!((number, answer), expected, "check");
     program
 }
 
@@ -54,6 +56,9 @@ pub fn plan(
     step: u64,
     expected: Result<&Step, Refusal>,
 ) {
+    let _failing = OnFailure::new(register)
+        .bytes("text", text)
+        .number("step", step);
     let rubbish = rubbish(random);
     let mut lines = rubbish.clone();
     let mut answer = any_answer(random);
@@ -65,9 +70,8 @@ pub fn plan(
             (planned(step), buffers(step, &sizes))
         }
     };
-    let context = || format!("plan of step {step} of {}", shown(text));
-    assert_eq!((number, answer), expected, "{}", context());
-    assert_eq!(lines, expected_lines, "{}", context());
+    assert_eq!((number, answer), expected, "plan");
+    assert_eq!(lines, expected_lines, "lines of the plan");
 }
 
 fn planned(step: &Step) -> (u32, Answer) {
@@ -98,12 +102,6 @@ fn rubbish(random: &mut Random) -> PlanBuffers {
     random.fill(&mut buffers.chains);
     random.fill(&mut buffers.rounds);
     buffers
-}
-
-/// The beginning of a text, for the message of a failure.
-fn shown(text: &[u8]) -> String {
-    let beginning = String::from_utf8_lossy(&text[..text.len().min(2000)]);
-    format!("a text of {} bytes:\n{beginning}", text.len())
 }
 
 /// What a check came to, for counting.

@@ -3,7 +3,7 @@
 use Prim.Native.Nat.{ℕ}
 use mathlib.Core.Path.{refl, ap₂}
 use mathlib.Core.List.{[], _∷_}
-use Rattle.program.proofs.Checks.{answered-refused, answered-program}
+use Rattle.op_check.proofs.Checks.{answered-refused, answered-program}
 use Rattle.c_api.specs.Answer.{checkNumbers}
 use borrow.Author.Needs.{needs}
 use Rattle.c_api.proofs.check.plot_check.Statement.{statement}

@@ -5,8 +5,8 @@ use mathlib.Core.List.{[], _∷_}
 use borrow.Author.Needs.{needs}
 use mir.Syntax.{w64}
 use mir.Facts.{toZ-ofZ}
-use Rattle.answers.specs.Numbers.{readNumbers}
-use Rattle.answers.specs.declared.reading.ReadNumbers.{ReadNumbers}
+use Rattle.api_read.specs.Numbers.{readNumbers}
+use Rattle.api_read.specs.declared.reading.ReadNumbers.{ReadNumbers}
 use Rattle.c_api.proofs.read.plot_read.Statement.{statement}
 use Rattle.c_api.proofs.read.plot_read.Tie as tie
 

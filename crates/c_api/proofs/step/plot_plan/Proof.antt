@@ -4,10 +4,10 @@ use Prim.Native.Nat.{ℕ}
 use mathlib.Core.Path.{refl, sym, ap₂, _∙_}
 use mathlib.Core.List.{[], _∷_}
 use lib.ListN.{length-map}
-use Rattle.knowledge.specs.Plan.{Fact, round}
-use Rattle.plan.specs.Held.{facts}
-use Rattle.plan.proofs.Appending.{holds-count}
-use Rattle.program.proofs.Checks.{holds-lines, planned-answer, refused-answer}
+use Rattle.plan_theory.specs.Plan.{Fact, round}
+use Rattle.plan_lines.specs.Held.{facts}
+use Rattle.plan_lines.proofs.Appending.{holds-count}
+use Rattle.op_check.proofs.Checks.{holds-lines, planned-answer, refused-answer}
 use borrow.Author.Needs.{needs}
 use Rattle.c_api.proofs.step.plot_plan.Statement.{statement}
 use Rattle.c_api.proofs.step.plot_plan.Tie as tie

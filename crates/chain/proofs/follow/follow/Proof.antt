@@ -1,90 +1,98 @@
--- `chain::follow::follow` meets its contract. The loop's invariant: following what is left from the record reached gives the same cell.
+-- `chain::follow::follow` meets its contract. The loop's invariant: following what is left from the reading reached gives the same reading.
 -- Assumes nothing.
-use mathlib.Core.Path.{refl, sym, ap, _∙_}
+use mathlib.Core.Path.{_≡_, ap, _∙_}
+use mathlib.Core.Bool.{true}
+use mathlib.Core.List.{_∷_}
 use native.Mathlib.Omega.{arith}
 use borrow.Author.Needs.{needs}
-use lib.IntN.{natAbs}
+use lib.IntN.{ℤ, natAbs}
+use lib.ListN.{length}
+use mir.Syntax.{w32}
+use mir.Val.{toZ, ofZ}
 use Rattle.integers.proofs.Complement.{kept}
-use Rattle.register.specs.declared.cells.Cell.the-variants.{Value}
 use Rattle.register.specs.Cells.{cellsOf}
-use Rattle.chain.specs.Word.{valueAtRecord, unpack}
-use Rattle.chain.proofs.Following.{Following, hop-field, hop-missing, hop-index, hop-on, end-own, end-field, end-cell}
+use Rattle.chain.specs.Word.{readable, valueAtRecord, unpack, refersTo}
+use Rattle.chain.proofs.Packing.{unpack-none, first-some, taken-apart}
+use Rattle.chain.proofs.Following.{readable-field, readable-rest, named-index, named-below, hop-value, Underway, underway-first, underway-next, underway-last, underway-missing}
 use Rattle.chain.proofs.follow.follow.Statement.{statement}
 use Rattle.chain.proofs.follow.follow.Tie as tie
 
 abbrev Inv-loop : tie.InvT-loop
-Inv-loop values marks sizes chain u at₀ rest₀ at rest = Following sizes (cellsOf values marks) (valueAtRecord sizes (cellsOf values marks) (unpack chain) u) at rest
+Inv-loop cells filled sizes chain u reading₀ rest₀ reading rest =
+    (readable sizes (unpack rest) ≡ true) × Underway sizes (cellsOf cells filled) (valueAtRecord sizes (cellsOf cells filled) (unpack chain) u) (unpack rest) reading
 
 abbrev μ-loop : tie.MeasureT-loop
-μ-loop values marks sizes chain u at₀ rest₀ at rest = rest
+μ-loop cells filled sizes chain u reading₀ rest₀ reading rest = length (unpack rest)
+
+-- the loop and the entry, from where the hop is known, and the value that is reached
+abbrev at : tie.After-first-hop Inv-loop μ-loop → tie.At-loop Inv-loop μ-loop
+at c = c .before .before .before .before .before
+
+abbrev start : tie.After-first-hop Inv-loop μ-loop → tie.Start Inv-loop μ-loop
+start c = at c .before .before .before .before
+
+abbrev value : tie.After-first-hop Inv-loop μ-loop → ℤ
+value c = c .before .before .reading .given .0 .0
+
+of-index-requires : tie.Need-of-index-requires Inv-loop μ-loop
+of-index-requires c κs = let s = c .before .before in omega (arith, s .pre .2, s .pre .0 .limits .records≤)
 
 loop-holds : tie.Need-loop-holds Inv-loop μ-loop
-unfolding valueAtRecord
 loop-holds c =
-    let s = c .before .before in
-    record { inside = s .pre .2; same = refl; ok = s .pre .3 }
+    let s = c .before .before .before in
+    (s .pre .3, rw (kept (c .of-index .result) (c .of-index .ok) ∙ c .of-index .ensures) (underway-first _ (s .args .u) (s .pre .2)))
 
-sub-field : tie.Need-sub-field Inv-loop μ-loop
-sub-field c = omega arith
-
-cell-of-requires : tie.Need-cell-of-requires Inv-loop μ-loop
-cell-of-requires c κs =
-    let s = c .before .before .before .before in
-    (s .pre .0, c .before .loop .inv .inside, hop-field (s .pre .1) (c .before .loop .inv) (c .loop-test .taken))
-
-enum-known-value : tie.Need-enum-known-value Inv-loop μ-loop
-enum-known-value c = search needs
+enum-known-reading : tie.Need-enum-known-reading Inv-loop μ-loop
+enum-known-reading c = search needs
 
 enum-told : tie.Need-enum-told Inv-loop μ-loop
 enum-told c = search needs
 
 returns : tie.Need-returns Inv-loop μ-loop
-returns c =
-    let l = c .before .before .before .before in
-    let cell = sym (c .before .before .cell-of .ensures) ∙ c .enum-told .given .1 in
-    hop-missing (l .before .before .before .pre .1) (l .loop .inv) (c .before .before .before .loop-test .taken) cell
+returns c = underway-missing (c .before .before .before .loop .inv .1) (c .enum-told .given .1)
+
+first-hop-requires : tie.Need-first-hop-requires Inv-loop μ-loop
+first-hop-requires c κs = omega arith
+
+-- what is reached is a value and names a record
+names : (c : tie.After-first-hop Inv-loop μ-loop) → refersTo (start c .args .sizes .records) (at c .loop .reading) ≡ true
+names c = at c .loop .inv .1 .refers (first-some (c .first-hop .ensures))
+
+value-is : (c : tie.After-first-hop Inv-loop μ-loop) → toZ w32 (ofZ w32 (value c)) ≡ value c
+value-is c = kept (value c) (c .before .known-told .given .0 .1)
 
 index-requires : tie.Need-index-requires Inv-loop μ-loop
-index-requires c κs =
-    let l = c .before .before .before .before .before in
-    let v = c .before .value .given in
-    let cell = sym (c .before .before .before .cell-of .ensures) ∙ v .1 in
-    rw (kept (v .0 .0) (c .known-told .given .0 .1))
-    (hop-index (l .before .before .before .pre .1) (l .loop .inv) (c .before .before .before .before .loop-test .taken) (v .0 .0) cell)
+index-requires c κs = rw (value-is c) (named-index _ _ (c .before .before .reading .given .1) (names c))
 
-sub-rest : tie.Need-sub-rest Inv-loop μ-loop
-sub-rest c = omega arith
+index-is : (c : tie.After-index Inv-loop μ-loop) → c .index .result ≡ natAbs (value (c .before))
+index-is c = c .index .ensures ∙ ap natAbs (value-is (c .before))
+
+read-cell-requires : tie.Need-read-cell-requires Inv-loop μ-loop
+read-cell-requires c κs =
+    let h = c .before in
+    let below = named-below _ _ (h .before .before .reading .given .1) (names h) in
+    (start h .pre .0, rw (index-is c) below, readable-field _ (h .first-hop .ensures .splits) (at h .loop .inv .0))
+
+rest-hops-requires : tie.Need-rest-hops-requires Inv-loop μ-loop
+rest-hops-requires c κs = search needs
+
+-- a hop is taken
+apart : (c : tie.After-rest-hops Inv-loop μ-loop) → let h = c .before .before .before in
+    unpack (at h .loop .rest) ≡ h .first-hop .result ∷ unpack (c .rest-hops .result)
+apart c = taken-apart (c .before .before .before .first-hop .ensures) (c .rest-hops .ensures)
 
 loop-less : tie.Need-loop-less Inv-loop μ-loop
-loop-less c = omega arith
+loop-less c = omega (arith, ap length (apart c))
 
 loop-again : tie.Need-loop-again Inv-loop μ-loop
 loop-again c =
-    let l = c .before .before .before .before .before .before in
-    let v = c .before .before .value .given in
-    let cell = sym (c .before .before .before .before .cell-of .ensures) ∙ v .1 in
-    hop-on (l .before .before .before .pre .1) (l .loop .inv) (c .before .before .before .before .before .loop-test .taken) (v .0 .0) (c .index .result) cell
-    (c .index .ensures ∙ ap natAbs (kept (v .0 .0) (c .before .known-told .given .0 .1)))
-
-of-index-requires : tie.Need-of-index-requires Inv-loop μ-loop
-of-index-requires c κs = omega (arith, c .before .before .loop .inv .inside, c .before .before .before .before .before .pre .0 .limits .records≤)
-
-sub-cell-of : tie.Need-sub-cell-of Inv-loop μ-loop
-sub-cell-of c = omega arith
-
-cell-of-requires-2 : tie.Need-cell-of-requires-2 Inv-loop μ-loop
-cell-of-requires-2 c κs =
-    let s = c .before .before .before .before .before in
-    (s .pre .0, c .before .before .loop .inv .inside, end-field (s .pre .1) (c .before .before .loop .inv) (omega arith) (omega arith))
+    let h = c .before .before .before in
+    let inv = at h .loop .inv in
+    let hopped = c .before .read-cell .ensures ∙ hop-value _ _ _ (h .before .before .reading .given .1) (index-is (c .before .before)) in
+    (readable-rest _ (apart c) (inv .0), underway-next (inv .1) (start h .pre .1) (apart c) (inv .0) hopped)
 
 returns-2 : tie.Need-returns-2 Inv-loop μ-loop
-returns-2 c =
-    let l = c .before .before .before in
-    ap Value (kept (c .of-index .result) (c .of-index .ok) ∙ c .of-index .ensures) ∙ end-own (l .before .before .before .pre .1) (l .loop .inv) (c .before .if1 .taken)
-
-returns-3 : tie.Need-returns-3 Inv-loop μ-loop
-returns-3 c =
-    c .cell-of2 .ensures ∙ end-cell (c .before .before .before .before .before .before .pre .1) (c .before .before .before .loop .inv) (omega arith) (omega arith)
+returns-2 c = underway-last (c .before .loop .inv .1) (ap unpack (c .loop-test .left) ∙ unpack-none)
 
 pub follow-spec : {M : Type 1} → statement M
 follow-spec =
@@ -92,18 +100,15 @@ follow-spec =
     (tie.spec
     Inv-loop
     μ-loop
+    of-index-requires
     loop-holds
-    sub-field
-    cell-of-requires
-    enum-known-value
+    enum-known-reading
     enum-told
     returns
+    first-hop-requires
     index-requires
-    sub-rest
+    read-cell-requires
+    rest-hops-requires
     loop-less
     loop-again
-    of-index-requires
-    sub-cell-of
-    cell-of-requires-2
-    returns-2
-    returns-3)
+    returns-2)

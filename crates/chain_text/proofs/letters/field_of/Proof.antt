@@ -2,7 +2,7 @@
 -- Assumes nothing.
 use borrow.Author.Tests.{lt-ltb, le-ltb}
 use borrow.Author.Needs.{needs}
-use Rattle.chain_text.specs.Text.{fieldOf}
+use Rattle.chain_text.specs.Text.{letterField}
 use Rattle.chain_text.proofs.letters.field_of.Statement.{statement}
 use Rattle.chain_text.proofs.letters.field_of.Tie as tie
 
@@ -19,11 +19,11 @@ cast-result-2 : tie.Need-cast-result-2
 cast-result-2 c = search needs
 
 returns : tie.Need-returns
-unfolding fieldOf
+unfolding letterField
 returns c = simp (lt-ltb _ _ (c .if1 .taken))
 
 returns-2 : tie.Need-returns-2
-unfolding fieldOf
+unfolding letterField
 returns-2 c = simp (le-ltb _ _ (c .if1 .left))
 
 pub field-of-spec : {M : Type 1} → statement M

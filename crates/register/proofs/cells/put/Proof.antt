@@ -30,17 +30,17 @@ mul-put-value c = search needs
 put-value-requires : tie.Need-put-value-requires
 put-value-requires c κs = search needs
 
-sub-marks : tie.Need-sub-marks
-sub-marks c = search needs
+sub-filled : tie.Need-sub-filled
+sub-filled c = search needs
 
-part-marks-start : tie.Need-part-marks-start
-part-marks-start c = search needs
+part-filled-start : tie.Need-part-filled-start
+part-filled-start c = search needs
 
-part-marks-end : tie.Need-part-marks-end
-part-marks-end c = search needs
+part-filled-end : tie.Need-part-filled-end
+part-filled-end c = search needs
 
-slice-write-marks : tie.Need-slice-write-marks
-slice-write-marks c = search needs
+slice-write-filled : tie.Need-slice-write-filled
+slice-write-filled c = search needs
 
 same-length : tie.Need-same-length
 same-length c = search needs
@@ -63,9 +63,9 @@ put-spec =
     part-put-value-end
     mul-put-value
     put-value-requires
-    sub-marks
-    part-marks-start
-    part-marks-end
-    slice-write-marks
+    sub-filled
+    part-filled-start
+    part-filled-end
+    slice-write-filled
     same-length
     returns)

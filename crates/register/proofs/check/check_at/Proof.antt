@@ -43,10 +43,10 @@ returns c =
     let i = c .before .before .before in
     let v = c .before .before .value-at in
     let a = i .before .before .before .args in
-    let of : Bool → ℤ → ℕ → ℕ = λ t z j. cellRefusal (a .sizes .records) t z (getD (now (a .marks)) j 0) in
+    let of : Bool → ℤ → ℕ → ℕ = λ t z j. cellRefusal (a .sizes .records) t z (getD (now (a .filled)) j 0) in
     c .check-cell .ensures
     ∙ ap (λ (z : ℤ). of (a .reference) z (i .cell-index .result)) (kept (v .result) (v .ok) ∙ v .ensures)
-    ∙ ap₂ (λ (t : Bool) (j : ℕ). of t (valueAt (now (a .values)) (4 * j)) j) (sym (i .before .before .before .pre .3)) (i .cell-index .ensures)
+    ∙ ap₂ (λ (t : Bool) (j : ℕ). of t (valueAt (now (a .cells)) (4 * j)) j) (sym (i .before .before .before .pre .3)) (i .cell-index .ensures)
 
 pub check-at-spec : {M : Type 1} → statement M
 check-at-spec =

@@ -5,17 +5,17 @@ use mathlib.Core.Path.{_≡_}
 use native.Mathlib.Omega.{arith}
 use borrow.Author.Needs.{needs}
 use Rattle.register.specs.Load.{cellsRefusal, recordRefusal, checkNumber}
-use Rattle.register.specs.Outcome.{first}
-use Rattle.register.proofs.First.{first-none, first-end}
+use Rattle.laws.specs.Outcome.{first}
+use Rattle.laws.proofs.First.{first-none, first-end}
 use Rattle.register.proofs.Refusals.{goes-on, stops}
 use Rattle.register.proofs.check.check_cells.Statement.{statement}
 use Rattle.register.proofs.check.check_cells.Tie as tie
 
 abbrev Inv-loop : tie.InvT-loop
-Inv-loop values marks sizes records u₀ u = (u ≤ records) × (first u (recordRefusal sizes values marks) ≡ 0)
+Inv-loop cells filled sizes records u₀ u = (u ≤ records) × (first u (recordRefusal sizes cells filled) ≡ 0)
 
 abbrev μ-loop : tie.MeasureT-loop
-μ-loop values marks sizes records u₀ u = records - u
+μ-loop cells filled sizes records u₀ u = records - u
 
 loop-holds : tie.Need-loop-holds Inv-loop μ-loop
 loop-holds c = (omega arith, first-none _)

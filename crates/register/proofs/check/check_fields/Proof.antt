@@ -4,18 +4,18 @@ use Prim.Native.Nat.{_≤_, _-_}
 use mathlib.Core.Path.{_≡_}
 use native.Mathlib.Omega.{arith}
 use borrow.Author.Needs.{needs}
-use Rattle.register.specs.Outcome.{first}
+use Rattle.laws.specs.Outcome.{first}
 use Rattle.register.specs.Load.{refusalAt, checkNumber}
-use Rattle.register.proofs.First.{first-end}
+use Rattle.laws.proofs.First.{first-end}
 use Rattle.register.proofs.Refusals.{goes-on, stops}
 use Rattle.register.proofs.check.check_fields.Statement.{statement}
 use Rattle.register.proofs.check.check_fields.Tie as tie
 
 abbrev Inv-loop : tie.InvT-loop
-Inv-loop values marks sizes u from to reference f₀ f = (from ≤ f) × (f ≤ to) × (first f (refusalAt sizes values marks u) ≡ 0)
+Inv-loop cells filled sizes u from to reference f₀ f = (from ≤ f) × (f ≤ to) × (first f (refusalAt sizes cells filled u) ≡ 0)
 
 abbrev μ-loop : tie.MeasureT-loop
-μ-loop values marks sizes u from to reference f₀ f = to - f
+μ-loop cells filled sizes u from to reference f₀ f = to - f
 
 loop-holds : tie.Need-loop-holds Inv-loop μ-loop
 loop-holds c = let p = c .before .before .pre in (omega arith, p .start, p .before)

@@ -6,7 +6,7 @@ use borrow.Author.Tests.{lt-ltb, le-ltb}
 use borrow.Author.Needs.{needs}
 use Rattle.register.specs.File.{width}
 use Rattle.register.specs.Load.{recordRefusal, checkNumber}
-use Rattle.register.proofs.First.{first-none, first-stays}
+use Rattle.laws.proofs.First.{first-none, first-stays}
 use Rattle.register.proofs.Refusals.{number-positive}
 use Rattle.register.proofs.check.check_record.Statement.{statement}
 use Rattle.register.proofs.check.check_record.Tie as tie

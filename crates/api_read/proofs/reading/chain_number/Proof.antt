@@ -1,0 +1,40 @@
+-- `api_read::reading::chain_number` meets its contract.
+-- Assumes nothing.
+use mathlib.Core.Path.{sym, ap}
+use borrow.Author.Needs.{needs}
+use Rattle.op_read.specs.Reading.{refusalNumber}
+use Rattle.api_read.proofs.reading.chain_number.Statement.{statement}
+use Rattle.api_read.proofs.reading.chain_number.Tie as tie
+
+enum-told : tie.Need-enum-told
+enum-told c = search needs
+
+enum-told-2 : tie.Need-enum-told-2
+enum-told-2 c = search needs
+
+enum-told-3 : tie.Need-enum-told-3
+enum-told-3 c = search needs
+
+enum-told-4 : tie.Need-enum-told-4
+enum-told-4 c = search needs
+
+returns : tie.Need-returns
+unfolding refusalNumber
+returns c = sym (ap refusalNumber (c .enum-told .given .1))
+
+returns-2 : tie.Need-returns-2
+unfolding refusalNumber
+returns-2 c = sym (ap refusalNumber (c .enum-told2 .given .1))
+
+returns-3 : tie.Need-returns-3
+unfolding refusalNumber
+returns-3 c = sym (ap refusalNumber (c .enum-told3 .given .1))
+
+returns-4 : tie.Need-returns-4
+unfolding refusalNumber
+returns-4 c = sym (ap refusalNumber (c .enum-told4 .given .1))
+
+pub chain-number-spec : {M : Type 1} → statement M
+chain-number-spec =
+    tie.close
+    (tie.spec enum-told enum-told-2 enum-told-3 enum-told-4 returns returns-2 returns-3 returns-4)

@@ -1,2 +1,0 @@
--- The readings of a rule at one record, over cells and scratch places.
-pub mod Located

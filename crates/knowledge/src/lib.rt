@@ -1,1 +1,0 @@
-// What records come to know, and when: facts, rounds and plans. Definitions and theorems alone; `plan` has the code.

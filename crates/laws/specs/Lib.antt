@@ -1,0 +1,3 @@
+-- Definitions that several rooms cite.
+pub mod Outcome
+pub mod Lists

@@ -1,0 +1,2 @@
+-- What the plan of a step answers.
+pub mod StepPlan

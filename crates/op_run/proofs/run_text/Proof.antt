@@ -1,0 +1,198 @@
+-- `op_run::run_text` meets its contract: the check, the lengths of the buffers, then the run over a copy of the register.
+-- Assumes nothing.
+use Prim.Native.Nat.{ℕ, _≤_}
+use mathlib.Core.Path.{_≡_, sym, ap, ap₂, _∙_}
+use mathlib.Core.Bool.{false}
+use native.Mathlib.Omega.{arith}
+use borrow.Author.Needs.{needs}
+use denote.Ref.{now}
+use lib.ListN.{length}
+use Rattle.laws.specs.Outcome.{Outcome, done, refused}
+use Rattle.register.specs.File.{sizesOf, cellsOfFile}
+use Rattle.register.specs.declared.Sizes.{Sizes}
+use Rattle.register.proofs.Bounds.{limits}
+use Rattle.program.specs.Program.{mostLines}
+use Rattle.text_rules.specs.Text.{check}
+use Rattle.program.specs.Kept.{programOf, Complete}
+use Rattle.program.specs.declared.Program as R
+use Rattle.op_check.proofs.Checks.{answered-refused, answered-program}
+use Rattle.op_check.proofs.Passed.{loaded, passed, few-lines}
+use Rattle.op_check.proofs.Room.{room}
+use Rattle.machine.specs.Run.{Run, direct, run, scratch, isShort}
+use Rattle.run_steps.specs.declared.RunAnswer.{RunAnswer}
+use Rattle.op_run.specs.Direct.{directRun}
+use Rattle.op_run.specs.Answer.{lengths, refusedWith, Answered}
+use Rattle.op_run.proofs.Answering.{refused-answered, run-answered, run-refused, run-18, run-19, run-done, register, complete-answered, refusal-answered}
+use Rattle.op_run.proofs.run_text.Statement.{statement}
+use Rattle.op_run.proofs.run_text.Tie as tie
+
+-- a refusal
+module _ (e : tie.Start) where
+  abbrev outcome : Outcome Run
+  outcome = let a = e .args in directRun (now (a .file)) (now (a .text)) (a .budget) (lengths (now (a .out)) (now (a .values)) (now (a .marks)))
+
+  turned-back : {n k : ℕ} {r : RunAnswer} → outcome ≡ refused n k → r ≡ refusedWith n k
+      → let a = e .args in Answered (a .machine) outcome (now (a .file)) (now (a .out)) (now (a .values)) (now (a .marks)) (now (a .out)) (now (a .values)) (now (a .marks)) r
+  turned-back = let a = e .args in refused-answered (a .machine) (now (a .file)) (now (a .out)) (now (a .values)) (now (a .marks))
+
+-- the text passed
+module _ (c : tie.Else1) where
+  abbrev entry : tie.Start
+  entry = c .before .before .before .before .before .before .before
+
+  abbrev kept : R.Program
+  kept = c .before .before .check .result .program
+
+  checked : check (now (entry .args .file)) (now (entry .args .text)) ≡ done (programOf kept)
+  checked = answered-program (c .before .before .check .ensures) (c .if1 .left)
+
+  complete : Complete kept
+  complete = c .before .before .check .ensures .complete (c .if1 .left)
+
+  line-limit : kept .lines ≤ 64
+  line-limit = omega (arith, complete .lines-are, few-lines _ _ checked)
+
+-- whether a buffer is too short
+module _ (c : tie.After-is-short) where
+  abbrev sized : tie.After-sizes-of
+  sized = c .before .before
+
+  abbrev first : tie.Else1
+  first = sized .before .before
+
+  short-is : let a = entry first .args in
+      c .is-short .result ≡ isShort (scratch (sizesOf (now (a .file))) (mostLines (programOf (kept first)))) (length (now (a .values))) (length (now (a .marks)))
+  short-is =
+      let a = entry first .args in
+      c .is-short .ensures
+      ∙ ap₂ (λ (s : Sizes) (n : ℕ). isShort (scratch s n) (length (now (a .values))) (length (now (a .marks))))
+      (sized .sizes-of .ensures) (complete first .lines-are)
+
+-- none is, and the register is copied
+module _ (c : tie.After-copy) where
+  abbrev asked : tie.After-is-short
+  asked = c .before .before .before
+
+  long-enough : let a = entry (first asked) .args in
+      isShort (scratch (sizesOf (now (a .file))) (mostLines (programOf (kept (first asked))))) (length (now (a .values))) (length (now (a .marks))) ≡ false
+  long-enough = sym (short-is asked) ∙ c .before .before .if3 .left
+
+  ran : let a = entry (first asked) .args in let s = sizesOf (now (a .file)) in
+      outcome (entry (first asked)) ≡ done (run s (direct s) (programOf (kept (first asked))) (a .budget) (cellsOfFile s (now (a .file))))
+  ran = run-done _ _ _ _ (checked (first asked)) (sized asked .before .if2 .left) long-enough
+
+check-requires : tie.Need-check-requires
+check-requires c κs = search needs
+
+refused-requires : tie.Need-refused-requires
+refused-requires c κs = search needs
+
+returns : tie.Need-returns
+returns c =
+    let x = c .before .before .before in
+    turned-back (x .before .before .before .before .before) (run-refused _ _ _ _ (answered-refused (x .check .ensures) (c .before .if1 .taken))) (c .refused .ensures)
+
+refused-requires-2 : tie.Need-refused-requires-2
+refused-requires-2 c κs = search needs
+
+returns-2 : tie.Need-returns-2
+returns-2 c =
+    let x = c .before .before in
+    turned-back (entry x) (run-18 _ _ _ _ (checked x) (c .before .if2 .taken)) (c .refused2 .ensures)
+
+sizes-of-requires : tie.Need-sizes-of-requires
+sizes-of-requires c κs = loaded _ _ (checked (c .before)) .long
+
+is-short-requires : tie.Need-is-short-requires
+is-short-requires c κs =
+    let x = c .before .before .before in
+    (rw (c .before .sizes-of .ensures) (limits _ (loaded _ _ (checked x) .within)), line-limit x)
+
+refused-requires-3 : tie.Need-refused-requires-3
+refused-requires-3 c κs = search needs
+
+returns-3 : tie.Need-returns-3
+returns-3 c =
+    let p = c .before .before in
+    let x = first p in
+    turned-back (entry x) (run-19 _ _ _ _ (checked x) (sized p .before .if2 .left) (sym (short-is p) ∙ c .before .if3 .taken)) (c .refused3 .ensures)
+
+copy-requires : tie.Need-copy-requires
+copy-requires c κs = search needs
+
+run-program-requires : tie.Need-run-program-requires
+run-program-requires c κs =
+    let p = c .before .before .before .before .before in
+    let x = first (asked p) in
+    let a = entry x .args in
+    let enough = room _ _ _ (long-enough p) in
+    rw (p .before .before .before .before .before .sizes-of .ensures, p .copy .ensures) (
+      register (now (a .file)) (now (a .text)) (checked x) (λ i. let f = x .before .before .before .before .before .before .shared-slice-known .given i in f .fits),
+      record { lines≤ = line-limit x; values-room = rw (complete x .lines-are) (enough .0); marks-room = rw (complete x .lines-are) (enough .1) },
+      complete x,
+      passed (now (a .file)) (now (a .text)) (checked x),
+    )
+
+copy-requires-2 : tie.Need-copy-requires-2
+copy-requires-2 c κs = let g = c .before .before .before .before .before .before .before .before in sym (g .run-program .kept .0 ∙ ap length (g .before .before .before .before .before .before .copy .ensures))
+
+same-length : tie.Need-same-length
+same-length c = search needs
+
+same-length-2 : tie.Need-same-length-2
+same-length-2 c = search needs
+
+same-length-3 : tie.Need-same-length-3
+same-length-3 c = search needs
+
+returns-4 : tie.Need-returns-4
+returns-4 c =
+    let g = c .before .before .before .before .before .before .before .before .before .before .before in
+    let p = g .before .before .before .before .before .before in
+    let a = entry (first (asked p)) .args in
+    let e = rw (p .before .before .before .before .before .sizes-of .ensures, p .copy .ensures) at (g .run-program .ensures) in
+    run-answered (a .machine) (now (a .file)) (now (a .out)) (now (a .values)) (now (a .marks)) (ran p)
+    (rw (c .before .before .copy2 .ensures) (refusal-answered e (g .run-program .kept .1 .0) (g .run-program .kept .1 .1 .0) (c .before .before .before .before .if4 .taken)))
+
+same-length-4 : tie.Need-same-length-4
+same-length-4 c = search needs
+
+same-length-5 : tie.Need-same-length-5
+same-length-5 c = search needs
+
+same-length-6 : tie.Need-same-length-6
+same-length-6 c = search needs
+
+returns-5 : tie.Need-returns-5
+returns-5 c =
+    let g = c .before .before .before .before .before .before .before in
+    let p = g .before .before .before .before .before .before in
+    let a = entry (first (asked p)) .args in
+    let e = rw (p .before .before .before .before .before .sizes-of .ensures, p .copy .ensures) at (g .run-program .ensures) in
+    run-answered (a .machine) (now (a .file)) (now (a .out)) (now (a .values)) (now (a .marks)) (ran p)
+    (complete-answered e (g .run-program .kept .1 .0) (g .run-program .kept .1 .1 .0) (c .if4 .left))
+
+pub run-text-spec : {M : Type 1} → statement M
+run-text-spec =
+    tie.close
+    (tie.spec
+    check-requires
+    refused-requires
+    returns
+    refused-requires-2
+    returns-2
+    sizes-of-requires
+    is-short-requires
+    refused-requires-3
+    returns-3
+    copy-requires
+    run-program-requires
+    copy-requires-2
+    same-length
+    same-length-2
+    same-length-3
+    returns-4
+    same-length-4
+    same-length-5
+    same-length-6
+    returns-5)

@@ -1,0 +1,85 @@
+-- (P) The texts of the printed run and of the "Edges", each with the program that it describes: A is field 0, M field 8.
+use Prim.Native.Nat.{ℕ}
+use Prim.Native.String.{String}
+use mathlib.Core.Path.{_≡_, refl}
+use mathlib.Core.List.{List, [], _∷_}
+use lib.IntN.{pos, negsuc}
+use Rattle.laws.specs.Lists.{every}
+use Rattle.integers.specs.Range.{inRange}
+use Rattle.laws.specs.Outcome.{Outcome, done, unless, after}
+use Rattle.chain_text.specs.Text as C
+use Rattle.chain_text.specs.Scan.{startsWith}
+use Rattle.plan_theory.specs.Plan.{plan, addReadings, add, withTree as planLines, listed, lineIndex, sameFact, sameWord, tree, treeWithin, half, doubled, front, rest}
+use Rattle.text_forms.specs.Bytes.{bytes}
+use Rattle.text_forms.specs.Numeral.{isDigit, digits, decimal, isNumeral, signedForm, numberForm, numberValue, signedValue}
+use Rattle.text_forms.specs.Token.{capital, then, word, or, finished}
+use Rattle.text_forms.specs.Term.{ofNumber, ofChain, termForm}
+use Rattle.text_forms.specs.Line.{assigned, localForm, sentForms, remoteForm, actionForm, ruleLine, compared, testedForm, lineForm}
+use Rattle.text_forms.specs.Parts.{numbersInRange, termInRange, short, termShort, kinded, kindsAgree, actionKinds, areMeasures, conditionKinds, sameKind, isReferenceTerm, termKinded, named, fieldNamed, termNamed, target, everyTerm, terms, actionTerms, conditionTerms}
+use Rattle.text_rules.specs.Check.{lineRefusal, planFits, sortsAgree, oneSort, hasRoom, inPlace, openRules, isOpen, isUsed, isOutside}
+use Rattle.program.specs.declared.rule.Operator.the-variants.{Plus}
+use Rattle.program.specs.declared.rule.Sort.the-variants.{Total}
+use Rattle.program.specs.Program.{Expression, reading, constant, operation, always, Target, own, remote, Rule, Step, Program, expressionReadings, testReadings, targetReadings, ruleReadings, readings, stepPlan, isLeast, isTotal, someTarget}
+use Rattle.text_rules.specs.Text.{textProgram, readFrom, start, closedText, lineOutcome, advance, settingIn, withStep, writtenRule as programRule, writtenTarget, writtenExpression, writtenTest, writtenTerm, pieceForm, lines, onto}
+use Rattle.program.specs.declared.setting.Setting.the-variants.{Single}
+
+-- the program of a text over a register of n records with the fields A and M
+unfoldable pub exampleProgram : ℕ → String → Outcome Program
+unfolding textProgram readFrom start closedText lineOutcome advance settingIn withStep programRule writtenTarget writtenExpression writtenTest writtenTerm pieceForm lines onto after unless lineRefusal planFits sortsAgree oneSort someTarget isTotal isLeast hasRoom inPlace openRules isOpen isUsed isOutside numbersInRange termInRange short termShort kinded kindsAgree actionKinds areMeasures conditionKinds sameKind isReferenceTerm termKinded named fieldNamed termNamed target everyTerm terms actionTerms conditionTerms lineForm testedForm compared ruleLine actionForm remoteForm sentForms localForm assigned termForm ofChain ofNumber capital then word or finished isDigit digits decimal isNumeral signedForm numberForm numberValue signedValue inRange startsWith C.isCapital C.closed C.form C.letterField C.isReferenceLetter C.names every C.innerReferences C.wordOf stepPlan readings ruleReadings targetReadings testReadings expressionReadings plan addReadings add planLines listed lineIndex sameFact sameWord tree treeWithin half doubled front rest
+exampleProgram n t = textProgram (record { records = n; references = 1; measures = 1 }) (bytes t)
+
+-- a rule without a test, and a step outside loops
+abbrev pub untested : Target → Expression → Rule
+untested t x = record { test = always; target = t; expression = x }
+
+abbrev pub stepOf : List Rule → Step
+stepOf rs = record { rules = rs; setting = Single }
+
+-- "Text: `step`, `M[u] := M[A[A[u]]]`, `end`."
+abbrev pub printedStep : Step
+printedStep = stepOf (untested (own 8) (reading (0 ∷ 0 ∷ 8 ∷ [])) ∷ [])
+
+pub printed-text : (n : ℕ) → exampleProgram n "step\nM[u] := M[A[A[u]]]\nend\n" ≡ done (printedStep ∷ [])
+unfolding exampleProgram
+printed-text n = refl
+
+-- "`A[u] := u`"
+abbrev pub ownStep : Step
+ownStep = stepOf (untested (own 0) (reading []) ∷ [])
+
+pub own-text : (n : ℕ) → exampleProgram n "step\nA[u] := u\nend\n" ≡ done (ownStep ∷ [])
+unfolding exampleProgram
+own-text n = refl
+
+-- "2147483647 + 1"
+abbrev pub aboveStep : Step
+aboveStep = stepOf (untested (own 8) (operation Plus (constant (pos 2147483647)) (constant (pos 1))) ∷ [])
+
+pub above-text : (n : ℕ) → exampleProgram n "step\nM[u] := 2147483647 + 1\nend\n" ≡ done (aboveStep ∷ [])
+unfolding exampleProgram
+above-text n = refl
+
+-- "2147483647 + 0"
+abbrev pub mostStep : Step
+mostStep = stepOf (untested (own 8) (operation Plus (constant (pos 2147483647)) (constant (pos 0))) ∷ [])
+
+pub most-text : (n : ℕ) → exampleProgram n "step\nM[u] := 2147483647 + 0\nend\n" ≡ done (mostStep ∷ [])
+unfolding exampleProgram
+most-text n = refl
+
+-- "two remote amounts 1 and −1", each record's to itself
+abbrev pub amountsStep : Step
+amountsStep = stepOf (untested (remote Total 8 []) (constant (pos 1)) ∷ untested (remote Total 8 []) (constant (negsuc 0)) ∷ [])
+
+pub amounts-text : (n : ℕ) → exampleProgram n "step\nremote M[u] += 1\nremote M[u] += -1\nend\n" ≡ done (amountsStep ∷ [])
+unfolding exampleProgram
+amounts-text n = refl
+
+-- "Empty text", and "one step"
+pub empty-text : (n : ℕ) → exampleProgram n "" ≡ done []
+unfolding exampleProgram
+empty-text n = refl
+
+pub one-step-text : (n : ℕ) → exampleProgram n "step\nend\n" ≡ done (stepOf [] ∷ [])
+unfolding exampleProgram
+one-step-text n = refl

@@ -1,0 +1,95 @@
+-- (P) The printed run's values, and the runs of the "Edges": each as the cells at the end, the finished steps with the cells before
+-- each, and the ending.
+use Prim.Native.Nat.{ℕ}
+use mathlib.Core.Path.{_≡_, refl}
+use mathlib.Core.List.{List, [], _∷_}
+use lib.IntN.{pos}
+use Rattle.integers.specs.Range.{inRange}
+use Rattle.register.specs.File.{width, cellIndex}
+use Rattle.register.specs.declared.Sizes.{Sizes}
+use Rattle.register.specs.declared.cells.Cell.{Cell}
+use Rattle.register.specs.declared.cells.Cell.the-variants.{Missing, Value}
+use Rattle.chain.specs.Word.{isReference, column, readOf, readCell, hop, follow, valueAtRecord}
+use Rattle.program.specs.Program.{Step, Program, targetField}
+use Rattle.machine.specs.Value.{both, operate, combined, value, readingInRange, cellInRange, overflows, holds}
+use Rattle.machine.specs.Local.{storedCell, storedTo, stored, store, localRule, localRules, localRecords, offends, sumOffends}
+use Rattle.machine.specs.Remote.{sentTo, sentBy, ruleMessages, messages, recordMessages, increased, merged, deliver, deliverAll}
+use Rattle.machine.specs.Step.{stepCells, offendsAt, someBelow, stops}
+use Rattle.machine.specs.Run.{Run, complete, exhausted, offended, direct, entered, following, behind, stepFirst, runFrom, run}
+use Rattle.paper_examples.specs.Printed.{printedSizes, printedCells}
+use Rattle.paper_examples.specs.Programs.{printedStep, ownStep, aboveStep, mostStep, amountsStep}
+
+-- the run of the direct machine: a program with a budget over the cells of a register
+unfoldable pub exampleRun : Sizes → Program → ℕ → List Cell → Run
+unfolding inRange width cellIndex isReference column readOf readCell hop follow valueAtRecord both operate combined value readingInRange cellInRange overflows holds storedCell storedTo stored targetField store localRule localRules localRecords offends sumOffends sentTo sentBy ruleMessages messages recordMessages increased merged deliver deliverAll stepCells offendsAt someBelow stops direct entered following behind stepFirst runFrom run
+exampleRun s program budget cells = run s (direct s) program budget cells
+
+-- over the printed register, "allowance 1,000"
+unfoldable pub exampleMessages : Program → Run
+unfolding exampleRun printedSizes printedCells
+exampleMessages program = exampleRun printedSizes program 1000 printedCells
+
+-- the most that a cell holds
+abbrev pub most : Cell
+most = Value (pos 2147483647)
+
+-- "1 steps"; "0 1 180", "1 2 -", "2 - -"
+abbrev pub printedResult : Run
+printedResult = record {
+  cells = Value (pos 1) ∷ Value (pos 180) ∷ Value (pos 2) ∷ Missing ∷ Missing ∷ Missing ∷ [];
+  trace = (printedStep, printedCells) ∷ [];
+  ending = complete;
+}
+
+pub printed-values : exampleMessages (printedStep ∷ []) ≡ printedResult
+unfolding exampleMessages
+printed-values = refl
+
+-- "`A[u] := u` gives filled A everywhere"
+pub own-filled : exampleMessages (ownStep ∷ [])
+    ≡ record {
+      cells = Value (pos 0) ∷ Missing ∷ Value (pos 1) ∷ Value (pos 0) ∷ Value (pos 2) ∷ Value (pos 180) ∷ [];
+      trace = (ownStep, printedCells) ∷ [];
+      ending = complete;
+    }
+unfolding exampleMessages
+own-filled = refl
+
+-- "2147483647 + 1 stops"
+pub above-stops : exampleMessages (aboveStep ∷ [])
+    ≡ record { cells = printedCells; trace = []; ending = offended (aboveStep .rules) printedCells }
+unfolding exampleMessages
+above-stops = refl
+
+-- "2147483647 + 0 does not"
+pub most-stands : exampleMessages (mostStep ∷ [])
+    ≡ record {
+      cells = Value (pos 1) ∷ most ∷ Value (pos 2) ∷ most ∷ Missing ∷ most ∷ [];
+      trace = (mostStep, printedCells) ∷ [];
+      ending = complete;
+    }
+unfolding exampleMessages
+most-stands = refl
+
+-- one record: A refers to itself, M is 2147483647
+abbrev pub singleSizes : Sizes
+singleSizes = record { records = 1; references = 1; measures = 1 }
+
+abbrev pub singleCells : List Cell
+singleCells = Value (pos 0) ∷ most ∷ []
+
+-- "M at 2147483647 with two remote amounts 1 and −1 stands"
+pub amounts-stand : exampleRun singleSizes (amountsStep ∷ []) 1000 singleCells
+    ≡ record { cells = singleCells; trace = (amountsStep, singleCells) ∷ []; ending = complete }
+unfolding exampleRun
+amounts-stand = refl
+
+-- "Empty text, allowance 0: finished 0; one step, allowance 0: refusal 20", over any register
+pub empty-complete : (s : Sizes) (cells : List Cell) → exampleRun s [] 0 cells ≡ record { cells = cells; trace = []; ending = complete }
+unfolding exampleRun
+empty-complete s cells = refl
+
+pub one-step-exhausted : (s : Sizes) (cells : List Cell) (x : Step)
+    → exampleRun s (x ∷ []) 0 cells ≡ record { cells = cells; trace = []; ending = exhausted }
+unfolding exampleRun
+one-step-exhausted s cells x = refl

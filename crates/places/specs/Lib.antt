@@ -1,2 +1,0 @@
--- Cells in the places of the scratch buffers.
-pub mod Places

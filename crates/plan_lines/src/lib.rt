@@ -1,0 +1,88 @@
+// The plan of a step's readings: its lines, their rounds, and which lines their needs are. `plan_builder` adds a reading to one.
+ghost use mathlib.Core.Path.{_≡_};
+ghost use mathlib.Core.List.{[]};
+ghost use Prim.Native.Nat.{_≤_};
+ghost use lib.ListN.{length};
+ghost use Rattle.chain.specs.Word.{unpack};
+ghost use Rattle.plan_theory.specs.Plan.{read};
+ghost use Rattle.plan_lines.specs.Held.{factsIn, settled, found, Keyed, LastOf, HoldsLines};
+
+pub mod lines;
+
+use plan_keys::key;
+
+// At most 64 lines. Line i, from 0, has its key, its round, and the lines of its two needs, 64 where it needs none.
+pub struct Plan {
+    pub keys: [u64; 64],
+    pub rounds: [u8; 64],
+    pub backs: [u8; 64],
+    pub reads: [u8; 64],
+    pub count: usize,
+}
+
+// One line of a plan.
+pub struct Line {
+    pub key: u64,
+    pub round: u8,
+    pub back: u8,
+    pub read: u8,
+}
+
+// A plan with lines added, or that a 65th line would be needed.
+pub struct Added {
+    pub plan: Plan,
+    pub full: bool,
+}
+
+// The index of a line, if there is one.
+pub enum Found {
+    At(usize),
+    Nothing,
+}
+
+impl Plan {
+    pub fn empty() -> Plan
+        ensures { λ r. ⌜ HoldsLines r [] ⌝ }
+    {
+        Plan {
+            keys: [0; 64],
+            rounds: [0; 64],
+            backs: [0; 64],
+            reads: [0; 64],
+            count: 0,
+        }
+    }
+}
+
+// The last round of a plan of these rounds, 0 where there is no line.
+pub fn last_round(rounds: &[u8; 64], count: usize) -> u8
+    requires { ⌜ (length (now rounds) ≡ 64) × (count ≤ 64) ⌝ }
+    ensures { λ r. ⌜ LastOf (now (rounds .entry)) count r ⌝ }
+{
+    let mut latest = 0;
+    for i in 0..count {
+        latest = lines::later(latest, rounds[i]);
+    }
+    latest
+}
+
+// Whether a reading adds no line to a plan of these keys. Unlike `add`, it copies no plan.
+pub fn is_planned(keys: &[u64; 64], count: usize, chain: u64) -> bool
+    requires { ⌜ Keyed (now keys) count × (length (unpack chain) ≤ 16) ⌝ }
+    ensures { λ r. ⌜ r ≡ settled (factsIn (now (keys .entry)) count) (read (unpack chain)) ⌝ }
+{
+    lines::is_settled(keys, count, key::read(chain))
+}
+
+// The line of a reading in a plan of these keys.
+pub fn find_read(keys: &[u64; 64], count: usize, chain: u64) -> Found
+    requires { ⌜ Keyed (now keys) count × (length (unpack chain) ≤ 16) ⌝ }
+    ensures { λ r. ⌜ r ≡ found (factsIn (now (keys .entry)) count) (read (unpack chain)) ⌝ }
+{
+    let at = lines::find(keys, count, key::read(chain));
+    if at < count {
+        Found::At(at)
+    } else {
+        Found::Nothing
+    }
+}

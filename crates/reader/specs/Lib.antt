@@ -1,2 +1,0 @@
--- What the text reader's arrays hold, and its answer.
-pub mod Kept

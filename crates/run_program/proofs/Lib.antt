@@ -1,7 +1,0 @@
--- Laws for the proofs of the functions.
-pub mod Arrays
-pub mod Locating
-pub mod Counting
-pub mod Bounds
-pub mod Standing
-pub mod Turn

@@ -1,0 +1,173 @@
+-- Every record can run a located rule where the lines hold what is read: it finds each reading at its location, and a remote
+-- write goes to a record.
+use Prim.Native.Nat.{ℕ, _+_, _*_, _≤_, _<_}
+use mathlib.Core.Path.{_≡_, refl, sym, ap, subst, _∙_}
+use mathlib.Core.Bool.{Bool, true, false}
+use mathlib.Core.List.{List, [], _∷_, _++_, map, List·Memᴰ, List·Memᴰ·head, List·Memᴰ·tail, Memᴰ·append-left, Memᴰ·append-right}
+use native.Mathlib.Nat.{mul-le-mul-right}
+use native.Mathlib.Omega.{arith}
+use lib.IntN.{ℤ, pos}
+use lib.ListN.{length, getD, take}
+use lib.Seq.{getD-take, length-take-le}
+use mir.Syntax.{w32}
+use mir.Val.{SFits}
+use Rattle.laws.specs.Lists.{Each}
+use Rattle.laws.proofs.Lists.{each-of, each-all, mem-map}
+use Rattle.register.specs.Shape.{Valid}
+use Rattle.register.specs.declared.Sizes.{Sizes}
+use Rattle.register.specs.declared.cells.Cell.{Cell}
+use Rattle.chain.specs.Word.{Passes, readable, unpack, hop, follow, valueAtRecord}
+use Rattle.plan_theory.specs.Plan.{Fact, read, lineIndex, line}
+use Rattle.plan_theory.proofs.Kept.{plan-promise}
+use Rattle.plan_theory.proofs.Places.{place-line}
+use Rattle.program.specs.declared.term.Term.{Term}
+use Rattle.program.specs.declared.term.Term.the-variants.{Chain, Number}
+use Rattle.program.specs.declared.rule.Test.{Test}
+use Rattle.program.specs.declared.rule.Test.the-variants.{Always, When}
+use Rattle.program.specs.declared.rule.Rule.{Rule}
+use Rattle.program.specs.declared.rule.Rule.the-variants.{Set, Combine, Remote}
+use Rattle.program.specs.declared.location.Location.{Location}
+use Rattle.program.specs.declared.location.Places.{Places}
+use Rattle.program.specs.declared.location.Located.{Located}
+use Rattle.program.specs.Program as P
+use Rattle.program.specs.Program.{Target, own, remote, expressionReadings, testReadings, targetReadings, ruleReadings, readings, stepPlan}
+use Rattle.program.specs.Passed.{TargetPasses, RulePasses, RulesPass}
+use Rattle.program.specs.Stored.{termIn, testIn, targetIn, expressionIn, ruleIn, rulesIn}
+use Rattle.program.specs.Location.{chainIn, testChains, ruleChains, slotChains, locationOf, placesIn, Wants, PlacesWanted, LocatedAmong}
+use Rattle.machine.specs.Run.{direct}
+use Rattle.machine.proofs.Readings.{rule-pass}
+use Rattle.machine.proofs.Direct.{direct-refers}
+use Rattle.scratch.specs.Places.{placeAt, storedAt}
+use Rattle.gather_follow.specs.Filled.{Filled}
+use Rattle.step_terms.specs.Found.{foundAt, followed, Reaches, WordFound, TermFound, TestFound, RuleFound, RuleReads}
+use Rattle.step_rules.specs.Ready.{Targets, RuleReady, AllReady}
+
+-- the places of the lines that are wanted hold what is had by following
+pub record LinesHold (s : Sizes) (l : List Fact) (wanted : List Bool) (cells : List Cell) (values : List ℤ) (marks : List ℕ) : Type 0 where
+  pub values-room : length l * s .records ≤ length values
+  pub marks-room : length l * s .records ≤ length marks
+  pub holds : (i u : ℕ) (w : List ℕ) → i < length l → u < s .records → line l i ≡ read w → getD wanted i false ≡ true
+      → placeAt values marks (i * s .records + u) ≡ valueAtRecord s cells w u
+  pub fits : (i u : ℕ) (w : List ℕ) → i < length l → u < s .records → line l i ≡ read w → getD wanted i false ≡ true
+      → SFits w32 (getD values (i * s .records + u) (pos 0))
+
+-- a place of a line stands before the end of the lines
+place-below : (n m i u : ℕ) → i < n → u < m → i * m + u < n * m
+place-below n m i u h p = omega (arith, mul-le-mul-right m h)
+
+module _ (s : Sizes) (l : List Fact) (wanted : List Bool) {cells : List Cell} {values′ : List ℤ} {marks′ : List ℕ} where
+  -- the part of filled buffers below `base`
+  pub filled-lines : {values : List ℤ} {marks : List ℕ} (base : ℕ) → length l * s .records ≤ base → base ≤ length values′ → base ≤ length marks′
+      → Filled s cells l wanted (length l) values marks values′ marks′ → LinesHold s l wanted cells (take base values′) (take base marks′)
+  unfolding placeAt storedAt
+  filled-lines base h v m f =
+      let below : (i u : ℕ) → i < length l → u < s .records → i * s .records + u < base = λ i u a b. omega (arith, place-below (length l) (s .records) i u a b) in
+      record {
+        values-room = omega (arith, length-take-le base values′ v);
+        marks-room = omega (arith, length-take-le base marks′ m);
+        holds = λ i u w a b e k. rw (getD-take base values′ _ (pos 0) (below i u a b), getD-take base marks′ _ 0 (below i u a b)) (f .reads i u w a b k e .place-is);
+        fits = λ i u w a b e k. rw (getD-take base values′ _ (pos 0) (below i u a b)) (f .reads i u w a b k e .fits);
+      }
+
+-- a word that passes and, where it has two or more hops, its Read line
+pub record WordPlanned (s : Sizes) (l : List Fact) (w : List ℕ) : Type 0 where
+  pub passes : Passes s w
+  pub has-line : 2 ≤ length w → lineIndex l (read w) < length l
+
+-- each of some words
+abbrev AllPlanned : Sizes → List Fact → List (List ℕ) → Type 0
+AllPlanned s l ws = (w : List ℕ) → List·Memᴰ w ws → WordPlanned s l w
+
+parts-planned : (s : Sizes) (l : List Fact) (vs ws : List (List ℕ)) → AllPlanned s l (vs ++ ws) → AllPlanned s l vs × AllPlanned s l ws
+parts-planned s l vs ws h = (λ w m. h w (Memᴰ·append-left ws m), λ w m. h w (Memᴰ·append-right vs m))
+
+module _ (s : Sizes) (l : List Fact) (wanted : List Bool) (cells : List Cell) (values : List ℤ) (marks : List ℕ)
+    (lines : LinesHold s l wanted cells values marks) (u : ℕ) (inside : u < s .records) where
+  word-found : (w : List ℕ) → WordPlanned s l w → Wants wanted (locationOf l w) → WordFound s cells values marks u (locationOf l w) w
+  unfolding locationOf foundAt readable valueAtRecord follow hop
+  word-found [] p h = record { reaches = tt; found-is = refl }
+  word-found (f ∷ []) p h = record { reaches = p .passes .follows; found-is = refl }
+  word-found (f ∷ g ∷ w) p h =
+      let i = lineIndex l (read (f ∷ g ∷ w)) in
+      let b : i < length l = p .has-line (omega arith) in
+      let below = place-below (length l) (s .records) i u b inside in
+      let e = place-line l (read (f ∷ g ∷ w)) b in
+      record {
+        reaches = record {
+          in-values = omega (arith, below, lines .values-room);
+          in-marks = omega (arith, below, lines .marks-room);
+          fits = lines .fits i u (f ∷ g ∷ w) b inside e h;
+        };
+        found-is = lines .holds i u (f ∷ g ∷ w) b inside e h;
+      }
+
+  chain-found : (c : ℕ) {at : Location} → at ≡ locationOf l (unpack c) → Wants wanted at → WordPlanned s l (unpack c) → WordFound s cells values marks u at (unpack c)
+  chain-found c e h p = rw e (word-found (unpack c) p (rw e at h))
+
+  term-found : (x : Term) {at : Location} → at ≡ locationOf l (unpack (chainIn x)) → Wants wanted at → AllPlanned s l (expressionReadings (termIn x)) → TermFound s cells values marks u at x
+  unfolding chainIn termIn expressionReadings
+  term-found (Chain c) e h p = chain-found c e h (p (unpack c) (List·Memᴰ·head refl))
+  term-found (Number z) e h p = tt
+
+  terms-found : (x y : Term) {at : Places} → at ≡ placesIn l (record { first = chainIn x; second = chainIn y }) → PlacesWanted wanted at
+      → AllPlanned s l (expressionReadings (termIn x) ++ expressionReadings (termIn y)) → TermFound s cells values marks u (at .first) x × TermFound s cells values marks u (at .second) y
+  terms-found x y e h p =
+      let (a, b) = parts-planned s l _ _ p in
+      (term-found x (ap (λ (q : Places). q .first) e) (h .first) a, term-found y (ap (λ (q : Places). q .second) e) (h .second) b)
+
+  test-found : (t : Test) {at : Places} → at ≡ placesIn l (testChains t) → PlacesWanted wanted at → AllPlanned s l (testReadings (testIn t)) → TestFound s cells values marks u at t
+  unfolding testChains testIn testReadings
+  test-found Always e h p = tt
+  test-found (When x c y) e h p = terms-found x y e h p
+
+  rule-found : (x : Rule) {at : Places} → at ≡ placesIn l (ruleChains x) → PlacesWanted wanted at
+      → AllPlanned s l (targetReadings (targetIn x) ++ expressionReadings (expressionIn x)) → RuleFound s cells values marks u at x
+  unfolding ruleChains targetIn expressionIn targetReadings expressionReadings
+  rule-found (Set f x) e h p = term-found x (ap (λ (q : Places). q .first) e) (h .first) p
+  rule-found (Combine f op x y) e h p = terms-found x y e h p
+  rule-found (Remote k f c x) e h p = (
+    chain-found c (ap (λ (q : Places). q .first) e) (h .first) (p (unpack c) (List·Memᴰ·head refl)),
+    term-found x (ap (λ (q : Places). q .second) e) (h .second) (λ w m. p w (List·Memᴰ·tail m)),
+  )
+
+  rule-reads : (x : Located) → LocatedAmong l wanted x → AllPlanned s l (ruleReadings (ruleIn (x .slot))) → RuleReads s cells values marks u x
+  unfolding slotChains ruleIn ruleReadings
+  rule-reads x a p =
+      let (t, r) = parts-planned s l _ _ p in
+      record {
+        test = test-found (x .slot .test) (ap (λ at. at .test) (a .at-is)) (a .wants .test) t;
+        rule = rule-found (x .slot .rule) (ap (λ at. at .rule) (a .at-is)) (a .wants .rule) r;
+      }
+
+-- a target is a reference, so it leads to a record
+target-refers : {s : Sizes} {cells : List Cell} → Valid s cells → (u : ℕ) → u < s .records → (t : Target) → TargetPasses s t → Targets (s .records) (followed s cells u) t
+unfolding direct
+target-refers v u h (own f) p = tt
+target-refers v u h (remote k f c) p = direct-refers v [] u h c (p .passes) (p .reference)
+
+-- the readings of a rule are among those of the step, so each has its line
+among : {r : P.Rule} {w : List ℕ} {rs : List P.Rule} → List·Memᴰ r rs → List·Memᴰ w (ruleReadings r) → List·Memᴰ w (readings rs)
+unfolding readings
+among {w = w} (List·Memᴰ·head {xs = rs} e) i = Memᴰ·append-left (readings rs) (subst (λ r. List·Memᴰ w (ruleReadings r)) e i)
+among (List·Memᴰ·tail {x = r} m) i = Memᴰ·append-right (ruleReadings r) (among m i)
+
+rule-planned : {s : Sizes} {rs : List P.Rule} {r : P.Rule} → RulesPass s rs → List·Memᴰ r rs → AllPlanned s (stepPlan rs) (ruleReadings r)
+unfolding stepPlan
+rule-planned {s} {rs} {r} k m w i = record {
+  passes = each-of (Passes s) (rule-pass s r (each-of (RulePasses s) (k .each) m)) i;
+  has-line = plan-promise (readings rs) .has-reading (among m i);
+}
+
+-- the located rules of a step
+module _ (s : Sizes) (n : ℕ) (slots : List Located) (passes : RulesPass s (rulesIn n slots)) (wanted : List Bool) where
+  pub all-ready : Each (LocatedAmong (stepPlan (rulesIn n slots)) wanted) (take n slots) → {cells : List Cell} {values : List ℤ} {marks : List ℕ}
+      → LinesHold s (stepPlan (rulesIn n slots)) wanted cells values marks → Valid s cells → AllReady s cells values marks (take n slots)
+  unfolding rulesIn ruleIn
+  all-ready located {cells} {values} {marks} lines v = each-all (RuleReady s cells values marks) (take n slots) (λ x m.
+      let here = mem-map (λ (y : Located). ruleIn (y .slot)) m in
+      let pass = each-of (RulePasses s) (passes .each) here in
+      record {
+        found = λ u h. rule-reads s (stepPlan (rulesIn n slots)) wanted cells values marks lines u h x (each-of _ located m) (rule-planned passes here);
+        field = pass .field;
+        targets = λ u h. target-refers v u h (targetIn (x .slot .rule)) (pass .target);
+      })

@@ -1,0 +1,7 @@
+-- Laws for the proofs of the functions.
+pub mod Arrays
+pub mod Finding
+pub mod Counting
+pub mod Bounds
+pub mod Standing
+pub mod Turn

@@ -1,0 +1,2 @@
+-- Readings and cells in the places of the scratch buffers.
+pub mod Places

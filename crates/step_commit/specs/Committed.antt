@@ -1,0 +1,65 @@
+-- The working cells in the columns that a step writes, as cells of a register file, where all are in range.
+use mathlib.Core.Path.{_≡_}
+use mathlib.Core.Bool.{Bool, true, false, cond}
+use mathlib.Core.List.{List}
+use Prim.Native.Nat.{ℕ, zero, suc, _+_, _<_}
+use lib.IntN.{ℤ}
+use lib.ListN.{length, getD}
+use Rattle.register.specs.File.{width, cellIndex, putCell}
+use Rattle.register.specs.declared.Sizes.{Sizes}
+use Rattle.register.specs.declared.cells.Cell.{Cell}
+use Rattle.chain.specs.Word.{fieldAt}
+use Rattle.machine.specs.Value.{cellInRange}
+use Rattle.scratch.specs.Places.{storedAt}
+use Rattle.step_cells.specs.declared.stop.Stop.{Stop}
+use Rattle.step_cells.specs.declared.stop.Stop.the-variants.{Nowhere, At}
+
+-- the working cell of place j
+abbrev pub working : ℕ → List ℤ → List ℕ → ℕ → Cell
+working base values marks j = storedAt values marks (base + j)
+
+-- cell j, or that it is out of range
+abbrev pub OneCommitted : Sizes → ℕ → ℕ → List ℤ → List ℕ → List ℕ → List ℕ → Bool → Type 0
+OneCommitted s base j values marks file file′ true = let d = working base values marks j in (cellInRange d ≡ true) × (file′ ≡ putCell s j d file)
+OneCommitted s base j values marks file file′ false = (cellInRange (working base values marks j) ≡ false) × (file′ ≡ file)
+
+-- the file with the cells d in column c of the records below n
+unfoldable pub putColumn : Sizes → (ℕ → Cell) → ℕ → ℕ → List ℕ → List ℕ
+putColumn s d c zero file = file
+putColumn s d c (suc n) file = putCell s (cellIndex s n c) (d (cellIndex s n c)) (putColumn s d c n file)
+
+-- whether the field of column c is one of those that are written
+abbrev pub isWritten : Sizes → List Bool → ℕ → Bool
+isWritten s fields c = getD fields (fieldAt s c) false
+
+-- the file with the cells d in those of the columns below k
+unfoldable pub putColumns : Sizes → (ℕ → Cell) → List Bool → ℕ → List ℕ → List ℕ
+putColumns s d fields zero file = file
+putColumns s d fields (suc k) file =
+    let before = putColumns s d fields k file in
+    cond (isWritten s fields k) (putColumn s d k (s .records) before) before
+
+-- a record and column whose working cell is out of range
+pub record CommitStops (s : Sizes) (base : ℕ) (values : List ℤ) (marks : List ℕ) (file file′ : List ℕ) (u c : ℕ) : Type 0 where
+  pub row : u < s .records
+  pub col : c < width s
+  pub out-of-range : cellInRange (working base values marks (cellIndex s u c)) ≡ false
+  pub length-is : length file′ ≡ length file
+
+-- one column, or where it stops
+pub record OneColumn (s : Sizes) (base c : ℕ) (values : List ℤ) (marks : List ℕ) (file file′ : List ℕ) : Type 0 where
+  pub in-range : (u : ℕ) → u < s .records → cellInRange (working base values marks (cellIndex s u c)) ≡ true
+  pub file-is : file′ ≡ putColumn s (working base values marks) c (s .records) file
+
+abbrev pub ColumnCommitted : Sizes → ℕ → ℕ → List ℤ → List ℕ → List ℕ → List ℕ → Stop → Type 0
+ColumnCommitted s base c values marks file file′ Nowhere = OneColumn s base c values marks file file′
+ColumnCommitted s base c values marks file file′ (At u d) = CommitStops s base values marks file file′ u d
+
+-- all columns whose fields are written, or where that stops
+pub record AllCommitted (s : Sizes) (base : ℕ) (fields : List Bool) (values : List ℤ) (marks : List ℕ) (file file′ : List ℕ) : Type 0 where
+  pub in-range : (u c : ℕ) → u < s .records → c < width s → isWritten s fields c ≡ true → cellInRange (working base values marks (cellIndex s u c)) ≡ true
+  pub file-is : file′ ≡ putColumns s (working base values marks) fields (width s) file
+
+abbrev pub Committed : Sizes → ℕ → List Bool → List ℤ → List ℕ → List ℕ → List ℕ → Stop → Type 0
+Committed s base fields values marks file file′ Nowhere = AllCommitted s base fields values marks file file′
+Committed s base fields values marks file file′ (At u c) = CommitStops s base values marks file file′ u c

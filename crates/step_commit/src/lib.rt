@@ -1,0 +1,83 @@
+// The working cells in the columns that a step writes become the register's, where all are in range.
+ghost use Prim.Native.Nat.{_+_, _*_, _<_};
+ghost use lib.ListN.{length};
+ghost use mathlib.Core.Path.{_≡_};
+ghost use Rattle.register.specs.File.{width, cellCount};
+ghost use Rattle.register.specs.Shape.{Limits};
+ghost use Rattle.step_cells.specs.Work.{Room};
+ghost use Rattle.step_commit.specs.Committed.{OneCommitted, ColumnCommitted, Committed};
+use chain::follow;
+use integers::Sum;
+use register::Sizes;
+use register::cells;
+use register::cells::Cell;
+use step_cells::stop::Stop;
+
+// Cell j; whether it is in range.
+fn commit_cell(
+    out: &mut [u8],
+    values: &[i64],
+    marks: &[u8],
+    sizes: Sizes,
+    base: usize,
+    j: usize,
+) -> bool
+    requires { ⌜ Limits sizes × (length (now out) ≡ 12 + 5 * cellCount sizes) × Room base (cellCount sizes) (now values) (now marks) × (j < cellCount sizes) ⌝ }
+    ensures { λ r. ⌜ OneCommitted sizes base j (now (values .entry)) (now (marks .entry)) (now (out .entry)) (now (out .exit)) r ⌝ }
+{
+    if marks[base + j] == 0 {
+        cells::put_cell(out, sizes, j, Cell::Missing);
+        return true;
+    }
+    match integers::in_range(values[base + j]) {
+        Sum::InRange(value) => {
+            cells::put_cell(out, sizes, j, Cell::Value(value));
+            true
+        }
+        Sum::OutOfRange => false,
+    }
+}
+
+// The cells of one column.
+fn commit_column(
+    out: &mut [u8],
+    values: &[i64],
+    marks: &[u8],
+    sizes: Sizes,
+    base: usize,
+    column: usize,
+) -> Stop
+    requires { ⌜ Limits sizes × (length (now out) ≡ 12 + 5 * cellCount sizes) × Room base (cellCount sizes) (now values) (now marks) × (column < width sizes) ⌝ }
+    ensures { λ r. ⌜ ColumnCommitted sizes base column (now (values .entry)) (now (marks .entry)) (now (out .entry)) (now (out .exit)) r ⌝ }
+{
+    for u in 0..sizes.records {
+        let j = register::cell_index(sizes, u, column);
+        if !commit_cell(out, values, marks, sizes, base, j) {
+            return Stop::At(u, column);
+        }
+    }
+    Stop::Nowhere
+}
+
+// The columns of the fields that a step writes: no other has changed.
+pub fn commit(
+    out: &mut [u8],
+    values: &[i64],
+    marks: &[u8],
+    sizes: Sizes,
+    base: usize,
+    fields: [bool; 16],
+) -> Stop
+    requires { ⌜ Limits sizes × (length (now out) ≡ 12 + 5 * cellCount sizes) × Room base (cellCount sizes) (now values) (now marks) ⌝ }
+    ensures { λ r. ⌜ Committed sizes base fields (now (values .entry)) (now (marks .entry)) (now (out .entry)) (now (out .exit)) r ⌝ }
+{
+    for column in 0..sizes.references + sizes.measures {
+        if fields[follow::field_at(sizes, column)] {
+            let stop = commit_column(out, values, marks, sizes, base, column);
+            if let Stop::At(_, _) = stop {
+                return stop;
+            }
+        }
+    }
+    Stop::Nowhere
+}

@@ -1,0 +1,35 @@
+-- `step_effects::stored::operate` meets its contract.
+-- Assumes nothing.
+use Rattle.machine.specs.Value.{operate}
+use Rattle.step_effects.proofs.Answering.{operate-kept}
+use borrow.Author.Needs.{needs}
+use Rattle.step_effects.proofs.stored.operate.Statement.{statement}
+use Rattle.step_effects.proofs.stored.operate.Tie as tie
+
+enum-told : tie.Need-enum-told
+enum-told c = search needs
+
+add-requires : tie.Need-add-requires
+add-requires c κs = search needs
+
+enum-told-2 : tie.Need-enum-told-2
+enum-told-2 c = search needs
+
+subtract-requires : tie.Need-subtract-requires
+subtract-requires c κs = search needs
+
+returns : tie.Need-returns
+unfolding operate
+returns c =
+    let s = c .before .before .before in
+    operate-kept (s .fits .a) (s .fits .b) (c .before .enum-told .given .1) (c .add .ensures)
+
+returns-2 : tie.Need-returns-2
+unfolding operate
+returns-2 c =
+    let s = c .before .before .before in
+    operate-kept (s .fits .a) (s .fits .b) (c .before .enum-told2 .given .1) (c .subtract .ensures)
+
+pub operate-spec : {M : Type 1} → statement M
+operate-spec =
+    tie.close (tie.spec enum-told add-requires enum-told-2 subtract-requires returns returns-2)

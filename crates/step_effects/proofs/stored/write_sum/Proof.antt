@@ -1,0 +1,28 @@
+-- `step_effects::stored::write_sum` meets its contract.
+-- Assumes nothing.
+use mathlib.Core.Path.{sym, ap, _∙_}
+use Rattle.integers.proofs.Complement.{kept}
+use Rattle.step_effects.specs.Answers.{sumAnswer}
+use Rattle.step_effects.specs.declared.stored.Write.the-variants.{Store}
+use borrow.Author.Needs.{needs}
+use Rattle.step_effects.proofs.stored.write_sum.Statement.{statement}
+use Rattle.step_effects.proofs.stored.write_sum.Tie as tie
+
+enum-known-sum : tie.Need-enum-known-sum
+enum-known-sum c = search needs
+
+enum-told : tie.Need-enum-told
+enum-told c = search needs
+
+returns : tie.Need-returns
+unfolding sumAnswer
+returns c =
+    let f = c .before .before .before .args .field in
+    ap (Store f) (kept _ (c .known-told .given .0 .1)) ∙ sym (ap (sumAnswer f) (c .before .sum .given .1))
+
+returns-2 : tie.Need-returns-2
+unfolding sumAnswer
+returns-2 c = sym (ap (sumAnswer (c .before .before .args .field)) (c .enum-told .given .1))
+
+pub write-sum-spec : {M : Type 1} → statement M
+write-sum-spec = tie.close (tie.spec enum-known-sum enum-told returns returns-2)

@@ -1,2 +1,0 @@
-// A step's plan, which grows by the readings of each rule.
-pub mod readings;

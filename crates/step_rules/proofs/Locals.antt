@@ -1,0 +1,207 @@
+-- The local rules of a step, record by record and rule by rule: what the working cells hold so far.
+use Prim.Native.Nat.{ℕ, zero, suc, _+_, _<_}
+use mathlib.Core.Path.{_≡_, refl, sym, ap, subst, _∙_}
+use mathlib.Core.Bool.{true, false, _&&_, or-true}
+use mathlib.Core.List.{List, [], _∷_, _++_, map, map-append}
+use native.Mathlib.Omega.{arith}
+use lib.Dec.{eqb}
+use lib.IntN.{ℤ}
+use native.Mathlib.Decide.{decLt}
+use lib.ListN.{length, getD, take, drop, length-take}
+use lib.Seq.{take-suc, split-at, getD-take}
+use mir.Syntax.{w32}
+use mir.Val.{SFits}
+use borrow.Author.Tests.{eq-eqb}
+use Rattle.register.specs.Cells.{valueOf}
+use Rattle.register.specs.File.{cellCount, cellIndex}
+use Rattle.register.specs.Shape.{Limits}
+use Rattle.register.specs.declared.Sizes.{Sizes}
+use Rattle.register.specs.declared.cells.Cell.{Cell}
+use Rattle.register.proofs.Bounds.{cellIndex-below}
+use Rattle.chain.specs.declared.reading.Reading.{Reading}
+use Rattle.chain.specs.Word.{hasField, column}
+use Rattle.chain.proofs.Following.{column-below}
+use Rattle.program.specs.declared.location.Located.{Located}
+use Rattle.program.specs.Program.{Rule, targetField}
+use Rattle.laws.specs.Lists.{Each}
+use Rattle.program.specs.Stored.{ruleIn, rulesIn}
+use Rattle.machine.specs.Local.{offends, localRules, localRecords, sumOffends}
+use Rattle.machine.proofs.Folding.{localRules-more, localRules-length, localRecords-length, sumOffends-more}
+use Rattle.step_terms.specs.Found.{followed}
+use Rattle.step_effects.specs.Answers.{cellWrite, writeOf}
+use Rattle.step_effects.specs.declared.stored.Write.the-variants.{Nothing, OutOfRange}
+use Rattle.step_cells.specs.Work.{Room, HoldsCells, Same, Put, Small}
+use Rattle.step_rules.specs.Ready.{RuleReady, AllReady, LocalRule, RuleStops, LocalDone, LocalStops}
+use Rattle.step_cells.specs.declared.stop.Stop.the-variants.{Nowhere, At}
+use Rattle.step_cells.proofs.Working.{same-refl, same-then, same-put, holds-put, small-put}
+use Rattle.step_rules.proofs.Writing.{told, told-cell}
+
+-- one of many
+each-at : {A : Type 0} (P : A → Type 0) (l : List A) (k : ℕ) (d : A) → k < length l → Each P l → P (getD l k d)
+each-at P [] k d h e = absurd (omega arith)
+each-at P (a ∷ l) zero d h e = e .0
+each-at P (a ∷ l) (suc k) d h e = each-at P l k d (omega arith) (e .1)
+
+-- one rule at record u
+module _ (s : Sizes) (cells : List Cell) (u : ℕ) (r : Rule) where
+  abbrev read : List ℕ → Reading
+  read = followed s cells u
+
+  -- the field that it stores to, or whose sum it forms
+  module _ (field : hasField s (targetField (r .target)) ≡ true) where
+    pub stores-field : (f : ℕ) (c : Cell) → writeOf read r ≡ cellWrite f c → hasField s f ≡ true
+    stores-field f c e = ap (hasField s) (told-cell read r f c e .field-is) ∙ field
+
+    pub offends-field : {f : ℕ} → writeOf read r ≡ OutOfRange f → hasField s f ≡ true
+    offends-field e = ap (hasField s) (told read r e .field-is) ∙ field
+
+  -- and what it leaves
+  module _ (base : ℕ) (values : List ℤ) (marks : List ℕ) where
+    pub rule-idles : writeOf read r ≡ Nothing → LocalRule s cells base u r values marks values marks Nowhere
+    rule-idles e =
+        let t = told read r e in
+        (same-refl, record { in-range = t .in-range; holds = λ d l h. rw (t .cells-are s u d) h; small = λ h. h })
+
+    pub rule-offends : {f : ℕ} → writeOf read r ≡ OutOfRange f → LocalRule s cells base u r values marks values marks (At u (column s f))
+    rule-offends e =
+        let t = told read r e in
+        (same-refl, record { row = refl; column-is = ap (column s) (t .field-is); out-of-range = t .out-of-range })
+
+    pub rule-stores : (f : ℕ) (c : Cell) {values′ : List ℤ} {marks′ : List ℕ} → writeOf read r ≡ cellWrite f c → Limits s → u < s .records
+        → hasField s (targetField (r .target)) ≡ true → Room base (cellCount s) values marks
+        → Put (base + cellIndex s u (column s f)) c values marks values′ marks′ → SFits w32 (valueOf c)
+        → LocalRule s cells base u r values marks values′ marks′ Nowhere
+    rule-stores f c e limits row field room p fits =
+        let t = told-cell read r f c e in
+        let k = cellIndex s u (column s f) in
+        let below : k < cellCount s = cellIndex-below s u (column s f) row (column-below s limits f (stores-field field f c e)) in (
+          same-put base k p,
+          record {
+            in-range = t .in-range;
+            holds = λ d l h. rw (t .cells-are s u d) (holds-put base k p room below l h);
+            small = λ h. small-put base k p room below (fits .sfits) (omega arith) h;
+          },
+        )
+
+-- the rule of a place
+abbrev pub ruleAt : Located → Rule
+ruleAt x = ruleIn (x .slot)
+
+-- rule k of the places
+module _ (places : List Located) (k : ℕ) (x : Located) (h : k < length places) where
+  -- is the one behind the first k
+  pub rules-more : rulesIn (suc k) places ≡ rulesIn k places ++ (ruleAt (getD places k x) ∷ [])
+  unfolding rulesIn
+  rules-more = ap (map ruleAt) (take-suc places k x h) ∙ map-append ruleAt (take k places) (getD places k x ∷ [])
+
+  -- and stands among more of them
+  rules-split : (n : ℕ) → k < n → (P : List Rule → Type 0) → ((before behind : List Rule) → P (before ++ ruleAt (getD places k x) ∷ behind))
+      → P (rulesIn n places)
+  unfolding rulesIn
+  rules-split n l P f =
+      let some = take n places in
+      let cut : some ≡ take k some ++ getD places k x ∷ drop (suc k) some =
+      split-at some k x (omega (arith, length-take n places)) ∙ ap (λ (y : Located). take k some ++ y ∷ drop (suc k) some) (getD-take n places k x l) in
+      subst P (sym (ap (map ruleAt) cut ∙ map-append ruleAt (take k some) (getD places k x ∷ drop (suc k) some)))
+      (f (map ruleAt (take k some)) (map ruleAt (drop (suc k) some)))
+
+  -- and is ready where they all are
+  pub ready-at : {s : Sizes} {cells : List Cell} {values : List ℤ} {marks : List ℕ} {n : ℕ} → k < n → AllReady s cells values marks (take n places)
+      → RuleReady s cells values marks (getD places k x)
+  ready-at {s} {cells} {values} {marks} {n} l r =
+      subst (RuleReady s cells values marks) (getD-take n places k x l)
+      (each-at (RuleReady s cells values marks) (take n places) k x (omega (arith, length-take n places)) r)
+
+-- one offending rule among others
+offends-among : (s : Sizes) (read : List ℕ → Reading) (r : Rule) → offends read r ≡ true
+    → (before behind : List Rule) → sumOffends s read (before ++ r ∷ behind) (column s (targetField (r .target))) ≡ true
+unfolding sumOffends
+offends-among s read r h [] behind = simp (h, eq-eqb (column s (targetField (r .target))) (column s (targetField (r .target))) refl)
+offends-among s read r h (x ∷ before) behind =
+    rw (offends-among s read r h before behind) (or-true (offends read x && eqb (column s (targetField (x .target))) (column s (targetField (r .target)))))
+
+-- what the first k rules leave at record u
+pub record RecordDone (s : Sizes) (cells : List Cell) (base : ℕ) (places : List Located) (u k : ℕ) (values : List ℤ) (marks : List ℕ)
+    (values′ : List ℤ) (marks′ : List ℕ) : Type 0 where
+  pub same : Same base values marks values′ marks′
+  pub in-range : (c : ℕ) → sumOffends s (followed s cells u) (rulesIn k places) c ≡ false
+  pub holds : (d : List Cell) → length d ≡ cellCount s → HoldsCells base d values marks
+      → HoldsCells base (localRules s (followed s cells u) u (rulesIn k places) d) values′ marks′
+  pub small : Small 2147483648 base (cellCount s) values marks → Small 2147483648 base (cellCount s) values′ marks′
+
+-- nothing is done yet
+pub record-start : {s : Sizes} {cells : List Cell} {base : ℕ} {places : List Located} {u : ℕ} {values : List ℤ} {marks : List ℕ}
+    → RecordDone s cells base places u 0 values marks values marks
+unfolding localRules rulesIn sumOffends
+record-start = record { same = same-refl; in-range = λ c. refl; holds = λ d l h. h; small = λ h. h }
+
+pub records-start : {s : Sizes} {cells : List Cell} {base : ℕ} {rs : List Rule} {values : List ℤ} {marks : List ℕ}
+    → LocalDone s cells base rs 0 values marks values marks
+unfolding localRecords
+records-start = record { in-range = λ u c l. absurd (omega arith); holds = λ d l h. h; small = λ h. h }
+
+-- one rule more at a record
+pub record-more : {s : Sizes} {cells : List Cell} {base : ℕ} {places : List Located} {u k : ℕ}
+    {values values′ values″ : List ℤ} {marks marks′ marks″ : List ℕ} → RecordDone s cells base places u k values marks values′ marks′
+    → (x : Located) → k < length places → LocalRule s cells base u (ruleAt (getD places k x)) values′ marks′ values″ marks″ Nowhere
+    → {k′ : ℕ} → k′ ≡ suc k → RecordDone s cells base places u k′ values marks values″ marks″
+record-more {s} {cells} {base} {places} {u} {k} {values″ = values″} {marks″ = marks″} t x h (same, done) q =
+    let read = followed s cells u in
+    let rs = rulesIn k places in
+    let rule = ruleAt (getD places k x) in
+    rw q
+    (record {
+      same = same-then (t .same) same;
+      in-range = λ c.
+          ap (λ (l : List Rule). sumOffends s read l c) (rules-more places k x h) ∙ sumOffends-more s read rs rule c ∙ simp (t .in-range c, done .in-range);
+      holds = λ d l hd.
+          subst (λ (cs : List Cell). HoldsCells base cs values″ marks″)
+          (sym (ap (λ (l : List Rule). localRules s read u l d) (rules-more places k x h) ∙ localRules-more s read u rs rule d))
+          (done .holds (localRules s read u rs d) (localRules-length s read u rs d ∙ l) (t .holds d l hd));
+      small = λ z. done .small (t .small z);
+    })
+
+-- or its sum is out of range
+pub record-stops : {s : Sizes} {cells : List Cell} (places : List Located) {u : ℕ} (k : ℕ) (x : Located) → k < length places → {v c rules : ℕ} → k < rules
+    → Limits s → u < s .records → hasField s (targetField (ruleAt (getD places k x) .target)) ≡ true
+    → RuleStops s cells u (ruleAt (getD places k x)) v c → LocalStops s cells (rulesIn rules places) v c
+record-stops {s} {cells} places {u} k x h {rules = rules} l limits row field stop =
+    let rule = ruleAt (getD places k x) in
+    let f = targetField (rule .target) in
+    let read = followed s cells u in
+    record {
+      row = rw (stop .row) row;
+      col = rw (stop .column-is) (column-below s limits f field);
+      out-of-range = rw (stop .row, stop .column-is)
+          (rules-split places k x h rules l (λ rs. sumOffends s read rs (column s f) ≡ true) (offends-among s read rule (stop .out-of-range)));
+    }
+
+-- one record more
+pub records-more : {s : Sizes} {cells : List Cell} {base : ℕ} {places : List Located} {rules n : ℕ}
+    {values values′ values″ : List ℤ} {marks marks′ marks″ : List ℕ} → LocalDone s cells base (rulesIn rules places) n values marks values′ marks′
+    → {k : ℕ} → k ≡ rules → RecordDone s cells base places n k values′ marks′ values″ marks″
+    → {n′ : ℕ} → n′ ≡ suc n → LocalDone s cells base (rulesIn rules places) n′ values marks values″ marks″
+unfolding localRecords
+records-more {s} {cells} {base} {places} {rules} {n} {values} {values′} {values″} {marks} {marks′} {marks″} t q r q′ =
+    rw q′ (go (subst (λ (i : ℕ). RecordDone s cells base places n i values′ marks′ values″ marks″) q r))
+  where
+    at : RecordDone s cells base places n rules values′ marks′ values″ marks″
+        → (u c : ℕ) → Dec (u < n) → u < suc n → sumOffends s (followed s cells u) (rulesIn rules places) c ≡ false
+    at r u c (yes l) _ = t .in-range u c l
+    at r u c (no l) l′ = let q : u ≡ n = omega arith in rw q (r .in-range c)
+
+    go : RecordDone s cells base places n rules values′ marks′ values″ marks″
+        → LocalDone s cells base (rulesIn rules places) (suc n) values marks values″ marks″
+    go r =
+        let read = followed s cells in
+        let rs = rulesIn rules places in
+        record {
+          in-range = λ u c l. at r u c (decLt u n) l;
+          holds = λ d l hd. r .holds (localRecords s read rs n d) (localRecords-length s read rs n d ∙ l) (t .holds d l hd);
+          small = λ z. r .small (t .small z);
+        }
+
+-- all records
+pub records-all : {s : Sizes} {cells : List Cell} {base : ℕ} {rs : List Rule} {n : ℕ} {values values′ : List ℤ} {marks marks′ : List ℕ} → n ≡ s .records
+    → LocalDone s cells base rs n values marks values′ marks′ → LocalDone s cells base rs (s .records) values marks values′ marks′
+records-all {s} {cells} {base} {rs} {n} {values} {values′} {marks} {marks′} q t = subst (λ (i : ℕ). LocalDone s cells base rs i values marks values′ marks′) q t

@@ -1,0 +1,211 @@
+-- `step_rules::local::apply_rule` meets its contract: it stores what the rule stores, or stops where its sum is out of range.
+-- Assumes nothing.
+use mathlib.Core.Path.{_≡_, sym, _∙_}
+use mathlib.Core.Bool.{true}
+use mathlib.Core.List.{List}
+use Prim.Native.Nat.{ℕ}
+use native.Mathlib.Omega.{arith}
+use denote.Ref.{now}
+use lib.Seq.{length-take-le}
+use mir.Syntax.{w64}
+use mir.Facts.{toZ-ofZ}
+use Rattle.integers.proofs.Complement.{kept}
+use Rattle.register.specs.Cells.{valueOf, cellOf}
+use Rattle.register.specs.File.{cellsOfFile}
+use Rattle.register.specs.declared.cells.Cell.{Cell}
+use Rattle.register.specs.declared.cells.Cell.the-variants.{Missing, Value}
+use Rattle.register.proofs.Loading.{file-parts}
+use Rattle.chain.specs.declared.reading.Reading.{Reading}
+use Rattle.chain.specs.Word.{hasField}
+use Rattle.chain.proofs.Fields.{field-below}
+use Rattle.program.specs.Program.{Rule, targetField}
+use Rattle.program.specs.Stored.{ruleIn}
+use Rattle.step_terms.specs.Found.{followed}
+use Rattle.step_effects.specs.Answers.{cellWrite, writeOf}
+use Rattle.step_rules.proofs.Locals.{rule-idles, rule-offends, rule-stores, stores-field, offends-field}
+use borrow.Author.Needs.{needs}
+use Rattle.step_rules.proofs.local.apply_rule.Statement.{statement}
+use Rattle.step_rules.proofs.local.apply_rule.Tie as tie
+
+-- over the arguments: the cells before the step, what the record reads, the rule and the field that it writes
+module _ (c : tie.Start) where
+  abbrev cells : List Cell
+  cells = cellsOfFile (c .args .sizes) (now (c .args .out))
+
+  abbrev read : List ℕ → Reading
+  read = followed (c .args .sizes) cells (c .args .u)
+
+  abbrev rule : Rule
+  rule = ruleIn (c .args .rule .slot)
+
+  field : hasField (c .args .sizes) (targetField (rule .target)) ≡ true
+  unfolding ruleIn
+  field = c .pre .1 .field
+
+values-part-requires : tie.Need-values-part-requires
+values-part-requires c κs = search needs
+
+marks-part-requires : tie.Need-marks-part-requires
+marks-part-requires c κs = search needs
+
+slice-reshare-prefix-local-write : tie.Need-slice-reshare-prefix-local-write
+slice-reshare-prefix-local-write c = search needs
+
+slice-aggregate-local-write : tie.Need-slice-aggregate-local-write
+slice-aggregate-local-write c = sym (length-take-le _ _ (omega (arith, c .before .before .before .before .before .pre .0 .3 .values-room)))
+
+slice-reshare-prefix-local-write-2 : tie.Need-slice-reshare-prefix-local-write-2
+slice-reshare-prefix-local-write-2 c = search needs
+
+slice-aggregate-local-write-2 : tie.Need-slice-aggregate-local-write-2
+slice-aggregate-local-write-2 c = sym (length-take-le _ _ (omega (arith, c .before .before .before .before .before .before .pre .0 .3 .marks-room)))
+
+local-write-requires : tie.Need-local-write-requires
+unfolding cellsOfFile
+local-write-requires c κs =
+    let m = c .before .before in
+    let s = m .before .before .before .before in
+    let p = s .pre .0 in
+    rw (m .before .values-part .ensures, m .marks-part .ensures)
+    (file-parts (now (s .args .out)) (s .args .sizes) (p .0) (p .1), p .2, s .pre .1 .found _ (p .2))
+
+-- what the rule writes, over the file
+abbrev start : tie.After-local-write → tie.Start
+start c = c .before .before .before .before .before .before .before
+
+wrote : (c : tie.After-local-write) → writeOf (read (start c)) (rule (start c)) ≡ c .local-write .result
+unfolding cellsOfFile
+wrote c =
+    let m = c .before .before .before in
+    rw (m .before .values-part .ensures, m .marks-part .ensures) at (sym (c .local-write .ensures))
+
+enum-told : tie.Need-enum-told
+enum-told c = search needs
+
+enum-known-field : tie.Need-enum-known-field
+enum-known-field c = search needs
+
+store-requires : tie.Need-store-requires
+unfolding cellWrite
+store-requires c κs =
+    let f = c .before .before .before in
+    let w = f .before .before in
+    let s = start w in
+    (s .pre .0 .0, s .pre .0 .2, stores-field _ _ _ _ (field s) _ Missing (wrote w ∙ f .field .given .1), s .pre .0 .3)
+
+enum-known-field-2 : tie.Need-enum-known-field-2
+enum-known-field-2 c = search needs
+
+widen-requires : tie.Need-widen-requires
+widen-requires c κs = search needs
+
+store-requires-2 : tie.Need-store-requires-2
+unfolding cellWrite
+store-requires-2 c κs =
+    let f = c .before .before .before .before in
+    let w = f .before .before in
+    let s = start w in
+    (s .pre .0 .0, s .pre .0 .2, stores-field _ _ _ _ (field s) _ (Value _) (wrote w ∙ f .field2 .given .1), s .pre .0 .3)
+
+enum-known-field-3 : tie.Need-enum-known-field-3
+enum-known-field-3 c = search needs
+
+column-requires : tie.Need-column-requires
+column-requires c κs =
+    let f = c .before in
+    let w = f .before .before in
+    let s = start w in
+    let limits = s .pre .0 .0 in
+    (limits .references≤, field-below (s .args .sizes) limits _ (offends-field _ _ _ _ (field s) (wrote w ∙ f .field3 .given .1)))
+
+same-length : tie.Need-same-length
+same-length c = search needs
+
+same-length-2 : tie.Need-same-length-2
+same-length-2 c = search needs
+
+returns : tie.Need-returns
+returns c =
+    let w = c .before .before in
+    rule-idles _ _ _ _ _ _ _ (wrote w ∙ c .enum-told .given .1)
+
+same-length-3 : tie.Need-same-length-3
+same-length-3 c = search needs
+
+same-length-4 : tie.Need-same-length-4
+same-length-4 c = search needs
+
+returns-2 : tie.Need-returns-2
+unfolding ruleIn cellWrite cellOf valueOf
+returns-2 c =
+    let stored = c .before .before .before in
+    let f = stored .before .before .before .before in
+    let w = f .before .before in
+    let s = start w in
+    let p = s .pre .0 in
+    rule-stores _ _ _ _ _ _ _ _ Missing (wrote w ∙ f .field .given .1) (p .0) (p .2) (field s) (p .3) (stored .store .ensures) (record { sfits = omega arith })
+
+same-length-5 : tie.Need-same-length-5
+same-length-5 c = search needs
+
+same-length-6 : tie.Need-same-length-6
+same-length-6 c = search needs
+
+returns-3 : tie.Need-returns-3
+unfolding ruleIn cellWrite cellOf valueOf
+returns-3 c =
+    let stored = c .before .before .before in
+    let widened = stored .before .before .before in
+    let f = widened .before .before in
+    let w = f .before .before in
+    let s = start w in
+    let p = s .pre .0 in
+    let z = f .field2 .given .0 .1 .0 in
+    let fits = widened .before .known-told2 .given .1 .0 .1 in
+    let wide = toZ-ofZ {w = w64} (record { sfits = widened .widen .ok }) ∙ widened .widen .ensures ∙ kept z fits in
+    rule-stores _ _ _ _ _ _ _ _ (Value z) (wrote w ∙ f .field2 .given .1) (p .0) (p .2) (field s) (p .3)
+    (rw wide at (stored .store2 .ensures)) (record { sfits = fits })
+
+same-length-7 : tie.Need-same-length-7
+same-length-7 c = search needs
+
+same-length-8 : tie.Need-same-length-8
+same-length-8 c = search needs
+
+returns-4 : tie.Need-returns-4
+returns-4 c =
+    let f = c .before .before in
+    let w = f .before .before in
+    rw (c .column .ensures) (rule-offends _ _ _ _ _ _ _ (wrote w ∙ f .field3 .given .1))
+
+pub apply-rule-spec : {M : Type 1} → statement M
+apply-rule-spec =
+    tie.close
+    (tie.spec
+    values-part-requires
+    marks-part-requires
+    slice-reshare-prefix-local-write
+    slice-aggregate-local-write
+    slice-reshare-prefix-local-write-2
+    slice-aggregate-local-write-2
+    local-write-requires
+    enum-told
+    enum-known-field
+    store-requires
+    enum-known-field-2
+    widen-requires
+    store-requires-2
+    enum-known-field-3
+    column-requires
+    same-length
+    same-length-2
+    returns
+    same-length-3
+    same-length-4
+    returns-2
+    same-length-5
+    same-length-6
+    returns-3
+    same-length-7
+    same-length-8
+    returns-4)

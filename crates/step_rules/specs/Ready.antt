@@ -1,0 +1,70 @@
+-- Rules that a step can run, and what the local ones leave.
+use mathlib.Core.Path.{_≡_}
+use mathlib.Core.Bool.{true, false}
+use mathlib.Core.List.{List}
+use Prim.Native.Nat.{ℕ, _<_}
+use lib.IntN.{ℤ}
+use lib.ListN.{length}
+use Rattle.register.specs.File.{width, cellCount}
+use Rattle.register.specs.declared.Sizes.{Sizes}
+use Rattle.register.specs.declared.cells.Cell.{Cell}
+use Rattle.chain.specs.declared.reading.Reading.{Reading}
+use Rattle.chain.specs.Word.{hasField, column, refersTo}
+use Rattle.program.specs.declared.location.Located.{Located}
+use Rattle.program.specs.Program.{Target, own, remote, Rule, targetField}
+use Rattle.laws.specs.Lists.{Each}
+use Rattle.program.specs.Stored.{targetIn}
+use Rattle.machine.specs.Local.{offends, localRule, localRecords, sumOffends}
+use Rattle.step_terms.specs.Found.{followed, RuleReads}
+use Rattle.step_cells.specs.Work.{HoldsCells, Same, Small}
+use Rattle.step_cells.specs.declared.stop.Stop.{Stop}
+use Rattle.step_cells.specs.declared.stop.Stop.the-variants.{Nowhere, At}
+
+-- the record that a remote write goes to, where there is one, is missing or of the register
+abbrev pub Targets : ℕ → (List ℕ → Reading) → Target → Type 0
+Targets n read (own f) = Unit {0}
+Targets n read (remote k f c) = refersTo n (read c) ≡ true
+
+-- a rule that every record can run: over these cells and these places of lines
+pub record RuleReady (s : Sizes) (cells : List Cell) (values : List ℤ) (marks : List ℕ) (x : Located) : Type 0 where
+  pub found : (u : ℕ) → u < s .records → RuleReads s cells values marks u x
+  pub field : hasField s (targetField (targetIn (x .slot .rule))) ≡ true
+  pub targets : (u : ℕ) → u < s .records → Targets (s .records) (followed s cells u) (targetIn (x .slot .rule))
+
+abbrev pub AllReady : Sizes → List Cell → List ℤ → List ℕ → List Located → Type 0
+AllReady s cells values marks xs = Each (RuleReady s cells values marks) xs
+
+-- what is left by one local rule at record u
+pub record RuleDone (s : Sizes) (cells : List Cell) (base u : ℕ) (r : Rule) (values : List ℤ) (marks : List ℕ)
+    (values′ : List ℤ) (marks′ : List ℕ) : Type 0 where
+  pub in-range : offends (followed s cells u) r ≡ false
+  pub holds : (d : List Cell) → length d ≡ cellCount s → HoldsCells base d values marks → HoldsCells base (localRule s (followed s cells u) u r d) values′ marks′
+  pub small : Small 2147483648 base (cellCount s) values marks → Small 2147483648 base (cellCount s) values′ marks′
+
+-- where it stops instead
+pub record RuleStops (s : Sizes) (cells : List Cell) (u : ℕ) (r : Rule) (v c : ℕ) : Type 0 where
+  pub row : v ≡ u
+  pub column-is : c ≡ column s (targetField (r .target))
+  pub out-of-range : offends (followed s cells u) r ≡ true
+
+abbrev pub LocalRule : Sizes → List Cell → ℕ → ℕ → Rule → List ℤ → List ℕ → List ℤ → List ℕ → Stop → Type 0
+LocalRule s cells base u r values marks values′ marks′ Nowhere = Same base values marks values′ marks′ × RuleDone s cells base u r values marks values′ marks′
+LocalRule s cells base u r values marks values′ marks′ (At v c) = Same base values marks values′ marks′ × RuleStops s cells u r v c
+
+-- what all local rules leave at the records below n
+pub record LocalDone (s : Sizes) (cells : List Cell) (base : ℕ) (rs : List Rule) (n : ℕ) (values : List ℤ) (marks : List ℕ)
+    (values′ : List ℤ) (marks′ : List ℕ) : Type 0 where
+  pub in-range : (u c : ℕ) → u < n → sumOffends s (followed s cells u) rs c ≡ false
+  pub holds : (d : List Cell) → length d ≡ cellCount s → HoldsCells base d values marks → HoldsCells base (localRecords s (followed s cells) rs n d) values′ marks′
+  pub small : Small 2147483648 base (cellCount s) values marks → Small 2147483648 base (cellCount s) values′ marks′
+
+-- where they stop instead
+pub record LocalStops (s : Sizes) (cells : List Cell) (rs : List Rule) (u c : ℕ) : Type 0 where
+  pub row : u < s .records
+  pub col : c < width s
+  pub out-of-range : sumOffends s (followed s cells u) rs c ≡ true
+
+abbrev pub LocalAnswer : Sizes → List Cell → ℕ → List Rule → List ℤ → List ℕ → List ℤ → List ℕ → Stop → Type 0
+LocalAnswer s cells base rs values marks values′ marks′ Nowhere =
+    Same base values marks values′ marks′ × LocalDone s cells base rs (s .records) values marks values′ marks′
+LocalAnswer s cells base rs values marks values′ marks′ (At u c) = Same base values marks values′ marks′ × LocalStops s cells rs u c

@@ -1,0 +1,76 @@
+// A local rule of a step at one record.
+ghost use mathlib.Core.Path.{_≡_};
+ghost use mathlib.Core.Bool.{true};
+ghost use Prim.Native.Nat.{_+_, _*_, _<_};
+ghost use lib.ListN.{length, take};
+ghost use Rattle.register.specs.Cells.{cellOf};
+ghost use Rattle.register.specs.File.{cellCount, cellIndex, cellsOfFile};
+ghost use Rattle.register.specs.Shape.{Limits};
+ghost use Rattle.chain.specs.Word.{hasField, column as columnOf};
+ghost use Rattle.program.specs.Stored.{ruleIn};
+ghost use Rattle.step_cells.specs.Work.{Room, Put};
+ghost use Rattle.step_rules.specs.Ready.{RuleReady, LocalRule};
+use chain::follow;
+use program::location::Located;
+use register::Sizes;
+use register::cells;
+use scratch;
+use step_cells;
+use step_cells::stop::Stop;
+use step_effects::stored;
+use step_effects::stored::Write;
+
+// Stores a value and a mark in the working cell of record u and a field.
+fn store(
+    values: &mut [i64],
+    marks: &mut [u8],
+    sizes: Sizes,
+    base: usize,
+    u: usize,
+    field: u64,
+    value: i64,
+    mark: u8,
+)
+    requires { ⌜ Limits sizes × (u < sizes .records) × (hasField sizes field ≡ true) × Room base (cellCount sizes) (now values) (now marks) ⌝ }
+    ensures { λ _. ⌜ Put (base + cellIndex sizes u (columnOf sizes field)) (cellOf value mark) (now (values .entry)) (now (marks .entry)) (now (values .exit)) (now (marks .exit)) ⌝ }
+{
+    let place = step_cells::place(sizes, base, u, field);
+    scratch::put(values, marks, place, value, mark);
+}
+
+// One rule at record u of the register in `out`.
+pub fn apply_rule(
+    out: &[u8],
+    values: &mut [i64],
+    marks: &mut [u8],
+    sizes: Sizes,
+    base: usize,
+    u: usize,
+    rule: Located,
+) -> Stop
+    requires { ⌜ Limits sizes × (length (now out) ≡ 12 + 5 * cellCount sizes) × (u < sizes .records) × Room base (cellCount sizes) (now values) (now marks) ⌝ }
+    requires { ⌜ RuleReady sizes (cellsOfFile sizes (now out)) (take base (now values)) (take base (now marks)) rule ⌝ }
+    ensures { λ r. ⌜ LocalRule sizes (cellsOfFile sizes (now (out .entry))) base u (ruleIn (rule .slot)) (now (values .entry)) (now (marks .entry)) (now (values .exit)) (now (marks .exit)) r ⌝ }
+{
+    match stored::local_write(
+        cells::values_part(out, sizes),
+        cells::marks_part(out, sizes),
+        &values[..base],
+        &marks[..base],
+        sizes,
+        u,
+        rule,
+    ) {
+        Write::Nothing => Stop::Nowhere,
+        Write::Clear(field) => {
+            store(values, marks, sizes, base, u, field, 0, 0);
+            Stop::Nowhere
+        }
+        Write::Store(field, value) => {
+            let wide = integers::widen(value);
+            store(values, marks, sizes, base, u, field, wide, 1);
+            Stop::Nowhere
+        }
+        Write::OutOfRange(field) => Stop::At(u, follow::column(sizes, field as usize)),
+    }
+}

@@ -1,0 +1,78 @@
+// The remote writes of a step, delivered to the working cells.
+ghost use mathlib.Core.Path.{_≡_};
+ghost use Prim.Native.Nat.{_+_, _*_, _≤_, _<_};
+ghost use lib.ListN.{length, take};
+ghost use Rattle.register.specs.Cells.{cellsOf};
+ghost use Rattle.register.specs.File.{cellCount, cellsOfFile};
+ghost use Rattle.register.specs.Shape.{Limits, Parts};
+ghost use Rattle.program.specs.Stored.{rulesIn};
+ghost use Rattle.step_cells.specs.Work.{Room, Small};
+ghost use Rattle.step_rules.specs.Ready.{RuleReady, AllReady};
+ghost use Rattle.step_rules.specs.Delivered.{RuleDelivered, Delivered};
+use program::location::Located;
+use register::Sizes;
+use register::cells;
+use step_cells;
+use step_effects::sent;
+use step_effects::sent::Sent;
+
+// The message of one rule at record u, where it sends one. The number of messages.
+fn apply_rule(
+    cells: &[u8],
+    filled: &[u8],
+    values: &mut [i64],
+    marks: &mut [u8],
+    sizes: Sizes,
+    base: usize,
+    u: usize,
+    rule: Located,
+) -> usize
+    requires { ⌜ Parts sizes (now cells) (now filled) × (u < sizes .records) × Room base (length (now filled)) (now values) (now marks) ⌝ }
+    requires { ⌜ RuleReady sizes (cellsOf (now cells) (now filled)) (take base (now values)) (take base (now marks)) rule ⌝ }
+    requires { ⌜ Small 4611686018427387904 base (length (now filled)) (now values) (now marks) ⌝ }
+    ensures { λ r. ⌜ RuleDelivered sizes (cellsOf (now (cells .entry)) (now (filled .entry))) base u rule (now (values .entry)) (now (marks .entry)) (now (values .exit)) (now (marks .exit)) r ⌝ }
+{
+    match sent::message_of(
+        cells,
+        filled,
+        &values[..base],
+        &marks[..base],
+        sizes,
+        u,
+        rule,
+    ) {
+        Sent::Nothing => 0,
+        Sent::One(message) => {
+            let place = step_cells::place(sizes, base, message.target, message.field);
+            let sort = message.sort;
+            step_cells::deliver(values, marks, place, sort, message.amount);
+            1
+        }
+    }
+}
+
+// The messages of all rules at all records of the register in `out`. Their number.
+pub fn apply(
+    out: &[u8],
+    values: &mut [i64],
+    marks: &mut [u8],
+    sizes: Sizes,
+    base: usize,
+    rules: [Located; 32],
+    count: usize,
+) -> usize
+    requires { ⌜ Limits sizes × (length (now out) ≡ 12 + 5 * cellCount sizes) × Room base (cellCount sizes) (now values) (now marks) × (count ≤ 32) × (length rules ≡ 32) ⌝ }
+    requires { ⌜ AllReady sizes (cellsOfFile sizes (now out)) (take base (now values)) (take base (now marks)) (take count rules) ⌝ }
+    requires { ⌜ Small 2147483648 base (cellCount sizes) (now values) (now marks) ⌝ }
+    ensures { λ r. ⌜ Delivered sizes (cellsOfFile sizes (now (out .entry))) base (rulesIn count rules) (now (values .entry)) (now (marks .entry)) (now (values .exit)) (now (marks .exit)) r ⌝ }
+{
+    let cells = cells::values_part(out, sizes);
+    let filled = cells::marks_part(out, sizes);
+    let mut sent = 0;
+    for u in 0..sizes.records {
+        for k in 0..count {
+            sent += apply_rule(cells, filled, values, marks, sizes, base, u, rules[k]);
+        }
+    }
+    sent
+}

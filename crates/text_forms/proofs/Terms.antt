@@ -1,0 +1,94 @@
+-- A text begins with a term exactly when it begins with the printed text of one; behind a number stands no digit.
+use Prim.Native.Nat.{ℕ, _≤_}
+use mathlib.Core.Path.{_≡_, refl, ap}
+use mathlib.Core.Bool.{Bool, true, false, cond}
+use mathlib.Core.List.{List, [], _∷_, _++_}
+use native.Mathlib.Omega.{arith}
+use borrow.Author.Tests.{eqb-true, ne-eqb, lt-leb}
+use lib.Dec.{eqb}
+use lib.ListN.{length, drop}
+use lib.Seq.{drop-append-seam}
+use Rattle.chain_text.specs.Text as C
+use Rattle.chain_text.specs.Text.{isCapital}
+use Rattle.laws.specs.Lists.{every}
+use Rattle.chain_text.specs.Scan.{startsWith, opens}
+use Rattle.chain_text.proofs.Forms.{spelled, printed-form, form-none}
+use Rattle.laws.proofs.Bools.{and-both, true-false}
+use Rattle.text_forms.specs.Numeral as N
+use Rattle.text_forms.specs.Numeral.{isDigit, digits, isNumeral, signedForm, numberForm, printedNumber}
+use Rattle.text_forms.specs.Token.{token, other}
+use Rattle.text_forms.specs.Written.{Term, chain, number}
+use Rattle.text_forms.specs.Term.{printedTerm, ProperTerm, ofNumber, ofChain, termForm}
+use Rattle.text_forms.proofs.Spans.{span-every, span-text, span-append}
+use Rattle.text_forms.proofs.Digits.{digit-low}
+
+-- a text that begins with a number, behind a minus or not
+pub record Spelled (t : List ℕ) (x : Term) (r : List ℕ) : Type 0 where
+  pub text : t ≡ printedTerm x ++ r
+  pub proper : ProperTerm x
+
+not-token : {A : Type 0} {x : Term} {r : List ℕ} → other ≡ token x r → A
+not-token e = absurd (let z : _≡_ {A = ℕ} 0 1 = cc in omega arith)
+
+moved : {t : List ℕ} {x y : Term} {r s : List ℕ} → Spelled t x r → token x r ≡ token y s → Spelled t y s
+moved {t} {x} {y} {r} {s} w e = let same : x ≡ y = cc in let rest : r ≡ s = cc in rw (same, rest) at w
+
+signed-spelled : (negative : Bool) (t : List ℕ) (x : Term) (r : List ℕ) → ofNumber (signedForm negative t) ≡ token x r → Spelled (printedNumber negative t) x r
+unfolding signedForm ofNumber printedTerm printedNumber digits
+signed-spelled negative t x r e = go (isNumeral negative (digits t)) refl e
+  where
+    text : (negative : Bool) → printedNumber negative t ≡ printedNumber negative (digits t) ++ drop (length (digits t)) t
+    text true = ap (λ (l : List ℕ). 45 ∷ l) (span-text isDigit t)
+    text false = span-text isDigit t
+
+    go : (y : Bool) → isNumeral negative (digits t) ≡ y → ofNumber (cond y (N.number negative (digits t) (drop (length (digits t)) t)) N.unformed) ≡ token x r
+        → Spelled (printedNumber negative t) x r
+    go true h e = moved (record { text = text negative; proper = (h, span-every isDigit t) }) e
+    go false h e = not-token e
+
+number-spelled : (t : List ℕ) (x : Term) (r : List ℕ) → ofNumber (numberForm t) ≡ token x r → Spelled t x r
+unfolding numberForm startsWith printedNumber signedForm isNumeral digits ofNumber
+number-spelled [] x r e = not-token e
+number-spelled (b ∷ t) x r e = go (eqb b 45) refl e
+  where
+    go : (y : Bool) → eqb b 45 ≡ y → ofNumber (cond y (signedForm true t) (signedForm false (b ∷ t))) ≡ token x r → Spelled (b ∷ t) x r
+    go true h e = rw (eqb-true b 45 h) (signed-spelled true t x r e)
+    go false h e = signed-spelled false (b ∷ t) x r e
+
+-- a text that begins with a term begins with its printed text
+pub term-spelled : (t : List ℕ) (x : Term) (r : List ℕ) → termForm t ≡ token x r → Spelled t x r
+unfolding termForm ofChain printedTerm
+term-spelled t x r e = go (C.form t) refl e
+  where
+    go : (f : C.Form) → C.form t ≡ f → ofChain t f ≡ token x r → Spelled t x r
+    go (C.formed ls s) h e = let w = spelled t ls s h in moved (record { text = w .text; proper = w .capitals }) e
+    go C.unformed h e = number-spelled t x r e
+
+signed-read : (negative : Bool) (ds r : List ℕ) → isNumeral negative ds ≡ true → every isDigit ds ≡ true → digits r ≡ [] → signedForm negative (ds ++ r) ≡ N.number negative ds r
+unfolding signedForm digits
+signed-read negative ds r n d e = rw (span-append isDigit ds r d e, n, drop-append-seam)
+
+-- a byte below the capitals begins no chain
+chain-none : (b : ℕ) (t : List ℕ) → b ≤ 57 → C.form (b ∷ t) ≡ C.unformed
+unfolding startsWith opens isCapital
+chain-none b t h = form-none (b ∷ t) (ne-eqb b 117 (λ e. omega arith)) (go t)
+  where
+    go : (t : List ℕ) → opens (b ∷ t) ≡ false
+    go [] = refl
+    go (d ∷ t) = rw (lt-leb 65 b (omega arith))
+
+-- and the printed text of a proper number, with no digit behind it, begins with that number and with no chain
+number-read : (negative : Bool) (ds r : List ℕ) → ProperTerm (number negative ds) → digits r ≡ [] → termForm (printedNumber negative ds ++ r) ≡ token (number negative ds) r
+unfolding termForm ofChain ofNumber numberForm printedNumber startsWith every isNumeral
+number-read true ds r p e = rw (chain-none 45 (ds ++ r) (omega arith), signed-read true ds r (p .0) (p .1) e)
+number-read false [] r p e = true-false (p .0) refl
+number-read false (d ∷ ds) r p e =
+    let h : isDigit d ≡ true = and-both (isDigit d) (every isDigit ds) (p .1) .0 in
+    let low = digit-low d h in
+    rw (chain-none d (ds ++ r) (low .1), ne-eqb d 45 (λ e. omega (arith, low .0)), signed-read false (d ∷ ds) r (p .0) (p .1) e)
+
+-- the printed text of a proper term begins with that term, where no digit stands behind it
+pub printed-term : (x : Term) (r : List ℕ) → ProperTerm x → digits r ≡ [] → termForm (printedTerm x ++ r) ≡ token x r
+unfolding printedTerm termForm ofChain
+printed-term (chain ls) r p e = rw (printed-form ls r p)
+printed-term (number negative ds) r p e = number-read negative ds r p e

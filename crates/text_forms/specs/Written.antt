@@ -1,0 +1,29 @@
+-- A line of a rules text as it is written: its form alone, with letters and digits as they stand.
+use Prim.Native.Nat.{ℕ}
+use mathlib.Core.Bool.{Bool}
+use mathlib.Core.List.{List}
+use Rattle.program.specs.declared.rule.Comparison.{Comparison}
+use Rattle.program.specs.declared.rule.Operator.{Operator}
+use Rattle.program.specs.declared.rule.Sort.{Sort}
+
+-- "A term X or Y is a chain or a number": a chain by its letters from the outside in, a number by its minus and digits
+pub data Term : Type 0 where
+  chain : List ℕ → Term
+  number : Bool → List ℕ → Term
+
+-- "Before any of them may stand `if X < Y: `"
+pub data Condition : Type 0 where
+  always : Condition
+  when : Term → Comparison → Term → Condition
+
+-- `F[u] := X`; `F[u] := X + Y`, `F[u] := X - Y`; `remote F[C] <?= X`, `remote F[C] += X`: F by its letter, C by its letters
+pub data Action : Type 0 where
+  set : ℕ → Term → Action
+  combine : ℕ → Operator → Term → Term → Action
+  remote : Sort → ℕ → List ℕ → Term → Action
+
+-- `step`, `end`, `loop F`, `done`, and the rules
+pub data Line : Type 0 where
+  step end done : Line
+  loop : ℕ → Line
+  rule : Condition → Action → Line

@@ -1,0 +1,2 @@
+// The readers of a local rule without its test.
+pub mod action;

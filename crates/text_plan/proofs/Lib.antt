@@ -1,0 +1,6 @@
+-- Laws of the definitions of `specs/`, for the proofs here and in the crates above.
+pub mod Listing
+pub mod Marking
+pub mod Placing
+pub mod Plans
+pub mod Slots

@@ -1,0 +1,103 @@
+-- Locations and the lines that they name: which of them the plan has, and that they stay where it grows.
+use Prim.Native.Nat.{ℕ, _-_, _≤_, _<_}
+use mathlib.Core.Path.{_≡_, refl, ap, _∙_}
+use mathlib.Core.Bool.{true}
+use mathlib.Core.List.{List, [], _∷_, _++_}
+use mathlib.Core.Logic.{_≢_, ⊎-elim}
+use native.Mathlib.Omega.{arith}
+use borrow.Author.Tests.{ltb-true, lt-ltb}
+use lib.ListN.{length}
+use Rattle.laws.proofs.Bools.{and-both}
+use Rattle.laws.proofs.Cases.{lt-or-le}
+use Rattle.chain.specs.Word.{unpack}
+use Rattle.chain.proofs.Packing.{unpack-none, unpack-last}
+use Rattle.plan_theory.specs.Plan.{Fact, read, lineIndex}
+use Rattle.plan_theory.proofs.Places.{place-le, place-append-listed}
+use Rattle.plan_theory.specs.Promise.{Had}
+use Rattle.plan_keys.proofs.Words.{hops-two}
+use Rattle.plan_lines.specs.Held.{settled, found}
+use Rattle.plan_lines.specs.declared.Found.the-variants.{At, Nothing}
+use Rattle.plan_lines.proofs.Settled.{settled-none, settled-line, found-old, found-new}
+use Rattle.program.specs.declared.location.Location.the-variants.{Own, Cell, Line}
+use Rattle.program.specs.declared.location.Location.{Location}
+use Rattle.program.specs.declared.location.Places.{Places}
+use Rattle.program.specs.declared.location.Locations.{Locations}
+use Rattle.program.specs.declared.location.Pair.{Pair}
+use Rattle.program.specs.declared.location.Readings.{Readings}
+use Rattle.program.specs.Location.{locationOf, placesIn, locationsIn}
+use Rattle.program.proofs.Locations.{location-line}
+use Rattle.text_plan.specs.Listed.{isListed, areListed, allListed}
+
+-- the location of a chain by its packed number
+module _ (l : List Fact) (n : ℕ) where
+  pub chain-own : n ≡ 0 → locationOf l (unpack n) ≡ Own
+  unfolding locationOf
+  chain-own h = rw (h, unpack-none)
+
+  pub chain-cell : n ≢ 0 → n ≤ 16 → locationOf l (unpack n) ≡ Cell (n - 1)
+  unfolding locationOf
+  chain-cell p h = rw (unpack-last n (omega arith) h)
+
+  pub chain-line : 16 < n → locationOf l (unpack n) ≡ Line (lineIndex l (read (unpack n)))
+  chain-line h = location-line l (unpack n) (hops-two n h)
+
+-- a line that is found, and none
+module _ (l : List Fact) (f : Fact) where
+  pub found-at : (i : ℕ) → found l f ≡ At i → (i ≡ lineIndex l f) × (i < length l)
+  found-at i e =
+      ⊎-elim
+      (λ (h : lineIndex l f < length l). let q : i ≡ lineIndex l f = cc (found-old l f h) in (q, omega arith))
+      (λ (h : length l ≤ lineIndex l f). let z : _≡_ {A = ℕ} 0 1 = cc (found-new l f h) in absurd (omega arith))
+      (lt-or-le (lineIndex l f) (length l))
+
+  pub found-none : found l f ≡ Nothing → length l ≡ lineIndex l f
+  found-none e =
+      ⊎-elim
+      (λ (h : lineIndex l f < length l). let z : _≡_ {A = ℕ} 0 1 = cc (found-old l f h) in absurd (omega arith))
+      (λ (h : length l ≤ lineIndex l f). omega (arith, place-le l f))
+      (lt-or-le (lineIndex l f) (length l))
+
+-- a word whose location is listed adds no line
+pub listed-settled : (l : List Fact) (w : List ℕ) → isListed (length l) (locationOf l w) ≡ true → settled l (read w) ≡ true
+unfolding isListed locationOf
+listed-settled l [] h = settled-none l (read []) (omega arith)
+listed-settled l (f ∷ []) h = settled-none l (read (f ∷ [])) (omega arith)
+listed-settled l (f ∷ g ∷ w) h = settled-line l (read (f ∷ g ∷ w)) (omega arith) ∙ h
+
+-- a word that the plan has is listed
+pub had-listed : (l : List Fact) (w : List ℕ) → Had l (read w) → isListed (length l) (locationOf l w) ≡ true
+unfolding isListed locationOf
+had-listed l [] h = refl
+had-listed l (f ∷ []) h = refl
+had-listed l (f ∷ g ∷ w) h = lt-ltb (lineIndex l (read (f ∷ g ∷ w))) (length l) (h (omega arith))
+
+-- lines that are listed are so among more, and at the same locations
+module _ {n m : ℕ} (k : n ≤ m) where
+  listed-le : (x : Location) → isListed n x ≡ true → isListed m x ≡ true
+  unfolding isListed
+  listed-le Own h = refl
+  listed-le (Cell f) h = refl
+  listed-le (Line i) h = lt-ltb i m (omega (arith, ltb-true i n h))
+
+  pair-le : (p : Places) → areListed n p ≡ true → areListed m p ≡ true
+  unfolding areListed
+  pair-le p h = let (a, b) = and-both _ _ h in rw (listed-le (p .first) a, listed-le (p .second) b)
+
+  pub all-le : (at : Locations) → allListed n at ≡ true → allListed m at ≡ true
+  unfolding allListed
+  all-le at h = let (a, b) = and-both _ _ h in rw (pair-le (at .test) a, pair-le (at .rule) b)
+
+module _ (l m : List Fact) where
+  listed-stays : (w : List ℕ) → isListed (length l) (locationOf l w) ≡ true → locationOf (l ++ m) w ≡ locationOf l w
+  unfolding isListed locationOf
+  listed-stays [] h = refl
+  listed-stays (f ∷ []) h = refl
+  listed-stays (f ∷ g ∷ w) h = ap Line (place-append-listed l m (read (f ∷ g ∷ w)) (ltb-true _ (length l) h))
+
+  pair-stays : (p : Pair) → areListed (length l) (placesIn l p) ≡ true → placesIn (l ++ m) p ≡ placesIn l p
+  unfolding areListed
+  pair-stays p h = let (a, b) = and-both _ _ h in rw (listed-stays (unpack (p .first)) a, listed-stays (unpack (p .second)) b)
+
+  pub all-stays : (x : Readings) → allListed (length l) (locationsIn l x) ≡ true → locationsIn (l ++ m) x ≡ locationsIn l x
+  unfolding allListed
+  all-stays x h = let (a, b) = and-both _ _ h in rw (pair-stays (x .test) a, pair-stays (x .rule) b)

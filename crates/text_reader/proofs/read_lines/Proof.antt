@@ -1,0 +1,305 @@
+-- `text_reader::read_lines` meets its contract. The loop's invariant: some state of the definition has been reached, and the arrays,
+-- the open step's plan, its wanted lines and what is kept beside them stand for it.
+-- Assumes nothing.
+use Prim.Native.Nat.{ℕ, _-_, _≤_, _<_}
+use mathlib.Core.Path.{_≡_, refl, sym, ap, _∙_}
+use mathlib.Core.Logic.{⊎-elim}
+use native.Mathlib.Omega.{arith}
+use lib.ListN.{length}
+use Rattle.register.specs.Shape.{Limits}
+use Rattle.register.specs.declared.Sizes.{Sizes}
+use Rattle.laws.specs.Outcome.{refused}
+use Rattle.text_rules.specs.Text.{advance}
+use Rattle.plan_lines.specs.Held.{facts}
+use Rattle.program.specs.declared.rule.Slot.{Slot}
+use Rattle.program.specs.Location.{slotChains, locationsIn}
+use Rattle.text_plan.specs.Readings.{words, Short, PlannedWith}
+use Rattle.text_state.specs.State.{advanceOf}
+use Rattle.text_reader.proofs.Opening.{open-same}
+use Rattle.text_reader.proofs.Arms.{Behind}
+use Rattle.text_reader.proofs.Reading.{Read, Passes, passes, stopped, small, again, arm-step, arm-loop, arm-none, arm-end-steps, arm-end, arm-done-steps, arm-done, arm-steps, arm-rules, arm-short, arm-rule, answer-refused, answer-read, begun}
+use Rattle.text_refusals.proofs.Refusals.{or-first, or-none}
+use borrow.Author.Needs.{needs}
+use Rattle.text_reader.proofs.read_lines.Statement.{statement}
+use Rattle.text_reader.proofs.read_lines.Tie as tie
+
+abbrev Inv-loop : tie.InvT-loop
+Inv-loop text sizes slots₀ frames₀ state₀ planned₀ wanted₀ at₀ line₀ refusal₀ slots frames state planned wanted at line refusal =
+    Read sizes text planned wanted slots frames state at line × (refusal ≡ 0)
+
+abbrev μ-loop : tie.MeasureT-loop
+μ-loop text sizes slots₀ frames₀ state₀ planned₀ wanted₀ at₀ line₀ refusal₀ slots frames state planned wanted at line refusal =
+    length text - at
+
+-- a line that has passed: the loop's state, what it begins with, and its arms' laws
+abbrev so-far : (c : tie.Else1 Inv-loop μ-loop) → tie.At-loop Inv-loop μ-loop
+so-far c = c .before .before .before .before .before
+
+abbrev entry : (c : tie.Else1 Inv-loop μ-loop) → tie.Start Inv-loop μ-loop
+entry c = so-far c .before .before .before .before .before .before
+
+abbrev sizes : (c : tie.Else1 Inv-loop μ-loop) → Sizes
+sizes c = entry c .args .sizes
+
+limits : (c : tie.Else1 Inv-loop μ-loop) → Limits (sizes c)
+limits c = entry c .pre .0
+
+passed : (c : tie.Else1 Inv-loop μ-loop) → Passes (sizes c) (limits c) (so-far c .loop .inv .0) (c .before .before .read-first .result)
+passed c =
+    passes (sizes c) (limits c) (so-far c .loop .inv .0) (c .before .before .read-first .result)
+    (c .before .before .before .before .loop-test .taken) (c .before .before .read-first .ensures) (sym (c .before .refusal .ensures) ∙ c .if1 .left)
+
+-- a rule's line, from where it was located first
+abbrev rule-line : (c : tie.After-locate-arg Inv-loop μ-loop) → tie.After-read Inv-loop μ-loop
+rule-line c = c .before .before .before
+
+abbrev rule-from : (c : tie.After-locate-arg Inv-loop μ-loop) → tie.Else1 Inv-loop μ-loop
+rule-from c = rule-line c .before .before
+
+abbrev slot : (c : tie.After-locate-arg Inv-loop μ-loop) → Slot
+slot c = rule-line c .read .given .0 .0
+
+rule-short : (c : tie.After-locate-arg Inv-loop μ-loop) → Short (words (slotChains (slot c)))
+rule-short c = arm-short (passed (rule-from c)) 0 (rule-line c .read .given .1)
+
+-- the plan has its readings, and it is located there, whether the plan has grown or not
+rule-located : (c : tie.Joined2 Inv-loop μ-loop)
+    → let l = c .before .before .before in
+    PlannedWith (so-far (rule-from l) .loop .planned) (words (slotChains (slot l))) (c .if2 .planned)
+    × (c .if2 .found ≡ locationsIn (facts (c .if2 .planned .plan)) (slotChains (slot l)))
+rule-located c =
+    let l = c .before .before .before in
+    let q = so-far (rule-from l) .loop .inv .0 in
+    let first = c .before .before .locate .ensures in
+    ⊎-elim (λ w. rw (w .5, w .6) (w .1 .ensures, w .4 .ensures))
+    (λ w. rw (w .1, w .2) (open-same (q .behind .opened) (slot l) (rw first at (sym (c .before .adds-lines .ensures) ∙ w .0 .left)), first))
+    (c .if2 .came)
+
+-- where a rule goes
+place-below : (c : tie.After-place Inv-loop μ-loop) → c .place .result < 1024
+place-below c =
+    let l = c .before .before .before .before .before .before in
+    let d = rule-from l in
+    let e = rule-line l .read .given .1 in
+    omega (arith, c .place .ensures, arm-steps (passed d) 0 e, arm-rules (passed d) 0 e)
+
+-- the number of steps before an `end`, and before a `done`
+end-below : (c : tie.After-enum-told Inv-loop μ-loop) → so-far (c .before .before) .loop .state .steps < 32
+end-below c = let d = c .before .before in arm-end-steps (passed d) 0 (c .enum-told .given .1)
+
+done-above : (c : tie.After-enum-told2 Inv-loop μ-loop) → 1 ≤ so-far (c .before .before) .loop .state .steps
+done-above c = let d = c .before .before in arm-done-steps (passed d) 0 (c .enum-told2 .given .1)
+
+done-below : (c : tie.After-enum-told2 Inv-loop μ-loop) → so-far (c .before .before) .loop .state .steps ≤ 32
+done-below c = let d = c .before .before in small (so-far d .loop .inv .0) .0
+
+-- the arrays and the open step where the arms meet
+joined : (c : tie.At-match-came Inv-loop μ-loop)
+    → let d = c .before in
+    Behind (c .match .slots) (c .match .frames) (c .match .planned) (c .match .wanted)
+    (advanceOf (so-far d .loop .state) (so-far d .loop .planned .plan .count) (d .before .before .read-first .result))
+    (advance (so-far d .loop .inv .0 .state) (passed d .form))
+joined c =
+    let d = c .before in
+    let n = so-far d .loop .planned .plan .count in
+    ⊎-elim (λ w.
+    let told : tie.After-known-told Inv-loop μ-loop =
+    record { before = record { before = record { before = d; match = w .0 }; read = w .1 }; known-told = w .2 } in
+    let first : tie.After-locate Inv-loop μ-loop =
+    record { before = record { before = record { before = told; planned = w .3 }; locate-arg = w .4 }; locate = w .5 } in
+    let (planned, located) = rule-located (record { before = record { before = first; adds-lines = w .6 }; if2 = w .7 }) in
+    rw (w .11, w .12, w .13, w .14, w .10 .ensures, w .9 .ensures) (arm-rule (passed d) n (w .1 .given .1) planned located))
+    (⊎-elim (λ w. rw (w .5, w .6, w .7, w .8, w .3 .ensures) (arm-end (passed d) n (w .1 .given .1) (w .4 .ensures) refl))
+    (⊎-elim (λ w. rw (w .4, w .5, w .6, w .7, w .3 .ensures) (arm-done (passed d) n (w .1 .given .1) _))
+    (⊎-elim (λ w. rw (w .2, w .3, w .4, w .5) (arm-step (passed d) n (w .1 .given .1)))
+    (⊎-elim (λ w. rw (w .2, w .3, w .4, w .5) (arm-loop (passed d) n (w .1 .given .1)))
+    (λ w. arm-none (passed d) n (w .1 .given .1))))))
+    (c .match .came)
+
+-- and the line is still what was read
+read-same : (c : tie.At-match-came Inv-loop μ-loop) → c .match .read ≡ c .before .before .before .read-first .result
+read-same c =
+    ⊎-elim (λ w. w .15 ∙ sym (w .1 .given .1))
+    (⊎-elim (λ w. w .9) (⊎-elim (λ w. w .8) (⊎-elim (λ w. w .6) (⊎-elim (λ w. w .6) (λ w. w .6)))))
+    (c .match .came)
+
+empty-slot-requires : tie.Need-empty-slot-requires Inv-loop μ-loop
+empty-slot-requires c κs = tt
+
+empty-frame-requires : tie.Need-empty-frame-requires Inv-loop μ-loop
+empty-frame-requires c κs = tt
+
+start-requires : tie.Need-start-requires Inv-loop μ-loop
+start-requires c κs = tt
+
+no-lines-requires : tie.Need-no-lines-requires Inv-loop μ-loop
+no-lines-requires c κs = tt
+
+loop-holds : tie.Need-loop-holds Inv-loop μ-loop
+loop-holds c = (begun _ _ (c .no-lines .ensures) refl refl refl (c .before .start .ensures), refl)
+
+line-end-requires : tie.Need-line-end-requires Inv-loop μ-loop
+line-end-requires c κs = c .before .loop .inv .0 .within
+
+read-first-requires : tie.Need-read-first-requires Inv-loop μ-loop
+read-first-requires c κs = (c .before .before .before .before .before .before .before .before .pre .0, c .before .loop-test .taken, c .line-end .ensures)
+
+refusal-requires : tie.Need-refusal-requires Inv-loop μ-loop
+refusal-requires c κs = tt
+
+enum-known-read : tie.Need-enum-known-read Inv-loop μ-loop
+enum-known-read c = search needs
+
+locate-requires : tie.Need-locate-requires Inv-loop μ-loop
+locate-requires c κs = let q = so-far (rule-from c) .loop .inv .0 in (q .behind .opened .sound .keyed, rule-short c)
+
+adds-lines-requires : tie.Need-adds-lines-requires Inv-loop μ-loop
+adds-lines-requires c κs = tt
+
+with-rule-requires : tie.Need-with-rule-requires Inv-loop μ-loop
+with-rule-requires c κs =
+    let l = c .before .before .before in
+    let q = so-far (rule-from l) .loop .inv .0 in
+    (q .behind .opened .sound, rule-short l)
+
+locate-requires-2 : tie.Need-locate-requires-2 Inv-loop μ-loop
+locate-requires-2 c κs = (c .before .before .with-rule .ensures .sound .keyed, rule-short (c .before .before .before .before .before .before))
+
+mark-wanted-requires : tie.Need-mark-wanted-requires Inv-loop μ-loop
+mark-wanted-requires c κs = let q = so-far (rule-from (c .before .before .before .before)) .loop .inv .0 in q .behind .opened .marks
+
+place-requires : tie.Need-place-requires Inv-loop μ-loop
+place-requires c κs = small (so-far (rule-from (c .before .before .before .before .before)) .loop .inv .0)
+
+mul-slots : tie.Need-mul-slots Inv-loop μ-loop
+mul-slots c = record { fits = omega (arith, place-below c) }
+
+array-set-from-slots : tie.Need-array-set-from-slots Inv-loop μ-loop
+array-set-from-slots c = place-below c
+
+enum-told : tie.Need-enum-told Inv-loop μ-loop
+enum-told c = search needs
+
+open-frame-requires : tie.Need-open-frame-requires Inv-loop μ-loop
+open-frame-requires c κs = tt
+
+mul-frames : tie.Need-mul-frames Inv-loop μ-loop
+mul-frames c = record { fits = omega (arith, end-below (c .before .before)) }
+
+array-set-from-frames : tie.Need-array-set-from-frames Inv-loop μ-loop
+array-set-from-frames c = end-below (c .before .before)
+
+no-lines-requires-2 : tie.Need-no-lines-requires-2 Inv-loop μ-loop
+no-lines-requires-2 c κs = tt
+
+enum-told-2 : tie.Need-enum-told-2 Inv-loop μ-loop
+enum-told-2 c = search needs
+
+sub-last-frame : tie.Need-sub-last-frame Inv-loop μ-loop
+sub-last-frame c = done-above c
+
+mul-last-frame : tie.Need-mul-last-frame Inv-loop μ-loop
+mul-last-frame c = record { fits = omega (arith, done-above c, done-below c) }
+
+array-copy-out-last-frame : tie.Need-array-copy-out-last-frame Inv-loop μ-loop
+array-copy-out-last-frame c = omega (arith, done-above c, done-below c)
+
+last-frame-requires : tie.Need-last-frame-requires Inv-loop μ-loop
+last-frame-requires c κs = tt
+
+sub-frames : tie.Need-sub-frames Inv-loop μ-loop
+sub-frames c = done-above (c .before .before)
+
+mul-frames-2 : tie.Need-mul-frames-2 Inv-loop μ-loop
+mul-frames-2 c = record { fits = omega (arith, done-above (c .before .before), done-below (c .before .before)) }
+
+array-set-from-frames-2 : tie.Need-array-set-from-frames-2 Inv-loop μ-loop
+array-set-from-frames-2 c = omega (arith, done-above (c .before .before), done-below (c .before .before))
+
+enum-told-3 : tie.Need-enum-told-3 Inv-loop μ-loop
+enum-told-3 c = search needs
+
+enum-told-4 : tie.Need-enum-told-4 Inv-loop μ-loop
+enum-told-4 c = search needs
+
+enum-told-5 : tie.Need-enum-told-5 Inv-loop μ-loop
+enum-told-5 c = search needs
+
+advance-requires : tie.Need-advance-requires Inv-loop μ-loop
+advance-requires c κs = let d = c .before in small (so-far d .loop .inv .0)
+
+add-at : tie.Need-add-at Inv-loop μ-loop
+add-at c = let d = c .before .before in record { fits = omega (arith, passed d .inside, d .before .before .before .line-end .ensures, entry d .pre .1) }
+
+add-line : tie.Need-add-line Inv-loop μ-loop
+add-line c = let d = c .before .before in let q = so-far d .loop .inv .0 in record { fits = omega (arith, q .few, q .within, entry d .pre .1) }
+
+loop-less : tie.Need-loop-less Inv-loop μ-loop
+loop-less c = omega (arith, passed (c .before .before) .inside, c .before .before .before .before .before .line-end .ensures)
+
+loop-again : tie.Need-loop-again Inv-loop μ-loop
+loop-again c =
+    let d = c .before .before in
+    (rw (c .advance .ensures, read-same (c .before), d .before .before .before .line-end .ensures) (again (passed d) (joined (c .before))), d .if1 .left)
+
+refusal-or-last-requires : tie.Need-refusal-or-last-requires Inv-loop μ-loop
+refusal-or-last-requires c κs = tt
+
+returns : tie.Need-returns Inv-loop μ-loop
+returns c =
+    let l = c .before .before in
+    let s = l .before .before .before .before .before .before .args .sizes in
+    let lim = l .before .before .before .before .before .before .pre .0 in
+    ⊎-elim (λ w. rw (c .refusal-or-last .ensures, w .1, l .loop .inv .1, or-none 0 _ refl) (answer-read (l .loop .inv .0) (w .0 .left)))
+    (λ w.
+    let stop = stopped s lim (l .loop .inv .0) (w .2 .result) (w .0 .taken) (w .2 .ensures) (λ z. w .4 .taken (w .3 .ensures ∙ z)) in
+    rw (c .refusal-or-last .ensures, w .5, or-first _ _ (w .4 .taken))
+    (answer-refused (w .3 .result) _ _ (w .4 .taken) (stop ∙ ap (λ (n : ℕ). refused n _) (sym (w .3 .ensures)))))
+    (c .before .loop-test .came)
+
+pub read-lines-spec : {M : Type 1} → statement M
+read-lines-spec =
+    tie.close
+    (tie.spec
+    Inv-loop
+    μ-loop
+    empty-slot-requires
+    empty-frame-requires
+    start-requires
+    no-lines-requires
+    loop-holds
+    line-end-requires
+    read-first-requires
+    refusal-requires
+    enum-known-read
+    locate-requires
+    adds-lines-requires
+    with-rule-requires
+    locate-requires-2
+    mark-wanted-requires
+    place-requires
+    mul-slots
+    array-set-from-slots
+    enum-told
+    open-frame-requires
+    mul-frames
+    array-set-from-frames
+    no-lines-requires-2
+    enum-told-2
+    sub-last-frame
+    mul-last-frame
+    array-copy-out-last-frame
+    last-frame-requires
+    sub-frames
+    mul-frames-2
+    array-set-from-frames-2
+    enum-told-3
+    enum-told-4
+    enum-told-5
+    advance-requires
+    add-at
+    add-line
+    loop-less
+    loop-again
+    refusal-or-last-requires
+    returns)

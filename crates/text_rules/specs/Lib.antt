@@ -1,0 +1,3 @@
+-- The rules text of document 01.
+pub mod Check
+pub mod Text

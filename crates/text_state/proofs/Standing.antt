@@ -1,0 +1,180 @@
+-- What the reader keeps of the lines so far stands for the state of the definition.
+use Prim.Native.Nat.{ℕ, zero, suc, _+_, _<_, max}
+use mathlib.Core.Path.{_≡_, refl, sym, ap, _∙_}
+use mathlib.Core.Bool.{Bool, true, false, _||_, or-true, or-false}
+use mathlib.Core.List.{List, [], _∷_, _++_}
+use mathlib.Core.Option.{some}
+use native.Mathlib.Omega.{arith}
+use native.Mathlib.Decide.{ℕ-discrete}
+use borrow.Author.Tests.{eq-eqb, ne-eqb}
+use lib.Dec.{eqb}
+use lib.ListN.{length, getD, set, replicate, length-append, length-set}
+use lib.Seq.{getD-set-same, getD-set-other}
+use Rattle.register.specs.Shape.{Limits}
+use Rattle.register.specs.declared.Sizes.{Sizes}
+use Rattle.laws.proofs.Bools.{and-both}
+use Rattle.chain.proofs.Fields.{field-below}
+use Rattle.chain_text.specs.Text.{names, letterField}
+use Rattle.text_forms.specs.Written as W
+use Rattle.text_forms.specs.Written.{Line, step, end, done, loop, rule}
+use Rattle.text_forms.specs.Parts.{named, fieldNamed, target}
+use Rattle.text_local.specs.ActionRead.{packedRule}
+use Rattle.text_line.specs.LineRead.{lineRead}
+use Rattle.text_rules.proofs.Passing.{close-length}
+use Rattle.program.specs.declared.rule.Sort.the-variants.{Least, Total}
+use Rattle.program.specs.Program as P
+use Rattle.program.specs.Program.{Target, Rule, Step, stepPlan, writes, isRemote, hasRemote, mostLines, isLeast, isTotal, someTarget}
+use Rattle.text_rules.specs.Check.{isOpen, openRules}
+use Rattle.text_rules.specs.Check as C
+use Rattle.text_rules.specs.Text.{writtenRule, writtenTarget, closeLoop, withStep, advance, start}
+use Rattle.text_rules.proofs.Checked.{Clean, letter-field}
+use Rattle.program.proofs.Rules.{some-append}
+use Rattle.text_state.specs.State.{noRules, moreRules, withRemote, withRule, startState, standing, advanceOf}
+use Rattle.text_state.specs.declared.tally.Tally.{Tally}
+use Rattle.text_state.specs.declared.state.State.{State}
+
+-- what is kept of the rules of the open step
+pub record Counts (x : Tally) (rs : List Rule) : Type 0 where
+  pub rules-are : x .rules ≡ length rs
+  pub remote-is : x .remote ≡ hasRemote rs
+  pub fields-length : length (x .fields) ≡ 16
+  pub leasts-length : length (x .leasts) ≡ 16
+  pub totals-length : length (x .totals) ≡ 16
+  pub fields-are : (f : ℕ) → getD (x .fields) f false ≡ someTarget (writes f) rs
+  pub leasts-are : (f : ℕ) → getD (x .leasts) f false ≡ someTarget (isLeast f) rs
+  pub totals-are : (f : ℕ) → getD (x .totals) f false ≡ someTarget (isTotal f) rs
+
+pub record Stands (x : State) (st : C.State) : Type 0 where
+  pub steps-are : x .steps ≡ length (st .steps)
+  pub lines-are : x .lines ≡ mostLines (st .steps)
+  pub around-is : x .around ≡ st .around
+  pub in-step : x .in_step ≡ isOpen st
+  pub tally-is : Counts (x .tally) (openRules st)
+
+none-taken : (n f : ℕ) → getD (replicate n false) f false ≡ false
+none-taken zero f = refl
+none-taken (suc n) zero = refl
+none-taken (suc n) (suc f) = none-taken n f
+
+counts-none : Counts noRules []
+unfolding noRules hasRemote someTarget
+counts-none = record {
+  rules-are = refl;
+  remote-is = refl;
+  fields-length = refl;
+  leasts-length = refl;
+  totals-length = refl;
+  fields-are = none-taken 16;
+  leasts-are = none-taken 16;
+  totals-are = none-taken 16;
+}
+
+pub start-stands : Stands startState start
+unfolding startState start mostLines isOpen openRules
+start-stands = record { steps-are = refl; lines-are = refl; around-is = refl; in-step = refl; tally-is = counts-none }
+
+-- a field that has taken a write, and the others
+taken-more : (l : List Bool) (g f : ℕ) → g < length l → getD (set l g true) f false ≡ getD l f false || eqb f g
+taken-more l g f h = go (ℕ-discrete f g)
+  where
+    go : Dec (f ≡ g) → getD (set l g true) f false ≡ getD l f false || eqb f g
+    go (yes e) = rw (e, getD-set-same l g true false h, eq-eqb g g refl, or-true)
+    go (no n) = getD-set-other l g f true false n ∙ sym (ap (λ (b : Bool). getD l f false || b) (ne-eqb f g n) ∙ or-false _)
+
+-- one more rule, by what it adds
+module _ {x : Tally} {rs : List Rule} (h : Counts x rs) (r : Rule) where
+  -- the fields that have taken one sort of write: as before, or with the rule's own
+  module _ (sort : ℕ → Target → Bool) (l : List Bool) (k : (f : ℕ) → getD l f false ≡ someTarget (sort f) rs) where
+    sort-same : ((f : ℕ) → sort f (r .target) ≡ false) → (f : ℕ) → getD l f false ≡ someTarget (sort f) (rs ++ (r ∷ []))
+    sort-same b f = k f ∙ sym (some-append (sort f) rs r ∙ rw (b f, or-false))
+
+    sort-taken : (g : ℕ) → g < length l → ((f : ℕ) → sort f (r .target) ≡ eqb f g)
+        → (f : ℕ) → getD (set l g true) f false ≡ someTarget (sort f) (rs ++ (r ∷ []))
+    sort-taken g i b f = taken-more l g f i ∙ sym (some-append (sort f) rs r ∙ rw (b f, k f))
+
+  -- the rule writes its field
+  module _ (k : P.targetField (r .target) < 16) where
+    abbrev fields : List Bool
+    fields = set (x .fields) (P.targetField (r .target)) true
+
+    counts-more : (remote : Bool) (leasts totals : List Bool) → remote ≡ hasRemote rs || isRemote (r .target) → length leasts ≡ 16 → length totals ≡ 16
+        → ((f : ℕ) → getD leasts f false ≡ someTarget (isLeast f) (rs ++ (r ∷ [])))
+        → ((f : ℕ) → getD totals f false ≡ someTarget (isTotal f) (rs ++ (r ∷ [])))
+        → Counts (record { rules = x .rules + 1; remote = remote; fields = fields; leasts = leasts; totals = totals }) (rs ++ (r ∷ []))
+    unfolding writes hasRemote
+    counts-more remote leasts totals a m n b d = record {
+      rules-are = rw (h .rules-are, length-append rs (r ∷ []));
+      remote-is = a ∙ sym (some-append isRemote rs r);
+      fields-length = length-set (x .fields) _ true ∙ h .fields-length;
+      leasts-length = m;
+      totals-length = n;
+      fields-are = sort-taken writes (x .fields) (h .fields-are) _ (omega (arith, k, h .fields-length)) (λ f. refl);
+      leasts-are = b;
+      totals-are = d;
+    }
+
+    counts-local : isRemote (r .target) ≡ false → ((f : ℕ) → isLeast f (r .target) ≡ false) → ((f : ℕ) → isTotal f (r .target) ≡ false)
+        → Counts (moreRules x (P.targetField (r .target))) (rs ++ (r ∷ []))
+    unfolding moreRules
+    counts-local a b d =
+        counts-more (x .remote) (x .leasts) (x .totals) (h .remote-is ∙ sym (rw (a, or-false))) (h .leasts-length) (h .totals-length)
+        (sort-same isLeast (x .leasts) (h .leasts-are) b) (sort-same isTotal (x .totals) (h .totals-are) d)
+
+-- a rule that has passed
+counts-rule : {x : Tally} {rs : List Rule} (t : W.Condition) (a : W.Action) → Counts x rs → letterField (target a) < 16
+    → Counts (withRule x (packedRule a)) (rs ++ (writtenRule t a ∷ []))
+unfolding withRule moreRules withRemote packedRule writtenRule writtenTarget target P.targetField isRemote isLeast isTotal
+counts-rule t (W.set f x) h k = counts-local h _ k refl (λ i. refl) (λ i. refl)
+counts-rule t (W.combine f op x y) h k = counts-local h _ k refl (λ i. refl) (λ i. refl)
+counts-rule {x} {rs} t (W.remote Least f c y) h k =
+    let taken = sort-taken h _ isLeast (x .leasts) (h .leasts-are) (letterField f) (omega (arith, k, h .leasts-length)) (λ i. refl) in
+    counts-more h _ k true (set (x .leasts) (letterField f) true) (x .totals) (sym (or-true (hasRemote rs)))
+    (length-set (x .leasts) (letterField f) true ∙ h .leasts-length) (h .totals-length)
+    taken (sort-same h _ isTotal (x .totals) (h .totals-are) (λ i. refl))
+counts-rule {x} {rs} t (W.remote Total f c y) h k =
+    let taken = sort-taken h _ isTotal (x .totals) (h .totals-are) (letterField f) (omega (arith, k, h .totals-length)) (λ i. refl) in
+    counts-more h _ k true (x .leasts) (set (x .totals) (letterField f) true) (sym (or-true (hasRemote rs)))
+    (h .leasts-length) (length-set (x .totals) (letterField f) true ∙ h .totals-length)
+    (sort-same h _ isLeast (x .leasts) (h .leasts-are) (λ i. refl)) taken
+
+-- the most lines with one more step, and with the last step the last of its loop
+most-append : (xs : List Step) (x : Step) → mostLines (xs ++ (x ∷ [])) ≡ max (mostLines xs) (length (stepPlan (x .rules)))
+unfolding mostLines
+most-append [] x = omega arith
+most-append (y ∷ xs) x = ap (max (length (stepPlan (y .rules)))) (most-append xs x) ∙ omega arith
+
+most-close : (xs : List Step) → mostLines (closeLoop xs) ≡ mostLines xs
+unfolding mostLines closeLoop
+most-close [] = refl
+most-close (x ∷ []) = refl
+most-close (x ∷ y ∷ xs) = ap (max (length (stepPlan (x .rules)))) (most-close (y ∷ xs))
+
+-- behind a line that has passed; n is the number of lines of the open step's plan
+module _ (s : Sizes) (lim : Limits s) {x : State} {st : C.State} (h : Stands x st) where
+  pub advance-stands : (n : ℕ) (l : Line) → Clean s st l → (l ≡ end → n ≡ length (stepPlan (openRules st)))
+      → Stands (advanceOf x n (lineRead s (some l))) (advance st l)
+  unfolding advanceOf standing lineRead advance isOpen openRules named fieldNamed
+  advance-stands n step k e = record { steps-are = h .steps-are; lines-are = h .lines-are; around-is = h .around-is; in-step = refl; tally-is = counts-none }
+  advance-stands n end k e = record {
+    steps-are = rw (h .steps-are, length-append);
+    lines-are = rw (h .lines-are, e refl, most-append);
+    around-is = ap withStep (h .around-is);
+    in-step = refl;
+    tally-is = counts-none;
+  }
+  advance-stands n done k e = record {
+    steps-are = h .steps-are ∙ sym (close-length (st .steps));
+    lines-are = h .lines-are ∙ sym (most-close (st .steps));
+    around-is = refl;
+    in-step = refl;
+    tally-is = counts-none;
+  }
+  advance-stands n (loop f) k e = record { steps-are = h .steps-are; lines-are = h .lines-are; around-is = refl; in-step = refl; tally-is = counts-none }
+  advance-stands n (rule c a) k e = record {
+    steps-are = h .steps-are;
+    lines-are = h .lines-are;
+    around-is = h .around-is;
+    in-step = refl;
+    tally-is = counts-rule c a (h .tally-is)
+        (field-below s lim (letterField (target a)) (letter-field s lim (target a) (and-both (names s (target a)) _ (k .is-named) .0)));
+  }

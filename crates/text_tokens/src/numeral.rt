@@ -1,0 +1,97 @@
+// Numbers of a rules text.
+ghost use mathlib.Core.Path.{_≡_};
+ghost use mathlib.Core.Bool.{true};
+ghost use Prim.Native.Nat.{_+_, _-_, _*_, _≤_};
+ghost use lib.ListN.{length, drop};
+ghost use Rattle.text_forms.specs.Numeral.{isDigit, startsDigit, capped, signedValue, numberForm, signedForm};
+ghost use Rattle.text_tokens.specs.Tokens.{ReadsDigits, digitsRead, numberRead};
+use chain_text::text;
+
+fn is_digit(b: u8) -> bool
+    ensures { λ r. ⌜ r ≡ isDigit b ⌝ }
+{
+    (48 <= b) & (b <= 57)
+}
+
+// Whether a digit stands at `at`.
+fn digit_at(line: &[u8], at: usize) -> bool
+    ensures { λ r. ⌜ r ≡ startsDigit (drop at (now (line .entry))) ⌝ }
+{
+    if line.len() <= at {
+        return false;
+    }
+    is_digit(line[at])
+}
+
+// One more digit behind a number.
+fn with_digit(n: u64, b: u8) -> u64
+    requires { ⌜ (n ≤ 2147483649) × (isDigit b ≡ true) ⌝ }
+    ensures { λ r. ⌜ r ≡ capped (10 * n + (b - 48)) ⌝ }
+{
+    let next = 10 * n + (b - 48) as u64;
+    if next < 2147483649 { next } else { 2147483649 }
+}
+
+// What digits write, and the place behind them. Any value from 2,147,483,649 on counts as that one, out of range all the same.
+pub struct Digits {
+    pub value: u64,
+    pub end: usize,
+}
+
+// The digits from `at` on.
+fn digits_at(line: &[u8], at: usize) -> Digits
+    requires { ⌜ at ≤ length (now line) ⌝ }
+    ensures { λ r. ⌜ ReadsDigits at (drop at (now (line .entry))) r ⌝ }
+{
+    let mut value = 0;
+    let mut i = at;
+    while digit_at(line, i) {
+        value = with_digit(value, line[i]);
+        i += 1;
+    }
+    Digits { value, end: i }
+}
+
+// A number behind a minus or not.
+fn signed_value(negative: bool, n: u64) -> i64
+    requires { ⌜ n ≤ 2147483649 ⌝ }
+    ensures { λ r. ⌜ r ≡ signedValue negative n ⌝ }
+{
+    if negative {
+        return 0 - n as i64;
+    }
+    n as i64
+}
+
+// A number, capped as its digits are, and the place behind it; or no number stands there.
+pub enum NumberRead {
+    Number(i64, usize),
+    NoForm,
+}
+
+// The number whose digits stand from `at` on, behind a minus or not.
+fn signed_digits(line: &[u8], at: usize, negative: bool) -> NumberRead
+    requires { ⌜ at ≤ length (now line) ⌝ }
+    ensures { λ r. ⌜ r ≡ digitsRead at (signedForm negative (drop at (now (line .entry)))) ⌝ }
+{
+    let digits = digits_at(line, at);
+    let end = digits.end;
+    if end == at {
+        return NumberRead::NoForm;
+    }
+    if (line[at] == 48) & (negative | (1 < end - at)) {
+        return NumberRead::NoForm;
+    }
+    NumberRead::Number(signed_value(negative, digits.value), end)
+}
+
+// The number at `at`.
+pub fn read_number(line: &[u8], at: usize) -> NumberRead
+    requires { ⌜ at ≤ length (now line) ⌝ }
+    ensures { λ r. ⌜ r ≡ numberRead at (numberForm (drop at (now (line .entry)))) ⌝ }
+{
+    if text::starts_with(line, at, 45) {
+        return signed_digits(line, at + 1, true);
+    }
+    signed_digits(line, at, false)
+}
