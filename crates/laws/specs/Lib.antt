@@ -1,3 +1,4 @@
 -- Definitions that several rooms cite.
 pub mod Outcome
 pub mod Lists
+pub mod Bytes

@@ -10,7 +10,7 @@ use Rattle.laws.specs.Outcome.{Outcome, done, unless, after}
 use Rattle.chain_text.specs.Text as C
 use Rattle.chain_text.specs.Scan.{startsWith}
 use Rattle.plan_theory.specs.Plan.{plan, addReadings, add, withTree as planLines, listed, lineIndex, sameFact, sameWord, tree, treeWithin, half, doubled, front, rest}
-use Rattle.text_forms.specs.Bytes.{bytes}
+use Rattle.laws.specs.Bytes.{bytes}
 use Rattle.text_forms.specs.Numeral.{isDigit, digits, decimal, isNumeral, signedForm, numberForm, numberValue, signedValue}
 use Rattle.text_forms.specs.Token.{capital, then, word, or, finished}
 use Rattle.text_forms.specs.Term.{ofNumber, ofChain, termForm}

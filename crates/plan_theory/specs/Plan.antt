@@ -1,4 +1,4 @@
--- The fixed plan of a step's readings: the facts that its withTree bring about, what each needs, in which order they are listed and in which round each is had.
+-- The fixed plan of a step's readings: the facts that its lines bring about, what each needs, in which order they are listed and in which round each is had.
 use mathlib.Core.Bool.{Bool, true, false, _&&_}
 use mathlib.Core.List.{List, [], _∷_, _++_, map}
 use Prim.Native.Nat.{ℕ, zero, suc, _+_, max}
@@ -84,21 +84,21 @@ rounds (both f a b) = suc (max (rounds a) (rounds b))
 unfoldable pub round : Fact → ℕ
 round f = rounds (tree f)
 
--- whether two hop words are the sameFact
+-- whether two hop words are the same
 unfoldable pub sameWord : List ℕ → List ℕ → Bool
 sameWord [] [] = true
 sameWord [] (y ∷ v) = false
 sameWord (x ∷ w) [] = false
 sameWord (x ∷ w) (y ∷ v) = eqb x y && sameWord w v
 
--- whether two facts are the sameFact
+-- whether two facts are the same
 unfoldable pub sameFact : Fact → Fact → Bool
 sameFact (back w) (back v) = sameWord w v
 sameFact (back w) (read v) = false
 sameFact (read w) (back v) = false
 sameFact (read w) (read v) = sameWord w v
 
--- the lineIndex of a fact among the withTree l, counted from 0; their number where it is not listed
+-- the place of a fact among the lines l, counted from 0; their number where it is not listed
 unfoldable pub lineIndex : List Fact → Fact → ℕ
 lineIndex [] f = 0
 lineIndex (g ∷ l) f = elim (sameFact g f) [ true ↦ 0 | false ↦ suc (lineIndex l f) ]
@@ -107,17 +107,17 @@ lineIndex (g ∷ l) f = elim (sameFact g f) [ true ↦ 0 | false ↦ suc (lineIn
 unfoldable pub listed : List Fact → Fact → Bool
 listed l f = ltb (lineIndex l f) (length l)
 
--- the withTree l with a tree's behind them: first those of Back(a), then those of Read(b), then its own; a fact already listed is not listed again
+-- the lines l with a tree's behind them: first those of Back(a), then those of Read(b), then its own; a fact already listed is not listed again
 unfoldable pub withTree : List Fact → Tree → List Fact
 withTree l none = l
 withTree l (one f) = elim (listed l f) [ true ↦ l | false ↦ l ++ (f ∷ []) ]
 withTree l (both f a b) = elim (listed l f) [ true ↦ l | false ↦ withTree (withTree l a) b ++ (f ∷ []) ]
 
--- the withTree l with those of a fact added
+-- the lines l with those of a fact added
 unfoldable pub add : List Fact → Fact → List Fact
 add l f = withTree l (tree f)
 
--- the withTree l with those of some readings added, in order
+-- the lines l with those of some readings added, in order
 unfoldable pub addReadings : List Fact → List (List ℕ) → List Fact
 addReadings l [] = l
 addReadings l (w ∷ ws) = addReadings (add l (read w)) ws
@@ -126,15 +126,15 @@ addReadings l (w ∷ ws) = addReadings (add l (read w)) ws
 unfoldable pub plan : List (List ℕ) → List Fact
 plan ws = addReadings [] ws
 
--- a plan's result: its withTree, each with its fact (kind and chain) and round
+-- a plan's result: its lines, each with its fact (kind and chain) and round
 unfoldable pub result : List (List ℕ) → List (Fact × ℕ)
 result ws = map (λ f. (f, round f)) (plan ws)
 
--- the last round of the withTree l, 0 where there is none
+-- the last round of the lines l, 0 where there is none
 unfoldable pub lastRound : List Fact → ℕ
 lastRound [] = 0
 lastRound (f ∷ l) = max (round f) (lastRound l)
 
--- line i of the withTree l, counted from 0
+-- line i of the lines l, counted from 0
 abbrev pub line : List Fact → ℕ → Fact
 line l i = getD l i (read [])

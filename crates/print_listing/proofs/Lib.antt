@@ -1,2 +1,3 @@
 -- Laws for the proofs of the functions.
-pub mod Signs
+pub mod Rows
+pub mod Lengths

@@ -1,3 +1,3 @@
--- What stands on the page, and the room that it takes.
-pub mod Put
+-- The lines that are printed, and the room that they have.
+pub mod Listing
 pub mod Room

@@ -1,16 +1,18 @@
 // The lines that are printed: a register's listing, and a refusal.
-pub mod page;
-
 ghost use mathlib.Core.Path.{_≡_};
-ghost use Prim.Native.Nat.{_+_, _*_, _≤_, _<_};
+ghost use mathlib.Core.List.{_++_};
+ghost use Prim.Native.Nat.{_+_, _*_, _<_};
 ghost use lib.ListN.{length};
-ghost use Rattle.register.specs.File.{width, cellCount};
+ghost use Rattle.register.specs.Cells.{cellsOf};
+ghost use Rattle.register.specs.File.{cellCount, cellsOfFile};
 ghost use Rattle.register.specs.Shape.{Limits, Parts};
-ghost use Rattle.print_listing.specs.Room.{numberRoom, headerRoom, recordRoom, recordsRoom, pageRoom};
-use crate::page::put_byte;
-use crate::page::put_bytes;
-use crate::page::put_cell;
-use crate::page::put_number;
+ghost use Rattle.print_page.specs.Decimal.{decimal};
+ghost use Rattle.print_page.specs.Put.{Room, Put};
+ghost use Rattle.print_listing.specs.Listing.{header, inARow, recordLine, listing, refusedLine};
+use print_page::put_byte;
+use print_page::put_bytes;
+use print_page::put_cell;
+use print_page::put_number;
 use register::Sizes;
 use register::cells;
 
@@ -24,17 +26,16 @@ pub struct Ran {
 }
 
 fn put_count(page: &mut [u8], at: usize, count: u64, name: &[u8]) -> usize
-    requires { ⌜ at + (numberRoom + length (now name)) ≤ length (now page) ⌝ }
-    ensures { λ r. ⌜ r ≤ at + (numberRoom + length (now (name .entry))) ⌝ }
+    requires { ⌜ Room at (decimal count ++ now name) (now page) ⌝ }
+    ensures { λ r. ⌜ Put at (decimal count ++ now (name .entry)) (now (page .entry)) (now (page .exit)) r ⌝ }
 {
     let next = put_number(page, at, count);
     put_bytes(page, next, name)
 }
 
-// "Header: records, finished steps, exchanges, letters."
 fn put_header(page: &mut [u8], records: usize, ran: Ran) -> usize
-    requires { ⌜ headerRoom ≤ length (now page) ⌝ }
-    ensures { λ r. ⌜ r ≤ headerRoom ⌝ }
+    requires { ⌜ Room 0 (header records (ran .finished) (ran .exchanges) (ran .letters)) (now page) ⌝ }
+    ensures { λ r. ⌜ Put 0 (header records (ran .finished) (ran .exchanges) (ran .letters)) (now (page .entry)) (now (page .exit)) r ⌝ }
 {
     let steps = put_count(page, 0, records as u64, b" records ");
     let exchanges = put_count(page, steps, ran.finished as u64, b" steps ");
@@ -42,7 +43,6 @@ fn put_header(page: &mut [u8], records: usize, ran: Ran) -> usize
     put_count(page, letters, ran.letters as u64, b" letters\n")
 }
 
-// "Then record number, its fields in order"
 fn put_record(
     page: &mut [u8],
     at: usize,
@@ -51,8 +51,8 @@ fn put_record(
     sizes: Sizes,
     u: usize,
 ) -> usize
-    requires { ⌜ Parts sizes (now cells) (now filled) × (u < sizes .records) × (at + recordRoom (width sizes) ≤ length (now page)) ⌝ }
-    ensures { λ r. ⌜ r ≤ at + recordRoom (width sizes) ⌝ }
+    requires { ⌜ Parts sizes (now cells) (now filled) × (u < sizes .records) × Room at (recordLine sizes (cellsOf (now cells) (now filled)) u) (now page) ⌝ }
+    ensures { λ r. ⌜ Put at (recordLine sizes (cellsOf (now (cells .entry)) (now (filled .entry))) u) (now (page .entry)) (now (page .exit)) r ⌝ }
 {
     let mut next = put_number(page, at, u as u64);
     for f in 0..sizes.references + sizes.measures {
@@ -64,8 +64,8 @@ fn put_record(
 }
 
 fn put_records(page: &mut [u8], at: usize, cells: &[u8], filled: &[u8], sizes: Sizes) -> usize
-    requires { ⌜ Parts sizes (now cells) (now filled) × (at + recordsRoom (sizes .records) (width sizes) ≤ length (now page)) ⌝ }
-    ensures { λ r. ⌜ r ≤ at + recordsRoom (sizes .records) (width sizes) ⌝ }
+    requires { ⌜ Parts sizes (now cells) (now filled) × Room at (inARow (sizes .records) (recordLine sizes (cellsOf (now cells) (now filled)))) (now page) ⌝ }
+    ensures { λ r. ⌜ Put at (inARow (sizes .records) (recordLine sizes (cellsOf (now (cells .entry)) (now (filled .entry))))) (now (page .entry)) (now (page .exit)) r ⌝ }
 {
     let mut next = at;
     for u in 0..sizes.records {
@@ -74,10 +74,10 @@ fn put_records(page: &mut [u8], at: usize, cells: &[u8], filled: &[u8], sizes: S
     next
 }
 
-// The listing of a register file of at most 100 cells.
+// The listing of a register file.
 pub fn put_listing(page: &mut [u8], file: &[u8], sizes: Sizes, ran: Ran) -> usize
-    requires { ⌜ Limits sizes × (length (now file) ≡ 12 + 5 * cellCount sizes) × (length (now file) ≤ 512) × (length (now page) ≡ pageRoom) ⌝ }
-    ensures { λ r. ⌜ r ≤ pageRoom ⌝ }
+    requires { ⌜ Limits sizes × (length (now file) ≡ 12 + 5 * cellCount sizes) × Room 0 (listing sizes (cellsOfFile sizes (now file)) (ran .finished) (ran .exchanges) (ran .letters)) (now page) ⌝ }
+    ensures { λ r. ⌜ Put 0 (listing sizes (cellsOfFile sizes (now (file .entry))) (ran .finished) (ran .exchanges) (ran .letters)) (now (page .entry)) (now (page .exit)) r ⌝ }
 {
     let at = put_header(page, sizes.records, ran);
     let cells = cells::values_part(file, sizes);
@@ -85,10 +85,10 @@ pub fn put_listing(page: &mut [u8], file: &[u8], sizes: Sizes, ran: Ran) -> usiz
     put_records(page, at, cells, filled, sizes)
 }
 
-// "A refusal prints only `refused N at K`"
+// A refusal's number, and the number behind `at`.
 pub fn put_refused(page: &mut [u8], refusal: u32, place: usize) -> usize
-    requires { ⌜ length (now page) ≡ pageRoom ⌝ }
-    ensures { λ r. ⌜ r ≤ pageRoom ⌝ }
+    requires { ⌜ Room 0 (refusedLine refusal place) (now page) ⌝ }
+    ensures { λ r. ⌜ Put 0 (refusedLine refusal place) (now (page .entry)) (now (page .exit)) r ⌝ }
 {
     let number = put_bytes(page, 0, b"refused ");
     let next = put_count(page, number, refusal as u64, b" at ");

@@ -24,7 +24,7 @@ use Rattle.machine.proofs.Readings.{readings-pass}
 use Rattle.op_check.proofs.Passed.{loaded, passed, few-lines}
 use Rattle.op_run.specs.Direct.{Lengths, directRun}
 use Rattle.op_run.proofs.Answering.{run-refused, run-done}
-use Rattle.print_run.specs.RanBy.{printedRun}
+use Rattle.print_run.specs.Page.{printedRun}
 
 -- a register without reference fields
 module _ (s : Sizes) (none : s .references ≡ 0) where

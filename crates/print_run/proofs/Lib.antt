@@ -1,2 +1,5 @@
 -- Laws for the proofs of the functions.
 pub mod Enough
+pub mod Positive
+pub mod Valid
+pub mod Printing

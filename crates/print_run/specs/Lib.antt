@@ -1,3 +1,4 @@
--- What is printed of a run, and the number behind `at` of a refusal.
+-- The page that is printed, and what the program has of the run.
 pub mod Behind
+pub mod Page
 pub mod RanBy

@@ -1,16 +1,23 @@
-// The library's run, and what of its answer is printed.
+// The page that is printed for a register file and a rules text, from the library's run.
 ghost use mathlib.Core.Path.{_≡_};
 ghost use Prim.Native.Nat.{_≤_};
-ghost use lib.ListN.{length};
+ghost use lib.ListN.{length, take};
+ghost use Rattle.io.specs.Counts.{Counts};
+ghost use Rattle.register.specs.File.{sizesOf};
+ghost use Rattle.print_page.specs.Put.{Room, Put};
+ghost use Rattle.print_listing.specs.Room.{pageRoom};
 ghost use Rattle.print_run.specs.Behind.{behindAt};
-ghost use Rattle.print_run.specs.RanBy.{RanBy};
+ghost use Rattle.print_run.specs.RanBy.{RanBy, Whole, ranPage};
+ghost use Rattle.print_run.specs.Page.{printedPage};
+use print_listing;
 use print_listing::Ran;
+use print_page;
 
 // "allowance 1,000"
 const BUDGET: u16 = 1000;
 
 // The run of a text over a register file of at most 512 bytes, for which 6,600 places are enough (`proofs/Enough`).
-pub fn run(file: &[u8], text: &[u8], out: &mut [u8]) -> Ran
+fn run(file: &[u8], text: &[u8], out: &mut [u8]) -> Ran
     requires { ⌜ (length (now file) ≤ 512) × (length (now out) ≡ length (now file)) ⌝ }
     ensures { λ r. ⌜ RanBy (now (file .entry)) (now (text .entry)) (now (out .entry)) (now (out .exit)) r ⌝ }
 {
@@ -28,7 +35,7 @@ pub fn run(file: &[u8], text: &[u8], out: &mut [u8]) -> Ran
 }
 
 // The number behind `at` where a refusal is printed.
-pub fn behind_at(refusal: u32, line: usize, finished: u16) -> usize
+fn behind_at(refusal: u32, line: usize, finished: u16) -> usize
     ensures { λ r. ⌜ r ≡ behindAt refusal line finished ⌝ }
 {
     match refusal {
@@ -36,4 +43,32 @@ pub fn behind_at(refusal: u32, line: usize, finished: u16) -> usize
         20 | 21 => finished as usize,
         _ => 0,
     }
+}
+
+// What is printed of a run over `file` that left the register `out`.
+fn put_ran(page: &mut [u8], file: &[u8], out: &[u8], ran: Ran) -> usize
+    requires { ⌜ Room 0 (ranPage (sizesOf (now file)) (now out) ran) (now page) × (ran .refusal ≡ 0 → Whole (now file) (now out)) ⌝ }
+    ensures { λ r. ⌜ Put 0 (ranPage (sizesOf (now (file .entry))) (now (out .entry)) ran) (now (page .entry)) (now (page .exit)) r ⌝ }
+{
+    if ran.refusal != 0 {
+        let place = behind_at(ran.refusal, ran.line, ran.finished);
+        return print_listing::put_refused(page, ran.refusal, place);
+    }
+    print_listing::put_listing(page, out, register::sizes_of(file), ran)
+}
+
+// The page of a register file and a text, put at the start of `page`: its length.
+pub fn page_of(file: &[u8], text: &[u8], page: &mut [u8]) -> usize
+    requires { ⌜ length (now page) ≡ pageRoom ⌝ }
+    ensures { λ r. ⌜ Counts r (now (page .exit)) ⌝ }
+    ensures { λ r. ⌜ take r (now (page .exit)) ≡ printedPage (now (file .entry)) (now (text .entry)) ⌝ }
+{
+    let length = file.len();
+    if 512 < length {
+        return print_page::put_bytes(page, 0, b"too large\n");
+    }
+    let mut space = [0u8; 512];
+    let out = &mut space[..length];
+    let ran = run(file, text, out);
+    put_ran(page, file, out, ran)
 }

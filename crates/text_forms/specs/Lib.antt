@@ -1,5 +1,4 @@
 -- The lines of a rules text.
-pub mod Bytes
 pub mod Written
 pub mod Span
 pub mod Numeral

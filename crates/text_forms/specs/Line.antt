@@ -7,7 +7,7 @@ use mathlib.Core.Option.{Option, none, some}
 use Rattle.chain_text.specs.Text as C
 use Rattle.chain_text.specs.Text.{isCapital, printed}
 use Rattle.laws.specs.Lists.{every}
-use Rattle.text_forms.specs.Bytes.{bytes}
+use Rattle.laws.specs.Bytes.{bytes}
 use Rattle.text_forms.specs.Written.{Term, Condition, always, when, Action, set, combine, remote, Line, step, end, done, loop, rule}
 use Rattle.program.specs.declared.rule.Comparison.{Comparison}
 use Rattle.program.specs.declared.rule.Comparison.the-variants.{Less, Equal, Unequal}

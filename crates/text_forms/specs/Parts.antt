@@ -70,12 +70,12 @@ isReferenceTerm (chain []) = true
 isReferenceTerm (chain (l ∷ ls)) = isReferenceLetter l
 isReferenceTerm (number negative ds) = false
 
--- whether two kinds are the sameKind
+-- whether two kinds are the same
 unfoldable pub sameKind : Bool → Bool → Bool
 sameKind true b = b
 sameKind false b = not b
 
--- "Both sides of a rule or test have the sameKind kind"
+-- "Both sides of a rule or test have the same kind"
 unfoldable pub conditionKinds : Condition → Bool
 conditionKinds always = true
 conditionKinds (when x c y) = sameKind (isReferenceTerm x) (isReferenceTerm y)

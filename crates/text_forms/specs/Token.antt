@@ -6,7 +6,7 @@ use mathlib.Core.Option.{Option, none, some}
 use lib.Dec.{eqb}
 use Rattle.chain_text.specs.Text.{isCapital}
 
--- A text that opensWith with a token: the token and what stands behind it; or the text opensWith otherwise.
+-- A text that begins with a token: the token and what stands behind it; or the text begins otherwise.
 pub data Token (A : Type 0) : Type 0 where
   token : A → List ℕ → Token A
   other : Token A
@@ -37,7 +37,7 @@ unfoldable pub finished : {A : Type 0} → A → List ℕ → Option A
 finished a [] = some a
 finished a (b ∷ r) = none
 
--- whether a text opensWith with a word
+-- whether a text begins with a word
 unfoldable pub opensWith : List ℕ → List ℕ → Bool
 opensWith [] t = true
 opensWith (b ∷ w) [] = false

@@ -13,7 +13,7 @@ use Rattle.laws.proofs.Bools.{and-true, and-false}
 use Rattle.register.specs.declared.Sizes.{Sizes}
 use Rattle.chain_text.specs.Text as C
 use Rattle.chain_text.specs.Text.{names, letterField}
-use Rattle.text_forms.specs.Bytes.{bytes}
+use Rattle.laws.specs.Bytes.{bytes}
 use Rattle.text_forms.specs.Written as W
 use Rattle.text_forms.specs.Token.{other, capital, then, word, or, finished, opensWith}
 use Rattle.text_forms.specs.Term.{termForm}

@@ -12,7 +12,7 @@ use Rattle.register.specs.declared.Sizes.{Sizes}
 use Rattle.chain_text.specs.Text.{isCapital, letterField, names, isReferenceLetter}
 use Rattle.text_forms.specs.Written as W
 use Rattle.text_forms.specs.Token.{Token, token, other, capital, then, word, or, finished, opensWith}
-use Rattle.text_forms.specs.Bytes.{bytes}
+use Rattle.laws.specs.Bytes.{bytes}
 use Rattle.text_forms.specs.Term.{termForm}
 use Rattle.text_forms.specs.Line.{made, combinedForm, assigned, localForm}
 use Rattle.text_forms.specs.Parts.{sameKind, target, actionKinds, areMeasures, actionTerms, everyTerm, termNamed, termKinded, termShort, termInRange}

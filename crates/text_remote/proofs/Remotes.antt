@@ -16,7 +16,7 @@ use Rattle.chain_text.specs.declared.letters.Letters.{Letters}
 use Rattle.chain_text.specs.declared.text.Scanned.the-variants.{Chain, NoForm as NoChain}
 use Rattle.chain_text.proofs.Forms.{spelled, form-u, form-opens, form-none, form-rest, form-length, closed-yes, closed-no}
 use Rattle.chain_text.proofs.Scanning.{first-at}
-use Rattle.text_forms.specs.Bytes.{bytes}
+use Rattle.laws.specs.Bytes.{bytes}
 use Rattle.text_forms.specs.Written as W
 use Rattle.text_forms.specs.Token.{capital, then, or, opensWith}
 use Rattle.text_forms.specs.Line.{sentForms, remoteForm, localForm, actionForm}

@@ -18,7 +18,7 @@ use Rattle.text_forms.specs.Token.{capital, then, word, or, finished}
 use Rattle.text_forms.specs.Term.{ofNumber, ofChain, termForm}
 use Rattle.text_forms.specs.Line.{assigned, localForm, sentForms, remoteForm, actionForm, ruleLine, compared, testedForm, lineForm}
 use Rattle.text_forms.specs.Parts.{numbersInRange, termInRange, short, termShort, kinded, kindsAgree, actionKinds, areMeasures, conditionKinds, sameKind, isReferenceTerm, termKinded, named, fieldNamed, termNamed, target, everyTerm, terms, actionTerms, conditionTerms}
-use Rattle.text_forms.specs.Bytes.{bytes}
+use Rattle.laws.specs.Bytes.{bytes}
 use Rattle.text_rules.specs.Check.{lineRefusal, planFits, sortsAgree, oneSort, hasRoom, inPlace, openRules, isOpen, isUsed, isOutside}
 use Rattle.program.specs.Program.{someTarget, isTotal, isLeast, Rule, Program, hasRemote, isRemote, stepPlan, readings, ruleReadings, targetReadings, testReadings, expressionReadings}
 use Rattle.program.specs.Program as P

@@ -10,7 +10,7 @@ use lib.Dec.{leb}
 use Rattle.chain_text.specs.Text.{isCapital, printed}
 use Rattle.laws.specs.Lists.{every, Each}
 use Rattle.laws.proofs.Bools.{and-both, and-true}
-use Rattle.text_forms.specs.Bytes.{bytes}
+use Rattle.laws.specs.Bytes.{bytes}
 use Rattle.text_forms.specs.Numeral.{isDigit, printedNumber}
 use Rattle.text_forms.specs.Written.{Term, chain, number, always, when, Action, set, combine, remote, Line, step, end, done, loop, rule}
 use Rattle.program.specs.declared.rule.Comparison.{Comparison}

@@ -1,4 +1,4 @@
--- A text that opensWith with a word.
+-- A text that begins with a word.
 use Prim.Native.Nat.{ℕ, suc, _+_, _-_, _≤_, _<_}
 use mathlib.Core.Path.{_≡_, refl, sym, ap, ap₂, _∙_}
 use mathlib.Core.Bool.{Bool, true, false, _&&_}
@@ -16,7 +16,7 @@ use Rattle.text_forms.specs.Token.{opensWith}
 use Rattle.text_tokens.specs.declared.token.Place.{Place}
 use Rattle.text_tokens.specs.declared.token.Place.the-variants.{At, Nothing}
 
--- a text that opensWith with a word is the word and something behind it
+-- a text that begins with a word is the word and something behind it
 pub begins-text : (w t : List ℕ) → opensWith w t ≡ true → t ≡ w ++ drop (length w) t
 unfolding opensWith
 begins-text [] t h = refl

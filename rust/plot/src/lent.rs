@@ -110,7 +110,7 @@ unsafe extern "C" {
 }
 
 /// Reads a chain at a record: `value` becomes the cell's value, 0 where it is
-/// unfilled or the call is refused.
+/// unfilled. Where the call is refused it stays.
 pub fn read(
     register: &[u8],
     chain: &[u8],

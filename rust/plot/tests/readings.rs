@@ -25,14 +25,15 @@ struct Expected {
     answer: Answer,
 }
 
-fn expected(answer: Result<Cell, Refusal>) -> Expected {
+/// For a value that was lent as `before`, which a refusal leaves.
+fn expected(before: i64, answer: Result<Cell, Refusal>) -> Expected {
     let mut expected = Expected {
         refusal: 0,
-        value: 0,
+        value: before,
         answer: [0; 8],
     };
     match answer {
-        Ok(Cell::Missing) => (),
+        Ok(Cell::Missing) => expected.value = 0,
         Ok(Cell::Value(value)) => {
             expected.value = i64::from(value);
             expected.answer[lent::FILLED] = 1;
@@ -52,12 +53,14 @@ fn name(chain: &[u8], answer: Result<Cell, Refusal>) -> String {
     }
 }
 
-/// One case: the library, lent a value and an answer full of rubbish, sets both whole.
+/// One case: the library, lent a value and an answer full of rubbish, sets both
+/// whole, and the value only where it does not refuse.
 fn compare(random: &mut Random, tally: &mut Tally, register: &[u8], chain: &[u8], record: u64) {
     let _failing = OnFailure::new(register)
         .bytes("chain", chain)
         .number("record", record);
-    let mut value = random.number() as i64;
+    let before = random.number() as i64;
+    let mut value = before;
     let mut answer = any_answer(random);
     let refusal = lent::read(register, chain, record, &mut value, &mut answer);
     let from_paper = reading(register, chain, record);
@@ -67,7 +70,7 @@ fn compare(random: &mut Random, tally: &mut Tally, register: &[u8], chain: &[u8]
             value,
             answer
         },
-        expected(from_paper),
+        expected(before, from_paper),
     );
     tally.count(&name(chain, from_paper));
 }

@@ -4,7 +4,7 @@ use mathlib.Core.Path.{sym, ap, _∙_, _≡_}
 use mathlib.Core.Bool.{false}
 use borrow.Author.Needs.{needs}
 use denote.Ref.{now}
-use Rattle.text_forms.specs.Bytes.{bytes}
+use Rattle.laws.specs.Bytes.{bytes}
 use Rattle.text_line.specs.LineRead.{isWord, lineRead}
 use Rattle.text_line.proofs.Reading.{line-step, line-end, line-done, line-open}
 use Rattle.text_line.proofs.line.read_line.Statement.{statement}

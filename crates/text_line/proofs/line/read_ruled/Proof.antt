@@ -4,7 +4,7 @@ use mathlib.Core.Path.{sym, ap, _∙_}
 use native.Mathlib.Omega.{arith}
 use borrow.Author.Needs.{needs}
 use denote.Ref.{now}
-use Rattle.text_forms.specs.Bytes.{bytes}
+use Rattle.laws.specs.Bytes.{bytes}
 use Rattle.text_forms.specs.Written as W
 use Rattle.text_line.specs.LineRead.{lineRead}
 use Rattle.text_tokens.proofs.Words.{literal-taken, literal-refused, Taken}

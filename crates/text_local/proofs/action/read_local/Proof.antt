@@ -4,7 +4,7 @@ use Prim.Native.Nat.{_+_}
 use mathlib.Core.Path.{sym, ap, _∙_}
 use borrow.Author.Needs.{needs}
 use denote.Ref.{now}
-use Rattle.text_forms.specs.Bytes.{bytes}
+use Rattle.laws.specs.Bytes.{bytes}
 use Rattle.text_local.specs.ActionRead.{actionRead}
 use Rattle.text_tokens.proofs.Words.{literal-taken, literal-refused, Taken}
 use Rattle.text_terms.proofs.Answers.{term-taken, term-refused, TermTaken}

@@ -3,7 +3,7 @@
 use mathlib.Core.Path.{sym, ap, _∙_}
 use borrow.Author.Needs.{needs}
 use denote.Ref.{now}
-use Rattle.text_forms.specs.Bytes.{bytes}
+use Rattle.laws.specs.Bytes.{bytes}
 use Rattle.text_local.specs.ActionRead.{actionRead}
 use Rattle.text_tokens.proofs.Words.{literal-taken, literal-refused, Taken}
 use Rattle.text_remote.proofs.Remotes.{target-taken, target-refused, action-local, action-no-target, action-sent, Targeted}

@@ -1,0 +1,4 @@
+-- Laws for the proofs of the functions.
+pub mod Digits
+pub mod Putting
+pub mod Signs
