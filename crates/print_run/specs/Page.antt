@@ -13,7 +13,8 @@ use Rattle.machine_messages.specs.Counts.{exchanges, messages}
 use Rattle.print_listing.specs.Listing.{listing, refusedLine, tooLarge}
 use Rattle.print_run.specs.Behind.{behindAt}
 
--- the run by letters, "allowance 1,000"; no refusal 18 or 19, for no length of a buffer is in it
+-- the run, "allowance 1,000": by letters it is the direct one (`Same.run-same`); no refusal 18 or 19, for no length of a
+-- buffer is in it
 unfoldable pub printedRun : List ℕ → List ℕ → Outcome Run
 printedRun file text = let s = sizesOf file in after (check file text) (λ p. done (run s (direct s) p 1000 (cellsOfFile s file)))
 
