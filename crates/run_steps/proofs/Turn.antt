@@ -15,7 +15,7 @@ use Rattle.register.specs.declared.cells.Cell.the-variants.{Missing}
 use Rattle.plan_lines.specs.Held.{facts}
 use Rattle.plan_lines.proofs.Appending.{holds-count}
 use Rattle.program.specs.declared.location.Located.{Located}
-use Rattle.program.specs.Program.{Rule, Step, Program, stepPlan, hasRemote, mostLines}
+use Rattle.program.specs.Program.{Rule, Step, Program, readings, stepPlan, hasRemote, mostLines}
 use Rattle.program.specs.Passed.{SettingPasses, StepPasses, ProgramPasses}
 use Rattle.program.specs.Stored.{ruleIn, rulesIn}
 use Rattle.program.specs.declared.frame.Frame.{Frame}
@@ -24,6 +24,7 @@ use Rattle.program.specs.declared.Program as R
 use Rattle.machine.specs.Remote.{recordMessages}
 use Rattle.machine.specs.Run.{direct}
 use Rattle.machine.specs.Step.{stepCells}
+use Rattle.machine.proofs.Readings.{readings-pass, step-promised}
 use Rattle.machine.proofs.Running.{running-passes}
 use Rattle.machine.proofs.Untouched.{step-untouched}
 use Rattle.machine_messages.specs.declared.Machine.{Machine}
@@ -109,7 +110,15 @@ module _ {m : Machine} {s : Sizes} {p : R.Program} {budget : ℕ} {file : List �
 
   -- its plan, and the room that it needs
   pub planned : StepPlanned s (frame .plan)
-  planned = record { rules = here t inside .rules; passes = step-passes .rules; holds = at-step .frame .holds }
+  planned =
+      let holds = at-step .frame .holds in
+      record {
+        readings = readings (here t inside .rules);
+        passes = readings-pass s (here t inside .rules) (step-passes .rules .each);
+        promised = step-promised (here t inside .rules) holds;
+        keys-length = holds .keyed .places;
+        rounds-length = holds .rounds-are .places;
+      }
 
   pub lines-room : frame .plan .count * s .records ≤ at
   lines-room =

@@ -42,7 +42,7 @@ listed : (c : tie.In-loop Inv-loop μ-loop) → c .before .loop .i < start c .ar
 listed c = omega arith
 
 inside : (c : tie.In-loop Inv-loop μ-loop) → c .before .loop .i < 64
-inside c = omega (arith, listed c, start c .pre .2 .lines .keyed .taken≤)
+inside c = omega (arith, listed c, start c .pre .2 .lines .count≤)
 
 element-copy-out-if1 : tie.Need-element-copy-out-if1 Inv-loop μ-loop
 element-copy-out-if1 c = inside c

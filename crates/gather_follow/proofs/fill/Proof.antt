@@ -62,7 +62,7 @@ chain-of-requires c κs = search needs
 -- the line that is looked at, by its kind and word
 this-line : (c : tie.In-loop Inv-loop μ-loop) {k : Kind} {w : List ℕ} → let fact = factOf (getD (now (start c .args .keys)) (at c) 0) in
     k ≡ kind fact → w ≡ word fact → line (factsIn (now (start c .args .keys)) (start c .args .count)) (at c) ≡ kindFact k w
-this-line c e q = line-by-key _ _ (at c) (start c .pre .2 .keyed) (omega arith) e q
+this-line c e q = line-by-key _ _ (at c) (let r = start c .pre .2 in omega (arith, r .keys-length, r .count≤)) (omega arith) e q
 
 fill-line-requires : tie.Need-fill-line-requires Inv-loop μ-loop
 fill-line-requires c κs =
