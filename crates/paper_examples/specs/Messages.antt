@@ -13,7 +13,7 @@ use Rattle.machine_messages.specs.Held.{knows, writer, needed, written, sent, h
 use Rattle.machine_messages.specs.Counts.{mostRounds, heldIn, byMessages, lineMessages, planMessages, stepExchanges, stepMessages, exchanges, messages}
 use Rattle.paper_examples.specs.Printed.{printedSizes, printedCells}
 use Rattle.paper_examples.specs.Programs.{printedStep}
-use Rattle.paper_examples.specs.Runs.{exampleRun, exampleMessages, printedResult}
+use Rattle.paper_examples.specs.Runs.{exampleRun, overPrinted, printedResult}
 
 -- the lines of a step's plan, each with its messages over the cells before the step
 unfoldable pub lineCounts : Sizes → Step → List Cell → List (Fact × ℕ)
@@ -37,8 +37,8 @@ unfolding lineCounts printedSizes printedCells
 printed-lines = refl
 
 -- "3 exchanges 4 letters"
-pub printed-counts : counted printedSizes (exampleMessages (printedStep ∷ [])) ≡ (3, 4)
-unfolding counted exampleMessages
+pub printed-counts : counted printedSizes (overPrinted (printedStep ∷ [])) ≡ (3, 4)
+unfolding counted overPrinted
 printed-counts = refl
 
 -- the printed values, by messages

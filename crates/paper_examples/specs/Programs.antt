@@ -67,11 +67,12 @@ pub most-text : (n : ℕ) → exampleProgram n "step\nM[u] := 2147483647 + 0\nen
 unfolding exampleProgram
 most-text n = refl
 
--- "two remote amounts 1 and −1", each record's to itself
+-- "M at 2147483647 with two remote amounts 1 and −1", each record's to itself: the step before it leaves M so
 abbrev pub amountsStep : Step
 amountsStep = stepOf (untested (remote Total 8 []) (constant (pos 1)) ∷ untested (remote Total 8 []) (constant (negsuc 0)) ∷ [])
 
-pub amounts-text : (n : ℕ) → exampleProgram n "step\nremote M[u] += 1\nremote M[u] += -1\nend\n" ≡ done (amountsStep ∷ [])
+pub amounts-text : (n : ℕ) → exampleProgram n "step\nM[u] := 2147483647 + 0\nend\nstep\nremote M[u] += 1\nremote M[u] += -1\nend\n"
+    ≡ done (mostStep ∷ amountsStep ∷ [])
 unfolding exampleProgram
 amounts-text n = refl
 
