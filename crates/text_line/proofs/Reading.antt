@@ -15,7 +15,7 @@ use Rattle.chain_text.specs.Text as C
 use Rattle.chain_text.specs.Text.{names, letterField}
 use Rattle.laws.specs.Bytes.{bytes}
 use Rattle.text_forms.specs.Written as W
-use Rattle.text_forms.specs.Token.{other, capital, then, word, or, finished, opensWith}
+use Rattle.text_forms.specs.Token.{other, capital, then, literal, or, finished, opensWith}
 use Rattle.text_forms.specs.Term.{termForm}
 use Rattle.text_forms.specs.Line.{localForm, actionForm, ruleLine, compared, testedForm, lineForm}
 use Rattle.text_forms.specs.Parts.{terms, conditionTerms, actionTerms, everyTerm, fieldNamed, named, kindsAgree, kinded, short, numbersInRange, conditionKinds, actionKinds, termNamed, termKinded, termShort, termInRange, target}
@@ -131,15 +131,15 @@ sides x r = or (compared x Less r) (or (compared x Equal r) (compared x Unequal 
 
 -- behind a comparison that stands
 less-sides : (x : W.Term) (r : List ℕ) → sides x (bytes " < " ++ r) ≡ comparedForm x Less r
-unfolding compared comparedForm word or
+unfolding compared comparedForm literal or
 less-sides x r = or-none (comparedForm x Less r)
 
 equal-sides : (x : W.Term) (r : List ℕ) → sides x (bytes " == " ++ r) ≡ comparedForm x Equal r
-unfolding compared comparedForm word or
+unfolding compared comparedForm literal or
 equal-sides x r = or-none (comparedForm x Equal r)
 
 unequal-sides : (x : W.Term) (r : List ℕ) → sides x (bytes " != " ++ r) ≡ comparedForm x Unequal r
-unfolding compared comparedForm word or
+unfolding compared comparedForm literal or
 unequal-sides x r = refl
 
 module _ (t : List ℕ) (at : ℕ) (x : W.Term) where
@@ -188,7 +188,7 @@ module _ (s : Sizes) (t : List ℕ) (at : ℕ) (x : W.Term) (c : Comparison) whe
     abbrev rest-rule : List ℕ → Option W.Line
     rest-rule r = ruleLine (W.when x c (q .written)) (actionForm r)
 
-    compared-term : comparedForm x c (drop at t) ≡ word (bytes ": ") (drop end t) rest-rule
+    compared-term : comparedForm x c (drop at t) ≡ literal (bytes ": ") (drop end t) rest-rule
     unfolding comparedForm then
     compared-term = rw (q .stands)
 
@@ -219,7 +219,7 @@ module _ (s : Sizes) (t : List ℕ) (at : ℕ) where
 
 -- a rule, with a test or without; no rule begins with `if `
 action-if : (r : List ℕ) → ruleLine W.always (actionForm (bytes "if " ++ r)) ≡ none
-unfolding actionForm localForm capital then word or ruleLine C.isCapital
+unfolding actionForm localForm capital then literal or ruleLine C.isCapital
 action-if r = refl
 
 module _ (t : List ℕ) where
@@ -232,7 +232,7 @@ module _ (t : List ℕ) where
 
 -- a loop's first line; no rule begins with `loop `
 ruled-loop : (r : List ℕ) → ruledForm (bytes "loop " ++ r) ≡ none
-unfolding actionForm localForm capital then word or ruleLine C.isCapital
+unfolding actionForm localForm capital then literal or ruleLine C.isCapital
 ruled-loop r = refl
 
 module _ (t : List ℕ) where
@@ -272,7 +272,7 @@ module _ (w t : List ℕ) where
   word-not e = sym (and-false (eqb (length w) (length t)) e) ∙ e
 
   module _ {A : Type 0} (a : A) where
-    word-by : word w t (finished a) ≡ cond (isWord w t) (some a) none
+    word-by : literal w t (finished a) ≡ cond (isWord w t) (some a) none
     unfolding isWord
     word-by = word-begins w t (finished a) ∙ go (opensWith w t) refl
       where
@@ -287,10 +287,10 @@ module _ (w t : List ℕ) where
         go true h = whole h (eqb (length w) (length t)) refl
         go false h = refl
 
-    pub word-yes : isWord w t ≡ true → word w t (finished a) ≡ some a
+    pub word-yes : isWord w t ≡ true → literal w t (finished a) ≡ some a
     word-yes e = word-by ∙ ap (λ (x : Bool). cond x (some a) none) e
 
-    pub word-no : isWord w t ≡ false → word w t (finished a) ≡ none
+    pub word-no : isWord w t ≡ false → literal w t (finished a) ≡ none
     word-no e = word-by ∙ ap (λ (x : Bool). cond x (some a) none) e
 
 -- the whole line

@@ -10,7 +10,7 @@ use Rattle.register.specs.declared.Sizes.{Sizes}
 use Rattle.chain_text.specs.Text.{names, letterField}
 use Rattle.laws.specs.Bytes.{bytes}
 use Rattle.text_forms.specs.Written as W
-use Rattle.text_forms.specs.Token.{capital, then, word, or, finished, opensWith}
+use Rattle.text_forms.specs.Token.{capital, then, literal, or, finished, opensWith}
 use Rattle.text_forms.specs.Term.{termForm}
 use Rattle.text_forms.specs.Line.{actionForm, ruleLine, testedForm}
 use Rattle.text_forms.specs.Parts.{sameKind, conditionTerms, conditionKinds, named, kinded, short, numbersInRange}
@@ -73,7 +73,7 @@ comparisonRead at t = cond (opensWith (bytes " < ") t) (At Less (at + 3)) (equal
 
 -- `Y: ` and a rule, behind `if X` and a comparison
 unfoldable pub comparedForm : W.Term → Comparison → List ℕ → Option W.Line
-comparedForm x c t = then (termForm t) (λ y r. word (bytes ": ") r (λ r. ruleLine (W.when x c y) (actionForm r)))
+comparedForm x c t = then (termForm t) (λ y r. literal (bytes ": ") r (λ r. ruleLine (W.when x c y) (actionForm r)))
 
 -- an answer that is right for every term with these parts
 abbrev pub ForSide : Sizes → TermParts → (W.Term → LineRead) → LineRead → Type 0
@@ -81,7 +81,7 @@ ForSide s p answer r = (w : W.Term) → p ≡ partsOf s w → r ≡ answer w
 
 -- a rule with a test or without
 abbrev pub ruledForm : List ℕ → Option W.Line
-ruledForm t = or (word (bytes "if ") t testedForm) (ruleLine W.always (actionForm t))
+ruledForm t = or (literal (bytes "if ") t testedForm) (ruleLine W.always (actionForm t))
 
 -- the field of a loop, behind `loop `
 abbrev pub loopForm : List ℕ → Option W.Line
@@ -89,7 +89,7 @@ loopForm t = then (capital t) (λ f. finished (W.loop f))
 
 -- a loop's first line, or a rule
 abbrev pub openForm : List ℕ → Option W.Line
-openForm t = or (word (bytes "loop ") t loopForm) (ruledForm t)
+openForm t = or (literal (bytes "loop ") t loopForm) (ruledForm t)
 
 -- whether a word is the whole text
 unfoldable pub isWord : List ℕ → List ℕ → Bool

@@ -31,7 +31,7 @@ use Rattle.text_rules.specs.Check.{State, isOutside, isOpen, openRules, lineRef
 use Rattle.text_rules.specs.Text.{lines, advance, lineOutcome, closedText, readFrom, start}
 use Rattle.text_rules.proofs.Checked.{Clean, refusal-none, rule-passes}
 use Rattle.text_rules.proofs.Passing.{Reached, start-reached, advance-reached}
-use Rattle.text_next.specs.Front.{front, firstForm}
+use Rattle.text_next.specs.Front.{lineBytes, firstForm}
 use Rattle.program.specs.Stored.{rulesIn}
 use Rattle.program.specs.Kept.{stepsIn, programOf}
 use Rattle.text_reader.specs.Answers.{outcomeOf, Answers}
@@ -82,13 +82,13 @@ begun s t h lw ls lf e = record {
 
 -- the outcome of a text from its first line
 first-line : (s : Sizes) (st : State) (k : ℕ) (t : List ℕ) → 0 < length t
-    → readFrom s st k (lines t) ≡ after (lineOutcome s st k (firstForm t)) (λ st. readFrom s st (suc k) (lines (drop (length (front t) + 1) t)))
+    → readFrom s st k (lines t) ≡ after (lineOutcome s st k (firstForm t)) (λ st. readFrom s st (suc k) (lines (drop (length (lineBytes t) + 1) t)))
 unfolding readFrom
 first-line s st k [] h = absurd (omega arith)
 first-line s st k (b ∷ t) h =
     let p = lines-first b t in
     ap (readFrom s st k) (p .2)
-    ∙ ap (λ (o : Option Line). after (lineOutcome s st k o) (λ st. readFrom s st (suc k) (lines (drop (length (front (b ∷ t)) + 1) (b ∷ t))))) (p .1)
+    ∙ ap (λ (o : Option Line). after (lineOutcome s st k o) (λ st. readFrom s st (suc k) (lines (drop (length (lineBytes (b ∷ t)) + 1) (b ∷ t))))) (p .1)
 
 -- a line that is refused
 pub refuse-none : {A : Type 0} (n k : ℕ) (o : Outcome A) → (n ≡ 0 → ⊥) → unless n k o ≡ refused n k
@@ -113,12 +113,12 @@ unfolding number lineOutcome after unless
 passed-line s st k none f h = absurd (omega arith)
 passed-line s st k (some l) f h = (l, refl, refusal-none s st l h, rw h)
 
-first-some : (t : List ℕ) (l : Line) → firstForm t ≡ some l → length (front t) < length t
+first-some : (t : List ℕ) (l : Line) → firstForm t ≡ some l → length (lineBytes t) < length t
 unfolding firstForm
-first-some t l h = go (ltb (length (front t)) (length t)) refl h
+first-some t l h = go (ltb (length (lineBytes t)) (length t)) refl h
   where
-    go : (b : Bool) → ltb (length (front t)) (length t) ≡ b → cond b (lineForm (front t)) none ≡ some l → length (front t) < length t
-    go true e h = ltb-true (length (front t)) (length t) e
+    go : (b : Bool) → ltb (length (lineBytes t)) (length t) ≡ b → cond b (lineForm (lineBytes t)) none ≡ some l → length (lineBytes t) < length t
+    go true e h = ltb-true (length (lineBytes t)) (length t) e
     go false e h = absurd (let z : _≡_ {A = ℕ} 0 1 = cc in omega arith)
 
 module _ (s : Sizes) (lim : Limits s) {t : List ℕ} {plan : Added} {wanted : List Bool} {slots : List Located}
@@ -128,13 +128,13 @@ module _ (s : Sizes) (lim : Limits s) {t : List ℕ} {plan : Added} {wanted : Li
     pub form : Line
     pub clean : Clean s (q .state) form
     pub is-read : read ≡ lineRead s (some form)
-    pub inside : at + length (front (drop at t)) < length t
-    pub onward : readFrom s start 1 (lines t) ≡ readFrom s (advance (q .state) form) (suc k) (lines (drop (at + length (front (drop at t)) + 1) t))
+    pub inside : at + length (lineBytes (drop at t)) < length t
+    pub onward : readFrom s start 1 (lines t) ≡ readFrom s (advance (q .state) form) (suc k) (lines (drop (at + length (lineBytes (drop at t)) + 1) t))
 
   module _ (read : LineRead) (here : at < length t) (e : read ≡ lineRead s (firstForm (drop at t))) where
     -- what follows it
     abbrev follows : State → Outcome Program
-    follows st = readFrom s st (suc k) (lines (drop (length (front (drop at t)) + 1) (drop at t)))
+    follows st = readFrom s st (suc k) (lines (drop (length (lineBytes (drop at t)) + 1) (drop at t)))
 
     outcome : readFrom s start 1 (lines t) ≡ after (lineOutcome s (q .state) k (firstForm (drop at t))) follows
     outcome = q .rest ∙ first-line s (q .state) k (drop at t) (simp length-drop (omega arith))
@@ -149,7 +149,7 @@ module _ (s : Sizes) (lim : Limits s) {t : List ℕ} {plan : Added} {wanted : Li
     pub passes : refusalOf x (plan .full) read ≡ 0 → Passes read
     passes h =
         let p = passed-line s (q .state) k (firstForm (drop at t)) follows (sym numbered ∙ h) in
-        let behind : at + (length (front (drop at t)) + 1) ≡ at + length (front (drop at t)) + 1 = omega arith in
+        let behind : at + (length (lineBytes (drop at t)) + 1) ≡ at + length (lineBytes (drop at t)) + 1 = omega arith in
         record {
           form = p .0;
           clean = p .2;
@@ -157,7 +157,7 @@ module _ (s : Sizes) (lim : Limits s) {t : List ℕ} {plan : Added} {wanted : Li
           inside = omega (arith, first-some (drop at t) (p .0) (p .1), length-drop at t);
           onward = outcome ∙ p .3
               ∙ ap (λ (u : List ℕ). readFrom s (advance (q .state) (p .0)) (suc k) (lines u))
-              (drop-drop (length (front (drop at t)) + 1) at t ∙ ap (λ (i : ℕ). drop i t) behind);
+              (drop-drop (length (lineBytes (drop at t)) + 1) at t ∙ ap (λ (i : ℕ). drop i t) behind);
         }
 
   rule-stored : (n : ℕ) {l : Line} {z : Slot} (c : W.Condition) (a : W.Action) → l ≡ rule c a → z ≡ record { test = R.packedTest c; rule = packedRule a }
@@ -243,13 +243,13 @@ module _ {s : Sizes} {lim : Limits s} {t : List ℕ} {plan : Added} {wanted : Li
   -- one line further
   pub again : {read : LineRead} (p : Passes s lim q read) {slots' : List Located} {frames' : List Frame} {plan' : Added} {wanted' : List Bool}
       → Behind slots' frames' plan' wanted' (advanceOf x (plan .plan .count) read) (advance (q .state) (p .form))
-      → Read s t plan' wanted' slots' frames' (advanceOf x (plan .plan .count) read) (at + length (front (drop at t)) + 1) (k + 1)
+      → Read s t plan' wanted' slots' frames' (advanceOf x (plan .plan .count) read) (at + length (lineBytes (drop at t)) + 1) (k + 1)
   again {read} p b = record {
     state = advance (q .state) (p .form);
     reached = advance-reached s lim (q .state) (p .form) (q .reached) (p .clean);
     stands = rw (p .is-read) (advance-stands s lim (q .stands) (plan .plan .count) (p .form) (p .clean) (end-lines p (plan .plan .count)));
     behind = b;
-    rest = p .onward ∙ ap (λ (i : ℕ). readFrom s (advance (q .state) (p .form)) i (lines (drop (at + length (front (drop at t)) + 1) t))) (sym (add-one k));
+    rest = p .onward ∙ ap (λ (i : ℕ). readFrom s (advance (q .state) (p .form)) i (lines (drop (at + length (lineBytes (drop at t)) + 1) t))) (sym (add-one k));
     within = omega (arith, p .inside);
     few = omega (arith, q .few);
   }
