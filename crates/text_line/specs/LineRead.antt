@@ -59,17 +59,14 @@ unfoldable pub ruleRead : TestParts → ActionRead → LineRead
 ruleRead p NoForm = NoLine
 ruleRead p (Action r checks) = Rule (record { test = p .test; rule = r }) (bothChecks (p .checks) checks)
 
--- ` != ` at the front of a text
-unfoldable pub unequalRead : ℕ → List ℕ → ComparisonRead
-unequalRead at t = cond (opensWith (bytes " != ") t) (At Unequal (at + 4)) NoComparison
-
--- ` == ` or ` != ` at the front of a text
-unfoldable pub equalRead : ℕ → List ℕ → ComparisonRead
-equalRead at t = cond (opensWith (bytes " == ") t) (At Equal (at + 4)) (unequalRead at t)
+-- the comparison whose text w a text begins with; or what is read otherwise
+unfoldable pub symbolRead : ℕ → List ℕ → Comparison → ComparisonRead → List ℕ → ComparisonRead
+symbolRead at w c otherwise t = cond (opensWith w t) (At c (at + length w)) otherwise
 
 -- the comparison that a text begins with
 unfoldable pub comparisonRead : ℕ → List ℕ → ComparisonRead
-comparisonRead at t = cond (opensWith (bytes " < ") t) (At Less (at + 3)) (equalRead at t)
+comparisonRead at t =
+    symbolRead at (bytes " < ") Less (symbolRead at (bytes " == ") Equal (symbolRead at (bytes " != ") Unequal NoComparison t) t) t
 
 -- `Y: ` and a rule, behind `if X` and a comparison
 unfoldable pub comparedForm : W.Term → Comparison → List ℕ → Option W.Line

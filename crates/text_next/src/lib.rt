@@ -16,7 +16,7 @@ fn goes_on(text: &[u8], at: usize) -> bool
     if text.len() <= at {
         return false;
     }
-    text[at] != 10
+    text[at] != b'\n'
 }
 
 // Where the line that begins at `at` ends: at its byte 10, or at the end of the text.
