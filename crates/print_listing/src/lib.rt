@@ -76,7 +76,8 @@ fn put_records(page: &mut [u8], at: usize, cells: &[u8], filled: &[u8], sizes: S
 
 // The listing of a register file.
 pub fn put_listing(page: &mut [u8], file: &[u8], sizes: Sizes, ran: Ran) -> usize
-    requires { ⌜ Limits sizes × (length (now file) ≡ 12 + 5 * cellCount sizes) × PageRoom 0 (listing sizes (cellsOfFile sizes (now file)) (ran .finished) (ran .exchanges) (ran .letters)) (now page) ⌝ }
+    requires { ⌜ Limits sizes × (length (now file) ≡ 12 + 5 * cellCount sizes)
+        × PageRoom 0 (listing sizes (cellsOfFile sizes (now file)) (ran .finished) (ran .exchanges) (ran .letters)) (now page) ⌝ }
     ensures { λ r. ⌜ PagePut 0 (listing sizes (cellsOfFile sizes (now (file .entry))) (ran .finished) (ran .exchanges) (ran .letters)) (now (page .entry)) (now (page .exit)) r ⌝ }
 {
     let at = put_header(page, sizes.records, ran);
