@@ -40,7 +40,7 @@ steps-length slots [] = refl
 steps-length slots (f ∷ fs) = ap suc (steps-length (drop 32 slots) fs)
 
 -- the 32 places of step i, of which those of its rules are located
-abbrev placesOf : List Located → ℕ → List Located
+abbrev pub placesOf : List Located → ℕ → List Located
 placesOf slots i = take 32 (drop (32 * i) slots)
 
 abbrev StepLocated : Frame → List Located → Type 0
