@@ -2,10 +2,10 @@
 use Prim.Native.Nat.{ℕ, suc, _+_, _*_, _≤_, _<_}
 use mathlib.Core.Path.{_≡_, sym, ap, _∙_}
 use mathlib.Core.Bool.{false, cond}
-use mathlib.Core.List.{List, [], _∷_, _++_}
+use mathlib.Core.List.{List}
 use native.Mathlib.Omega.{arith}
 use lib.IntN.{ℤ, pos}
-use lib.ListN.{length, getD, take}
+use lib.ListN.{length, getD}
 use lib.Seq.{getD-take}
 use Rattle.register.specs.File.{width, cellCount, cellIndex, cellsOfFile}
 use Rattle.register.specs.declared.Sizes.{Sizes}
@@ -38,13 +38,12 @@ use Rattle.run_steps.specs.Answer.{stoppedAt, Ends}
 use Rattle.run_steps.proofs.Bounds.{few-more, writes-few}
 use Rattle.run_steps.proofs.Counting.{counts-step}
 use Rattle.run_steps.proofs.Standing.{Behind, Stands, stands-offended, stands-next, passed-column}
-use Rattle.run_steps.proofs.Turn.{
-  Turn, frame, at, base, cells, inside, stepHere, rs, at-step, step-passes, limits, Prepared, ls, rules-taken, filled, lines-before, lines-few,
-  values-length, marks-length, step-room, step-working, step-sends, Applied,
-}
+use Rattle.run_steps.proofs.Turn.{Turn, frame, at, base, cells, inside, stepHere, rs, at-step, step-passes, limits, Prepared, ls, rules-taken}
+use Rattle.run_steps.proofs.Turn.{filled, lines-before, lines-few, values-length, marks-length, step-room, step-working, step-sends, Applied}
 
 -- what stands below `base` is kept
-kept-below : {base j : ℕ} {values values′ : List ℤ} {marks marks′ : List ℕ} → j < base → Same base values marks values′ marks′ → Kept j values marks values′ marks′
+kept-below : {base j : ℕ} {values values′ : List ℤ} {marks marks′ : List ℕ} → j < base → Same base values marks values′ marks′
+    → Kept j values marks values′ marks′
 kept-below {base} {j} {values} {values′} {marks} {marks′} h a =
     record {
       value-is = sym (getD-take base values′ j (pos 0) h) ∙ ap (λ (l : List ℤ). getD l j (pos 0)) (a .values-same) ∙ getD-take base values j (pos 0) h;
@@ -131,7 +130,10 @@ module _ {m : Machine} {s : Sizes} {p : R.Program} {budget : ℕ} {file : List �
       record {
         through = goes d (rw e at c);
         kept = λ u h. kept-again (filled b .behind (at a + u) (omega (arith, lines-before b))) (kept-below {j = at a + u} (omega arith) (d .same));
-        room = record { values-room = omega (arith, room .values-room, d .same .values-length); marks-room = omega (arith, room .marks-room, d .same .marks-length) };
+        room = record {
+          values-room = omega (arith, room .values-room, d .same .values-length);
+          marks-room = omega (arith, room .marks-room, d .same .marks-length);
+        };
         length-is = l;
       }
 

@@ -15,9 +15,7 @@ use Rattle.step_cells.specs.declared.stop.Stop.{Stop}
 use Rattle.step_cells.specs.declared.stop.Stop.the-variants.{Nowhere, At}
 use Rattle.step_cells.proofs.Working.{same-refl, same-then}
 use Rattle.step_rules.specs.Ready.{RuleReady, LocalRule, LocalDone, LocalAnswer}
-use Rattle.step_rules.proofs.Locals.{
-  RecordDone, ruleAt, record-start, record-more, record-stops, records-start, records-more, records-all,
-}
+use Rattle.step_rules.proofs.Locals.{RecordDone, ruleAt, record-start, record-more, record-stops, records-start, records-more, records-all}
 use Rattle.run_steps.proofs.Arrays.{placesOf}
 
 -- a loop that counts up to n comes to its end
@@ -88,6 +86,7 @@ module _ {s : Sizes} {cells : List Cell} {base : ℕ} {rules : List Located} {us
     left-within {k = k} limits row b h fits x ready rule o vₑ mₑ t =
         let inside : k < length rules = omega arith in
         let stops = rw o at rule in
-        rw (sym e ∙ t ∙ o, vₑ, mₑ)
-        (same-then (same-then (a .same) (b .done .same)) (stops .0),
-        record-stops rules k x inside h limits row (ready .field) (stops .1))
+        rw (sym e ∙ t ∙ o, vₑ, mₑ) (
+          same-then (same-then (a .same) (b .done .same)) (stops .0),
+          record-stops rules k x inside h limits row (ready .field) (stops .1),
+        )

@@ -1,7 +1,7 @@
 -- `run_steps::run_steps` meets its contract. The loop over the steps keeps where the run of the definition stands; a step's rules are
 -- taken out of the slots, and then done for each record, each rule in order.
 -- Assumes nothing.
-use Prim.Native.Nat.{ℕ, _+_, _*_, _-_, _≤_}
+use Prim.Native.Nat.{ℕ, _*_, _-_, _≤_}
 use mathlib.Core.Path.{_≡_, refl, sym, _∙_}
 use mathlib.Core.List.{List}
 use mathlib.Core.Logic.{⊎-elim}
@@ -16,17 +16,14 @@ use Rattle.step_cells.specs.Work.{Same}
 use Rattle.step_cells.specs.declared.stop.Stop.{Stop}
 use Rattle.step_cells.specs.declared.stop.Stop.the-variants.{Nowhere}
 use Rattle.step_cells.proofs.Working.{same-refl, same-then}
-use Rattle.run_steps.proofs.Loops.{
-  nearer, Taken, RulesDone, RecordsDone, rules-first, rules-next, records-first, records-next, left-behind, left-within,
-}
+use Rattle.run_steps.proofs.Loops.{nearer, Taken, RulesDone, RecordsDone, rules-first, rules-next, records-first, records-next, left-behind}
+use Rattle.run_steps.proofs.Loops.{left-within}
 use Rattle.run_steps.proofs.Standing.{lines-end, scratch-behind, Stands, stands-start, stands-complete, stands-exhausted}
-use Rattle.run_steps.proofs.Turn.{
-  Turn, base, limits, out-whole, out-length, inside, at-step, few-steps, few-rules, setting-passes, taken-first, taken-more, column-space, planned, lines-values,
-  lines-marks, Prepared, prepares, rules-fit, values-length, marks-length, Applied, room-still, ready-still, rule-ready, small-still,
-}
-use Rattle.run_steps.proofs.Done.{
-  ends-local, Done, done-remote, done-local, ends-total, Went, went, counts-small, next-whole, next-space, next-pass, next-stands,
-}
+use Rattle.run_steps.proofs.Turn.{Turn, base, limits, out-whole, out-length, at-step, few-steps, few-rules, setting-passes}
+use Rattle.run_steps.proofs.Turn.{taken-first, taken-more, column-space, planned, lines-values, lines-marks, Prepared, prepares, rules-fit}
+use Rattle.run_steps.proofs.Turn.{values-length, marks-length, Applied, room-still, ready-still, rule-ready, small-still}
+use Rattle.run_steps.proofs.Done.{ends-local, Done, done-remote, done-local, ends-total, Went, went, counts-small, next-whole, next-space}
+use Rattle.run_steps.proofs.Done.{next-pass, next-stands}
 use Rattle.run_steps.proofs.run_steps.Statement.{statement}
 use Rattle.run_steps.proofs.run_steps.Tie as tie
 
@@ -87,8 +84,8 @@ entry c = c .before .before .before .before .before .before
 abbrev Top : Type 0
 Top = Of tie.At-loop
 
-abbrev entryOf : Top → Entry
-entryOf c = entry (c .before .before .before)
+abbrev entryOfTop : Top → Entry
+entryOfTop c = entry (c .before .before .before)
 
 -- a turn of it: the budget is not spent
 abbrev Turning : Type 0
@@ -96,6 +93,9 @@ Turning = Of tie.Else1
 
 abbrev top : Turning → Top
 top c = c .before .before
+
+abbrev entryOfTurning : Turning → Entry
+entryOfTurning c = entryOfTop (top c)
 
 -- the head of the loop that takes the rules out
 abbrev Taking : Type 0
@@ -117,8 +117,8 @@ entered c = c .before .before .before .before .before .before .before .before .b
 abbrev taking : Gathered → Taking
 taking c = taken (entered (c .before) .before)
 
-abbrev turningOf : Gathered → Turning
-turningOf c = turning (taking c)
+abbrev turningOfGathered : Gathered → Turning
+turningOfGathered c = turning (taking c)
 
 -- the head of the loop over the records
 abbrev Records : Type 0
@@ -134,21 +134,24 @@ Ruling = Of tie.In-loop3
 abbrev records : Ruling → Records
 records c = c .before .before .before
 
+abbrev turningOfRuling : Ruling → Turning
+turningOfRuling c = turningOfGathered (gathered (records c))
+
 abbrev ruling : Of tie.After-apply-rule-arg3 → Ruling
 ruling c = c .before .before .before
 
 abbrev ruled : Of tie.After-enum-told2 → Of tie.After-apply-rule
 ruled c = c .before .before .before .before .before
 
-abbrev rulingOf : Of tie.After-enum-told2 → Ruling
-rulingOf c = ruling (ruled c .before .before)
+abbrev rulingOfRuled : Of tie.After-enum-told2 → Ruling
+rulingOfRuled c = ruling (ruled c .before .before)
 
 -- the loops over records and rules are left
 abbrev Left : Type 0
 Left = Of tie.Left-records
 
-abbrev gatheredOf : Left → Gathered
-gatheredOf c = gathered (c .before)
+abbrev gatheredOfLeft : Left → Gathered
+gatheredOfLeft c = gathered (c .before)
 
 abbrev left : Of tie.After-out-of-range → Left
 left c = c .before .before .before .before
@@ -157,8 +160,8 @@ left c = c .before .before .before .before
 abbrev Local : Type 0
 Local = Of tie.After-enum-told3
 
-abbrev leftOf : Local → Left
-leftOf c = c .before .before
+abbrev leftOfLocal : Local → Left
+leftOfLocal c = c .before .before
 
 abbrev local : Of tie.After-apply-arg3 → Local
 local c = c .before .before .before .before
@@ -167,8 +170,8 @@ local c = c .before .before .before .before
 abbrev Joined : Type 0
 Joined = Of tie.Joined2
 
-abbrev preparedOf : Joined → Gathered
-preparedOf c = gatheredOf (leftOf (c .before))
+abbrev gatheredOfJoined : Joined → Gathered
+gatheredOfJoined c = gatheredOfLeft (leftOfLocal (c .before))
 
 abbrev joined : Of tie.After-commit-arg3 → Joined
 joined c = c .before .before .before .before
@@ -183,8 +186,8 @@ Through = Of tie.After-enum-told4
 abbrev committed : Through → Of tie.After-commit
 committed c = c .before .before .before .before
 
-abbrev joinedOf : Through → Joined
-joinedOf c = joined (committed c .before)
+abbrev joinedOfThrough : Through → Joined
+joinedOfThrough c = joined (committed c .before)
 
 abbrev through : Of tie.After-next-arg3 → Through
 through c = c .before .before .before .before
@@ -215,7 +218,7 @@ ended-requires : Of tie.Need-ended-requires
 ended-requires c κs = tt
 
 same-length : Of tie.Need-same-length
-same-length c = let t = c .before .before .before in t .loop .inv .0 .register .whole ∙ sym (entryOf t .pre .0 .whole)
+same-length c = let t = c .before .before .before in t .loop .inv .0 .register .whole ∙ sym (entryOfTop t .pre .0 .whole)
 
 same-length-2 : Of tie.Need-same-length-2
 same-length-2 c = c .before .before .before .loop .inv .2
@@ -228,13 +231,13 @@ unfolding programOf
 returns c =
     let more = c .before .before in
     let t = more .before in
-    rw (c .ended .ensures) (stands-exhausted (t .loop .inv .0) (omega (arith, more .loop-test .taken, entryOf t .pre .2 .steps-are)) (c .before .if1 .taken))
+    rw (c .ended .ensures) (stands-exhausted (t .loop .inv .0) (omega (arith, more .loop-test .taken, entryOfTop t .pre .2 .steps-are)) (c .before .if1 .taken))
 
 -- A turn of the loop: the frame of the step.
 
 module _ (c : Turning) where
   abbrev e : Entry
-  e = entryOf (top c)
+  e = entryOfTurning c
 
   turn : Turn (e .args .machine) (e .args .sizes) (e .args .program) (e .args .budget) (now (e .args .out)) (top c .loop .step) (top c .loop .first)
       (top c .loop .finished) (top c .loop .counts) (top c .loop .out) (top c .loop .values) (top c .loop .marks)
@@ -300,20 +303,25 @@ gather-requires c κs =
     let pass = entered c .enter .ensures .1 in
     (t .stands .register, planned t, at-step t .frame .wanted-length, lines-values t pass, lines-marks t pass)
 
+-- the step can be run
 module _ (c : Gathered) where
-  prepared : Prepared (turn (turningOf c)) (taking c .loop2 .rules) (entered (c .before) .enter .last .1 .0) (entered (c .before) .enter .last .1 .1 .0)
+  abbrev o : Turning
+  o = turningOfGathered c
+
+  prepared : Prepared (turn o) (taking c .loop2 .rules) (entered (c .before) .enter .last .1 .0) (entered (c .before) .enter .last .1 .1 .0)
       (c .gather .last .1 .0) (c .gather .last .1 .1 .0) (c .gather .result)
   prepared =
       let pass = entered (c .before) in
-      prepares (turn (turningOf c)) (taking c .loop2 .inv) (pass .before .before .before .before .loop2-test .left) (pass .enter .ensures .1) (c .gather .ensures)
+      let all = pass .before .before .before .before .loop2-test .left in
+      prepares (turn o) (taking c .loop2 .inv) all (pass .enter .ensures .1) (c .gather .ensures)
 
-  -- the buffers have their lengths still
-  module _ {values : List ℤ} {marks : List ℕ} (same : Same (base (turn (turningOf c))) (c .gather .last .1 .0) (c .gather .last .1 .1 .0) values marks) where
-    values-still : length values ≡ length (now (e (turningOf c) .args .values))
-    values-still = same .values-length ∙ values-length prepared ∙ top (turningOf c) .loop .inv .2
+  -- whoever keeps what stands below the working cells keeps the lengths of the buffers
+  module _ {values : List ℤ} {marks : List ℕ} (same : Same (base (turn o)) (c .gather .last .1 .0) (c .gather .last .1 .1 .0) values marks) where
+    values-still : length values ≡ length (now (entryOfTurning o .args .values))
+    values-still = same .values-length ∙ values-length prepared ∙ top o .loop .inv .2
 
-    marks-still : length marks ≡ length (now (e (turningOf c) .args .marks))
-    marks-still = same .marks-length ∙ marks-length prepared ∙ top (turningOf c) .loop .inv .3
+    marks-still : length marks ≡ length (now (entryOfTurning o .args .marks))
+    marks-still = same .marks-length ∙ marks-length prepared ∙ top o .loop .inv .3
 
 -- The local rules, record by record and rule by rule.
 
@@ -326,16 +334,16 @@ loop3-holds c = rules-first (c .before .records .inv .nowhere)
 mul-apply-rule : Of tie.Need-mul-apply-rule
 mul-apply-rule c =
     let r = ruling c in
-    record { fits = omega (arith, few-rules (turn (turningOf (gathered (records r)))), r .loop3-test .taken) }
+    record { fits = omega (arith, few-rules (turn (turningOfRuling r)), r .loop3-test .taken) }
 
 array-copy-out-apply-rule : Of tie.Need-array-copy-out-apply-rule
-array-copy-out-apply-rule c = let r = ruling c in omega (arith, few-rules (turn (turningOf (gathered (records r)))), r .loop3-test .taken)
+array-copy-out-apply-rule c = let r = ruling c in omega (arith, few-rules (turn (turningOfRuling r)), r .loop3-test .taken)
 
 apply-rule-requires : Of tie.Need-apply-rule-requires
 apply-rule-requires c κs =
     let r = ruling (c .before) in
     let g = gathered (records r) in
-    let t = turn (turningOf g) in
+    let t = turn (turningOfRuling r) in
     let same = same-then (records r .records .inv .same) (r .before .loop3 .inv .done .same) in
     ((limits t, out-whole t, r .before .before .records-test .taken, room-still (prepared g) same), rule-ready (prepared g) same _ _ (r .loop3-test .taken))
 
@@ -347,22 +355,22 @@ enum-told-2 c = search needs
 
 add-k-2 : Of tie.Need-add-k-2
 add-k-2 c =
-    let r = rulingOf c in
-    record { fits = omega (arith, few-rules (turn (turningOf (gathered (records r)))), r .loop3-test .taken) }
+    let r = rulingOfRuled c in
+    record { fits = omega (arith, few-rules (turn (turningOfRuling r)), r .loop3-test .taken) }
 
 loop3-less : Of tie.Need-loop3-less
-loop3-less c = nearer (rulingOf c .loop3-test .taken)
+loop3-less c = nearer (rulingOfRuled c .loop3-test .taken)
 
 loop3-again : Of tie.Need-loop3-again
 loop3-again c =
-    let r = rulingOf c in
+    let r = rulingOfRuled c in
     rules-next (r .before .loop3 .inv) (r .loop3-test .taken) (rules-fit (prepared (gathered (records r)))) _ (ruled c .apply-rule .ensures)
     (c .enum-told2 .given .1) (omega arith)
 
 add-u : Of tie.Need-add-u
 add-u c =
     let i = c .before .before in
-    record { fits = omega (arith, limits (turn (turningOf (gathered (i .before)))) .records≤, i .records-test .taken) }
+    record { fits = omega (arith, limits (turn (turningOfGathered (gathered (i .before)))) .records≤, i .records-test .taken) }
 
 records-less : Of tie.Need-records-less
 records-less c = nearer (c .before .before .records-test .taken)
@@ -372,15 +380,15 @@ records-again c =
     let i = c .before .before in
     records-next (i .before .records .inv) (i .records-test .taken) (c .before .loop3 .inv) (c .loop3-test .left) (omega arith)
 
--- what the rules did: all are done, or the loops were left at a sum out of range
-applied : (c : Left) {r : Stop} → c .records-test .stop ≡ r → Applied (prepared (gatheredOf c)) (c .records-test .values) (c .records-test .marks) r
+-- what the rules did: the loop over the records ran out, and all are done; or both were left at a rule whose sum is out of range
+applied : (c : Left) {r : Stop} → c .records-test .stop ≡ r → Applied (prepared (gatheredOfLeft c)) (c .records-test .values) (c .records-test .marks) r
 applied c stop =
-    let b = prepared (gatheredOf c) in
+    let b = prepared (gatheredOfLeft c) in
     let i = c .before .records .inv in
     ⊎-elim
     (λ w. left-behind i stop (w .0 .left) (w .1) (w .2) (w .3))
     (λ w.
-    left-within i stop (limits (turn (turningOf (gatheredOf c)))) (w .0 .taken) (w .1 .inv) (w .2 .taken) (rules-fit b) _
+    left-within i stop (limits (turn (turningOfGathered (gatheredOfLeft c)))) (w .0 .taken) (w .1 .inv) (w .2 .taken) (rules-fit b) _
     (rule-ready b same-refl (w .1 .k) _ (w .2 .taken)) (w .7 .ensures) (w .12 .given .1) (w .13) (w .14) (w .15))
     (c .records-test .came)
 
@@ -393,34 +401,36 @@ out-of-range-requires : Of tie.Need-out-of-range-requires
 out-of-range-requires c κs = tt
 
 same-length-4 : Of tie.Need-same-length-4
-same-length-4 c = out-length (turn (turningOf (gatheredOf (left c))))
+same-length-4 c = out-length (turn (turningOfGathered (gatheredOfLeft (left c))))
 
 same-length-5 : Of tie.Need-same-length-5
-same-length-5 c = values-still (gatheredOf (left c)) (applied (left c) (c .before .before .stop .given .1) .0)
+same-length-5 c = values-still (gatheredOfLeft (left c)) (applied (left c) (c .before .before .stop .given .1) .0)
 
 same-length-6 : Of tie.Need-same-length-6
-same-length-6 c = marks-still (gatheredOf (left c)) (applied (left c) (c .before .before .stop .given .1) .0)
+same-length-6 c = marks-still (gatheredOfLeft (left c)) (applied (left c) (c .before .before .stop .given .1) .0)
 
 returns-2 : Of tie.Need-returns-2
-returns-2 c = rw (c .out-of-range .ensures) (ends-local (prepared (gatheredOf (left c))) (applied (left c) (c .before .before .stop .given .1)))
+returns-2 c = rw (c .out-of-range .ensures) (ends-local (prepared (gatheredOfLeft (left c))) (applied (left c) (c .before .before .stop .given .1)))
 
 enum-told-3 : Of tie.Need-enum-told-3
 enum-told-3 c = search needs
 
 -- The remote writes, where there are any.
 
-locals : (c : Local) → Applied (prepared (gatheredOf (leftOf c))) (leftOf c .records-test .values) (leftOf c .records-test .marks) Nowhere
-locals c = applied (leftOf c) (c .enum-told3 .given .1)
+-- the local ones are done
+locals : (c : Local) → Applied (prepared (gatheredOfLeft (leftOfLocal c))) (leftOfLocal c .records-test .values) (leftOfLocal c .records-test .marks) Nowhere
+locals c = applied (leftOfLocal c) (c .enum-told3 .given .1)
 
 apply-requires : Of tie.Need-apply-requires
 apply-requires c κs =
-    let g = gatheredOf (leftOf (local c)) in
-    let t = turn (turningOf g) in
+    let g = gatheredOfLeft (leftOfLocal (local c)) in
+    let t = turn (turningOfGathered g) in
     let b = prepared g in
     let l = locals (local c) in
     ((limits t, out-whole t, room-still b (l .0), few-rules t, b .taken .length-is), (ready-still b (l .0), small-still b (l .0) (l .1)))
 
-done : (c : Joined) → Done (prepared (preparedOf c)) (c .if2 .values) (c .if2 .marks) (c .if2 .sent)
+-- all rules are done, remote ones too
+done : (c : Joined) → Done (prepared (gatheredOfJoined c)) (c .if2 .values) (c .if2 .marks) (c .if2 .sent)
 done c =
     let l = locals (c .before) in
     ⊎-elim
@@ -432,8 +442,8 @@ done c =
 
 commit-requires : Of tie.Need-commit-requires
 commit-requires c κs =
-    let g = preparedOf (joined c) in
-    let t = turn (turningOf g) in
+    let g = gatheredOfJoined (joined c) in
+    let t = turn (turningOfGathered g) in
     (limits t, out-whole t, room-still (prepared g) (done (joined c) .same))
 
 enum-known-total : Of tie.Need-enum-known-total
@@ -445,13 +455,13 @@ out-of-range-requires-2 : Of tie.Need-out-of-range-requires-2
 out-of-range-requires-2 c κs = tt
 
 same-length-7 : Of tie.Need-same-length-7
-same-length-7 c = stopped c .commit .kept .0 ∙ out-length (turn (turningOf (preparedOf (joined (stopped c .before)))))
+same-length-7 c = stopped c .commit .kept .0 ∙ out-length (turn (turningOfGathered (gatheredOfJoined (joined (stopped c .before)))))
 
 same-length-8 : Of tie.Need-same-length-8
-same-length-8 c = let j = joined (stopped c .before) in values-still (preparedOf j) (done j .same)
+same-length-8 c = let j = joined (stopped c .before) in values-still (gatheredOfJoined j) (done j .same)
 
 same-length-9 : Of tie.Need-same-length-9
-same-length-9 c = let j = joined (stopped c .before) in marks-still (preparedOf j) (done j .same)
+same-length-9 c = let j = joined (stopped c .before) in marks-still (gatheredOfJoined j) (done j .same)
 
 returns-3 : Of tie.Need-returns-3
 returns-3 c =
@@ -462,33 +472,34 @@ enum-told-4 c = search needs
 
 -- The step went through: it is counted, and the next one found.
 
-stepped : (c : Through) → Went (prepared (preparedOf (joinedOf c))) (committed c .commit .last .0)
-    (joinedOf c .if2 .values) (joinedOf c .if2 .marks) (joinedOf c .if2 .sent)
-stepped c = went (done (joinedOf c)) (committed c .commit .ensures) (c .enum-told4 .given .1) (committed c .commit .kept .0)
+-- the file holds the cells behind the step
+stepped : (c : Through) → Went (prepared (gatheredOfJoined (joinedOfThrough c))) (committed c .commit .last .0)
+    (joinedOfThrough c .if2 .values) (joinedOfThrough c .if2 .marks) (joinedOfThrough c .if2 .sent)
+stepped c = went (done (joinedOfThrough c)) (committed c .commit .ensures) (c .enum-told4 .given .1) (committed c .commit .kept .0)
 
 count-requires : Of tie.Need-count-requires
-count-requires c κs = counts-small (stepped c) (e (turningOf (preparedOf (joinedOf c))) .fits .budget .fits)
+count-requires c κs = counts-small (stepped c) (entryOfTurning (turningOfGathered (gatheredOfJoined (joinedOfThrough c))) .fits .budget .fits)
 
 add-finished : Of tie.Need-add-finished
 add-finished c =
-    let t = turningOf (preparedOf (joinedOf (c .before))) in
-    record { fits = omega (arith, turn t .later, e t .fits .budget .fits) }
+    let t = turningOfGathered (gatheredOfJoined (joinedOfThrough (c .before))) in
+    record { fits = omega (arith, turn t .later, entryOfTurning t .fits .budget .fits) }
 
 next-requires : Of tie.Need-next-requires
 next-requires c κs =
-    let t = turn (turningOf (preparedOf (joinedOf (through c)))) in
+    let t = turn (turningOfGathered (gatheredOfJoined (joinedOfThrough (through c)))) in
     let w = stepped (through c) in
     (limits t, next-whole w, setting-passes t, next-space w, next-pass w, few-steps t)
 
 loop-less : Of tie.Need-loop-less
-loop-less c = nearer (turn (turningOf (preparedOf (joinedOf (through (c .before))))) .later)
+loop-less c = nearer (turn (turningOfGathered (gatheredOfJoined (joinedOfThrough (through (c .before))))) .later)
 
 loop-again : Of tie.Need-loop-again
 unfolding programOf
 loop-again c =
     let b = through (c .before) in
-    let g = preparedOf (joinedOf b) in
-    let same = done (joinedOf b) .same in (
+    let g = gatheredOfJoined (joinedOfThrough b) in
+    let same = done (joinedOfThrough b) .same in (
       next-stands (stepped b) (entered (g .before) .enter .ensures .0) (c .next .ensures) (omega arith) (c .before .before .before .before .count .ensures),
       taking g .loop2 .inv .length-is,
       values-still g same,
@@ -501,7 +512,7 @@ ended-requires-2 : Of tie.Need-ended-requires-2
 ended-requires-2 c κs = tt
 
 same-length-10 : Of tie.Need-same-length-10
-same-length-10 c = let t = c .before .before in t .loop .inv .0 .register .whole ∙ sym (entryOf t .pre .0 .whole)
+same-length-10 c = let t = c .before .before in t .loop .inv .0 .register .whole ∙ sym (entryOfTop t .pre .0 .whole)
 
 same-length-11 : Of tie.Need-same-length-11
 same-length-11 c = c .before .before .loop .inv .2
@@ -513,79 +524,17 @@ returns-4 : Of tie.Need-returns-4
 unfolding programOf
 returns-4 c =
     let t = c .before .before in
-    rw (c .ended2 .ensures) (stands-complete (t .loop .inv .0) (omega (arith, c .before .loop-test .left, entryOf t .pre .2 .steps-are)))
+    rw (c .ended2 .ensures) (stands-complete (t .loop .inv .0) (omega (arith, c .before .loop-test .left, entryOfTop t .pre .2 .steps-are)))
 
 pub run-steps-spec : {M : Type 1} → statement M
 run-steps-spec =
     tie.close
     (tie.spec
-    Inv-loop2
-    μ-loop2
-    Inv-loop3
-    μ-loop3
-    Inv-records
-    μ-records
-    Inv-loop
-    μ-loop
-    mul-at
-    add-base
-    array-copy-out-rules
-    loop-holds
-    ended-requires
-    same-length
-    same-length-2
-    same-length-3
-    returns
-    mul-frame
-    array-copy-out-frame
-    loop2-holds
-    mul-rules
-    add-rules
-    mul-rules-2
-    array-copy-out-rules-2
-    mul-rules-3
-    array-set-from-rules
-    add-k
-    loop2-less
-    loop2-again
-    enter-requires
-    gather-requires
-    records-holds
-    loop3-holds
-    mul-apply-rule
-    array-copy-out-apply-rule
-    apply-rule-requires
-    enum-told
-    enum-told-2
-    add-k-2
-    loop3-less
-    loop3-again
-    add-u
-    records-less
-    records-again
-    enum-known-stop
-    out-of-range-requires
-    same-length-4
-    same-length-5
-    same-length-6
-    returns-2
-    enum-told-3
-    apply-requires
-    commit-requires
-    enum-known-total
-    out-of-range-requires-2
-    same-length-7
-    same-length-8
-    same-length-9
-    returns-3
-    enum-told-4
-    count-requires
-    add-finished
-    next-requires
-    loop-less
-    loop-again
-    ended-requires-2
-    same-length-10
-    same-length-11
-    same-length-12
-    returns-4)
+    Inv-loop2 μ-loop2 Inv-loop3 μ-loop3 Inv-records μ-records Inv-loop μ-loop mul-at add-base array-copy-out-rules loop-holds
+    ended-requires same-length same-length-2 same-length-3 returns mul-frame array-copy-out-frame loop2-holds mul-rules add-rules
+    mul-rules-2 array-copy-out-rules-2 mul-rules-3 array-set-from-rules add-k loop2-less loop2-again enter-requires
+    gather-requires records-holds loop3-holds mul-apply-rule array-copy-out-apply-rule apply-rule-requires enum-told enum-told-2
+    add-k-2 loop3-less loop3-again add-u records-less records-again enum-known-stop out-of-range-requires same-length-4
+    same-length-5 same-length-6 returns-2 enum-told-3 apply-requires commit-requires enum-known-total out-of-range-requires-2
+    same-length-7 same-length-8 same-length-9 returns-3 enum-told-4 count-requires add-finished next-requires loop-less loop-again
+    ended-requires-2 same-length-10 same-length-11 same-length-12 returns-4)
