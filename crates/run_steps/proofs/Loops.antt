@@ -53,9 +53,9 @@ module _ {s : Sizes} {cells : List Cell} {base : ℕ} {rules : List Located} {us
   module _ {values′ values″ : List ℤ} {marks′ marks″ : List ℕ} {stop : Stop} {u : ℕ} where
     -- one rule more at record u
     pub rules-next : {k : ℕ} → RulesDone s cells base rules used u values marks values′ marks′ stop k → k < used → used ≤ length rules
-        → (x : Located) {stop′ : Stop} → LocalRule s cells base u (ruleAt (getD rules k x)) values′ marks′ values″ marks″ stop′ → stop′ ≡ Nowhere
+        → {stop′ : Stop} → stop′ ≡ Nowhere → (x : Located) → LocalRule s cells base u (ruleAt (getD rules k x)) values′ marks′ values″ marks″ stop′
         → {k′ : ℕ} → k′ ≡ suc k → RulesDone s cells base rules used u values marks values″ marks″ stop′ k′
-    rules-next a h fits x rule e q =
+    rules-next a h fits e x rule q =
         record { done = record-more (a .done) x (omega arith) (rw e at rule) q; nowhere = e; k≤ = omega arith }
 
     -- one record more
@@ -79,11 +79,12 @@ module _ {s : Sizes} {cells : List Cell} {base : ℕ} {rules : List Located} {us
 
     pub left-within : {values″ values‴ : List ℤ} {marks″ marks‴ : List ℕ} {stop′ stop″ : Stop} {k v c : ℕ} → Limits s → u < s .records
         → RulesDone s cells base rules used u values′ marks′ values″ marks″ stop′ k → k < used → used ≤ length rules
-        → (x : Located) {valuesᵣ : List ℤ} {marksᵣ : List ℕ} → RuleReady s cells valuesᵣ marksᵣ (getD rules k x)
-        → LocalRule s cells base u (ruleAt (getD rules k x)) values″ marks″ values‴ marks‴ stop″ → stop″ ≡ At v c
-        → valuesₑ ≡ values‴ → marksₑ ≡ marks‴ → stopₑ ≡ stop″ → LocalAnswer s cells base (rulesIn used rules) values marks valuesₑ marksₑ r
+        → stop″ ≡ At v c → valuesₑ ≡ values‴ → marksₑ ≡ marks‴ → stopₑ ≡ stop″
+        → (x : Located) → LocalRule s cells base u (ruleAt (getD rules k x)) values″ marks″ values‴ marks‴ stop″
+        → {valuesᵣ : List ℤ} {marksᵣ : List ℕ} → RuleReady s cells valuesᵣ marksᵣ (getD rules k x)
+        → LocalAnswer s cells base (rulesIn used rules) values marks valuesₑ marksₑ r
     unfolding ruleIn
-    left-within {k = k} limits row b h fits x ready rule o vₑ mₑ t =
+    left-within {k = k} limits row b h fits o vₑ mₑ t x rule ready =
         let inside : k < length rules = omega arith in
         let stops = rw o at rule in
         rw (sym e ∙ t ∙ o, vₑ, mₑ) (

@@ -87,6 +87,9 @@ Top = Of tie.At-loop
 abbrev entryOfTop : Top → Entry
 entryOfTop c = entry (c .before .before .before)
 
+abbrev spent : Of tie.After-ended → Top
+spent c = c .before .before .before
+
 -- a turn of it: the budget is not spent
 abbrev Turning : Type 0
 Turning = Of tie.Else1
@@ -104,8 +107,11 @@ Taking = Of tie.At-loop2
 abbrev turning : Taking → Turning
 turning c = c .before .before
 
+abbrev allTaken : Of tie.After-enter-arg3 → Of tie.After-loop2
+allTaken c = c .before .before .before
+
 abbrev taken : Of tie.After-enter-arg3 → Taking
-taken c = c .before .before .before .before
+taken c = allTaken c .before
 
 -- the pass is entered and the readings are gathered
 abbrev Gathered : Type 0
@@ -189,8 +195,11 @@ committed c = c .before .before .before .before
 abbrev joinedOfThrough : Through → Joined
 joinedOfThrough c = joined (committed c .before)
 
+abbrev counted : Of tie.After-next-arg3 → Of tie.After-count
+counted c = c .before .before .before
+
 abbrev through : Of tie.After-next-arg3 → Through
-through c = c .before .before .before .before
+through c = counted c .before
 
 -- Up to the loop: the lines and the column stand below 2^64.
 
@@ -218,19 +227,19 @@ ended-requires : Of tie.Need-ended-requires
 ended-requires c κs = tt
 
 same-length : Of tie.Need-same-length
-same-length c = let t = c .before .before .before in t .loop .inv .0 .register .whole ∙ sym (entryOfTop t .pre .0 .whole)
+same-length c = let t = spent c in t .loop .inv .0 .register .whole ∙ sym (entryOfTop t .pre .0 .whole)
 
 same-length-2 : Of tie.Need-same-length-2
-same-length-2 c = c .before .before .before .loop .inv .2
+same-length-2 c = spent c .loop .inv .2
 
 same-length-3 : Of tie.Need-same-length-3
-same-length-3 c = c .before .before .before .loop .inv .3
+same-length-3 c = spent c .loop .inv .3
 
 returns : Of tie.Need-returns
 unfolding programOf
 returns c =
     let more = c .before .before in
-    let t = more .before in
+    let t = spent c in
     rw (c .ended .ensures) (stands-exhausted (t .loop .inv .0) (omega (arith, more .loop-test .taken, entryOfTop t .pre .2 .steps-are)) (c .before .if1 .taken))
 
 -- A turn of the loop: the frame of the step.
@@ -312,8 +321,7 @@ module _ (c : Gathered) where
       (c .gather .last .1 .0) (c .gather .last .1 .1 .0) (c .gather .result)
   prepared =
       let pass = entered (c .before) in
-      let all = pass .before .before .before .before .loop2-test .left in
-      prepares (turn o) (taking c .loop2 .inv) all (pass .enter .ensures .1) (c .gather .ensures)
+      prepares (turn o) (taking c .loop2 .inv) (allTaken (pass .before) .loop2-test .left) (pass .enter .ensures .1) (c .gather .ensures)
 
   -- whoever keeps what stands below the working cells keeps the lengths of the buffers
   module _ {values : List ℤ} {marks : List ℕ} (same : Same (base (turn o)) (c .gather .last .1 .0) (c .gather .last .1 .1 .0) values marks) where
@@ -364,8 +372,8 @@ loop3-less c = nearer (rulingOfRuled c .loop3-test .taken)
 loop3-again : Of tie.Need-loop3-again
 loop3-again c =
     let r = rulingOfRuled c in
-    rules-next (r .before .loop3 .inv) (r .loop3-test .taken) (rules-fit (prepared (gathered (records r)))) _ (ruled c .apply-rule .ensures)
-    (c .enum-told2 .given .1) (omega arith)
+    rules-next (r .before .loop3 .inv) (r .loop3-test .taken) (rules-fit (prepared (gathered (records r)))) (c .enum-told2 .given .1) _
+    (ruled c .apply-rule .ensures) (omega arith)
 
 add-u : Of tie.Need-add-u
 add-u c =
@@ -388,8 +396,8 @@ applied c stop =
     ⊎-elim
     (λ w. left-behind i stop (w .0 .left) (w .1) (w .2) (w .3))
     (λ w.
-    left-within i stop (limits (turn (turningOfGathered (gatheredOfLeft c)))) (w .0 .taken) (w .1 .inv) (w .2 .taken) (rules-fit b) _
-    (rule-ready b same-refl (w .1 .k) _ (w .2 .taken)) (w .7 .ensures) (w .12 .given .1) (w .13) (w .14) (w .15))
+    left-within i stop (limits (turn (turningOfGathered (gatheredOfLeft c)))) (w .0 .taken) (w .1 .inv) (w .2 .taken) (rules-fit b)
+    (w .12 .given .1) (w .13) (w .14) (w .15) _ (w .7 .ensures) (rule-ready b same-refl (w .1 .k) _ (w .2 .taken)))
     (c .records-test .came)
 
 enum-known-stop : Of tie.Need-enum-known-stop
@@ -500,7 +508,7 @@ loop-again c =
     let b = through (c .before) in
     let g = gatheredOfJoined (joinedOfThrough b) in
     let same = done (joinedOfThrough b) .same in (
-      next-stands (stepped b) (entered (g .before) .enter .ensures .0) (c .next .ensures) (omega arith) (c .before .before .before .before .count .ensures),
+      next-stands (stepped b) (entered (g .before) .enter .ensures .0) (c .next .ensures) (omega arith) (counted (c .before) .count .ensures),
       taking g .loop2 .inv .length-is,
       values-still g same,
       marks-still g same,
