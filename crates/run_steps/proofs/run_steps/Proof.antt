@@ -159,6 +159,9 @@ Left = Of tie.Left-records
 abbrev gatheredOfLeft : Left → Gathered
 gatheredOfLeft c = gathered (c .before)
 
+abbrev turningOfLeft : Left → Turning
+turningOfLeft c = turningOfGathered (gatheredOfLeft c)
+
 abbrev left : Of tie.After-out-of-range → Left
 left c = c .before .before .before .before
 
@@ -179,6 +182,9 @@ Joined = Of tie.Joined2
 abbrev gatheredOfJoined : Joined → Gathered
 gatheredOfJoined c = gatheredOfLeft (leftOfLocal (c .before))
 
+abbrev turningOfJoined : Joined → Turning
+turningOfJoined c = turningOfLeft (leftOfLocal (c .before))
+
 abbrev joined : Of tie.After-commit-arg3 → Joined
 joined c = c .before .before .before .before
 
@@ -194,6 +200,9 @@ committed c = c .before .before .before .before
 
 abbrev joinedOfThrough : Through → Joined
 joinedOfThrough c = joined (committed c .before)
+
+abbrev turningOfThrough : Through → Turning
+turningOfThrough c = turningOfJoined (joinedOfThrough c)
 
 abbrev counted : Of tie.After-next-arg3 → Of tie.After-count
 counted c = c .before .before .before
@@ -314,22 +323,22 @@ gather-requires c κs =
 
 -- the step can be run
 module _ (c : Gathered) where
-  abbrev o : Turning
-  o = turningOfGathered c
+  abbrev here : Turning
+  here = turningOfGathered c
 
-  prepared : Prepared (turn o) (taking c .loop2 .rules) (entered (c .before) .enter .last .1 .0) (entered (c .before) .enter .last .1 .1 .0)
+  prepared : Prepared (turn here) (taking c .loop2 .rules) (entered (c .before) .enter .last .1 .0) (entered (c .before) .enter .last .1 .1 .0)
       (c .gather .last .1 .0) (c .gather .last .1 .1 .0) (c .gather .result)
   prepared =
       let pass = entered (c .before) in
-      prepares (turn o) (taking c .loop2 .inv) (allTaken (pass .before) .loop2-test .left) (pass .enter .ensures .1) (c .gather .ensures)
+      prepares (turn here) (taking c .loop2 .inv) (allTaken (pass .before) .loop2-test .left) (pass .enter .ensures .1) (c .gather .ensures)
 
   -- whoever keeps what stands below the working cells keeps the lengths of the buffers
-  module _ {values : List ℤ} {marks : List ℕ} (same : Same (base (turn o)) (c .gather .last .1 .0) (c .gather .last .1 .1 .0) values marks) where
-    values-still : length values ≡ length (now (entryOfTurning o .args .values))
-    values-still = same .values-length ∙ values-length prepared ∙ top o .loop .inv .2
+  module _ {values : List ℤ} {marks : List ℕ} (same : Same (base (turn here)) (c .gather .last .1 .0) (c .gather .last .1 .1 .0) values marks) where
+    values-still : length values ≡ length (now (entryOfTurning here .args .values))
+    values-still = same .values-length ∙ values-length prepared ∙ top here .loop .inv .2
 
-    marks-still : length marks ≡ length (now (entryOfTurning o .args .marks))
-    marks-still = same .marks-length ∙ marks-length prepared ∙ top o .loop .inv .3
+    marks-still : length marks ≡ length (now (entryOfTurning here .args .marks))
+    marks-still = same .marks-length ∙ marks-length prepared ∙ top here .loop .inv .3
 
 -- The local rules, record by record and rule by rule.
 
@@ -388,7 +397,8 @@ records-again c =
     let i = c .before .before in
     records-next (i .before .records .inv) (i .records-test .taken) (c .before .loop3 .inv) (c .loop3-test .left) (omega arith)
 
--- what the rules did: the loop over the records ran out, and all are done; or both were left at a rule whose sum is out of range
+-- What the rules did: the loop over the records ran out, and all are done; or both loops were left at a rule whose sum is out of range.
+-- `w` has what is known on either way out, from the head of the loop over the records on.
 applied : (c : Left) {r : Stop} → c .records-test .stop ≡ r → Applied (prepared (gatheredOfLeft c)) (c .records-test .values) (c .records-test .marks) r
 applied c stop =
     let b = prepared (gatheredOfLeft c) in
@@ -396,7 +406,7 @@ applied c stop =
     ⊎-elim
     (λ w. left-behind i stop (w .0 .left) (w .1) (w .2) (w .3))
     (λ w.
-    left-within i stop (limits (turn (turningOfGathered (gatheredOfLeft c)))) (w .0 .taken) (w .1 .inv) (w .2 .taken) (rules-fit b)
+    left-within i stop (limits (turn (turningOfLeft c))) (w .0 .taken) (w .1 .inv) (w .2 .taken) (rules-fit b)
     (w .12 .given .1) (w .13) (w .14) (w .15) _ (w .7 .ensures) (rule-ready b same-refl (w .1 .k) _ (w .2 .taken)))
     (c .records-test .came)
 
@@ -409,7 +419,7 @@ out-of-range-requires : Of tie.Need-out-of-range-requires
 out-of-range-requires c κs = tt
 
 same-length-4 : Of tie.Need-same-length-4
-same-length-4 c = out-length (turn (turningOfGathered (gatheredOfLeft (left c))))
+same-length-4 c = out-length (turn (turningOfLeft (left c)))
 
 same-length-5 : Of tie.Need-same-length-5
 same-length-5 c = values-still (gatheredOfLeft (left c)) (applied (left c) (c .before .before .stop .given .1) .0)
@@ -431,13 +441,12 @@ locals c = applied (leftOfLocal c) (c .enum-told3 .given .1)
 
 apply-requires : Of tie.Need-apply-requires
 apply-requires c κs =
-    let g = gatheredOfLeft (leftOfLocal (local c)) in
-    let t = turn (turningOfGathered g) in
-    let b = prepared g in
+    let t = turn (turningOfLeft (leftOfLocal (local c))) in
+    let b = prepared (gatheredOfLeft (leftOfLocal (local c))) in
     let l = locals (local c) in
     ((limits t, out-whole t, room-still b (l .0), few-rules t, b .taken .length-is), (ready-still b (l .0), small-still b (l .0) (l .1)))
 
--- all rules are done, remote ones too
+-- all rules are done, remote ones too: `w` has what is known behind the call, or that there are none
 done : (c : Joined) → Done (prepared (gatheredOfJoined c)) (c .if2 .values) (c .if2 .marks) (c .if2 .sent)
 done c =
     let l = locals (c .before) in
@@ -450,9 +459,9 @@ done c =
 
 commit-requires : Of tie.Need-commit-requires
 commit-requires c κs =
-    let g = gatheredOfJoined (joined c) in
-    let t = turn (turningOfGathered g) in
-    (limits t, out-whole t, room-still (prepared g) (done (joined c) .same))
+    let j = joined c in
+    let t = turn (turningOfJoined j) in
+    (limits t, out-whole t, room-still (prepared (gatheredOfJoined j)) (done j .same))
 
 enum-known-total : Of tie.Need-enum-known-total
 enum-known-total c = search needs
@@ -463,7 +472,7 @@ out-of-range-requires-2 : Of tie.Need-out-of-range-requires-2
 out-of-range-requires-2 c κs = tt
 
 same-length-7 : Of tie.Need-same-length-7
-same-length-7 c = stopped c .commit .kept .0 ∙ out-length (turn (turningOfGathered (gatheredOfJoined (joined (stopped c .before)))))
+same-length-7 c = stopped c .commit .kept .0 ∙ out-length (turn (turningOfJoined (joined (stopped c .before))))
 
 same-length-8 : Of tie.Need-same-length-8
 same-length-8 c = let j = joined (stopped c .before) in values-still (gatheredOfJoined j) (done j .same)
@@ -486,21 +495,21 @@ stepped : (c : Through) → Went (prepared (gatheredOfJoined (joinedOfThrough c)
 stepped c = went (done (joinedOfThrough c)) (committed c .commit .ensures) (c .enum-told4 .given .1) (committed c .commit .kept .0)
 
 count-requires : Of tie.Need-count-requires
-count-requires c κs = counts-small (stepped c) (entryOfTurning (turningOfGathered (gatheredOfJoined (joinedOfThrough c))) .fits .budget .fits)
+count-requires c κs = counts-small (stepped c) (entryOfTurning (turningOfThrough c) .fits .budget .fits)
 
 add-finished : Of tie.Need-add-finished
 add-finished c =
-    let t = turningOfGathered (gatheredOfJoined (joinedOfThrough (c .before))) in
+    let t = turningOfThrough (c .before) in
     record { fits = omega (arith, turn t .later, entryOfTurning t .fits .budget .fits) }
 
 next-requires : Of tie.Need-next-requires
 next-requires c κs =
-    let t = turn (turningOfGathered (gatheredOfJoined (joinedOfThrough (through c)))) in
+    let t = turn (turningOfThrough (through c)) in
     let w = stepped (through c) in
     (limits t, next-whole w, setting-passes t, next-space w, next-pass w, few-steps t)
 
 loop-less : Of tie.Need-loop-less
-loop-less c = nearer (turn (turningOfGathered (gatheredOfJoined (joinedOfThrough (through (c .before))))) .later)
+loop-less c = nearer (turn (turningOfThrough (through (c .before))) .later)
 
 loop-again : Of tie.Need-loop-again
 unfolding programOf
