@@ -139,17 +139,20 @@ module _ {m : Machine} {s : Sizes} {p : R.Program} {budget : ℕ} {file : List �
 
   module _ {b : Prepared a places values₁ marks₁ values₂ marks₂ r} {out′ : List ℕ} {values₄ : List ℤ} {marks₄ : List ℕ} {sent : ℕ}
       (w : Went b out′ values₄ marks₄ sent) where
+    -- so many remote messages are sent at most
+    sent-few : sent ≤ 131072
+    sent-few = writes-few (direct s (rs a) (cells a)) (rs a) (s .records) sent (step-passes a .rules .few) (limits a .records≤) (w .through .sent-is)
+
     -- what counting and finding the next step ask for
     pub counts-small : budget < 65536 → (counts .exchanges ≤ 4611686018427387904) × (counts .messages ≤ 4611686018427387904)
         × (r .exchanges ≤ 65536) × (r .messages ≤ 1048576) × (sent ≤ 1048576)
     counts-small h =
-        let few = a .stands .few in
-        let sent≤ = writes-few (direct s (rs a) (cells a)) (rs a) (s .records) sent (step-passes a .rules .few) (limits a .records≤) (w .through .sent-is) in (
+        let few = a .stands .few in (
           omega (arith, few .exchanges≤, a .later),
           omega (arith, few .messages≤, a .later),
           omega (arith, b .gathered .few-exchanges),
           omega (arith, lines-few b),
-          omega (arith, sent≤),
+          omega (arith, sent-few),
         )
 
     pub next-whole : length out′ ≡ 12 + 5 * cellCount s
@@ -168,10 +171,8 @@ module _ {m : Machine} {s : Sizes} {p : R.Program} {budget : ℕ} {file : List �
         → Stands m s (programOf p) (at a) budget file next first′ finished′ counts′ out′ values₄ marks₄
     next-stands f n q c =
         let t = a .stands in
-        let sent-is = w .through .sent-is in
-        let sent≤ = writes-few (direct s (rs a) (cells a)) (rs a) (s .records) sent (step-passes a .rules .few) (limits a .records≤) sent-is in
         let holds = at-step a .frame in
         stands-next t (inside a) (at-step a .setting-is) (b .entered) (w .kept) (w .through) (a .later) (a .passes) (w .length-is) (w .room) f n q
         (c ∙ counts-step m (t .trace) (stepHere a) (step-passes a .rules) (t .register .valid) (t .counts-are) (b .gathered .counted)
-        (holds .holds .facts-are) (holds .remote-is) sent-is)
-        (rw c (few-more m r (frame a .remote) (t .few) (b .gathered .few-exchanges) (lines-few b) sent≤))
+        (holds .holds .facts-are) (holds .remote-is) (w .through .sent-is))
+        (rw c (few-more m r (frame a .remote) (t .few) (b .gathered .few-exchanges) (lines-few b) sent-few))

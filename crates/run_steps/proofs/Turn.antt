@@ -128,7 +128,7 @@ module _ {m : Machine} {s : Sizes} {p : R.Program} {budget : ℕ} {file : List �
   pub planned : StepPlanned s (frame .plan)
   planned = record { rules = rs; passes = step-passes .rules; holds = at-step .frame .holds }
 
-  pub lines-room : frame .plan .count * s .records ≤ at
+  lines-room : frame .plan .count * s .records ≤ at
   lines-room =
       let most = lines-most (programOf p) step noStep inside in
       let count : frame .plan .count ≤ p .lines = omega (arith, holds-count (at-step .frame .holds), most, a .complete .lines-are) in
