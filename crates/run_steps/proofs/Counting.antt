@@ -35,7 +35,8 @@ counts-none Messages s = refl
 
 -- one more is
 counts-more : (m : Machine) {s : Sizes} (trace : Trace) (x : Step) {cells : List Cell} → RulesPass s (x .rules) → Valid s cells
-    → countsAfter m (countsOf m s trace) (countedBy m s cells (stepPlan (x .rules))) (hasRemote (x .rules)) (length (recordMessages (direct s (x .rules) cells) (x .rules) (s .records)))
+    → countsAfter m (countsOf m s trace) (countedBy m s cells (stepPlan (x .rules))) (hasRemote (x .rules))
+    (length (recordMessages (direct s (x .rules) cells) (x .rules) (s .records)))
     ≡ countsOf m s (trace ++ ((x, cells) ∷ []))
 unfolding exchangesBy messagesBy stepExchanges stepMessages heldIn stepPlan
 counts-more Direct trace x k v = refl
