@@ -32,6 +32,16 @@ pub fn put(values: &mut [i64], marks: &mut [u8], j: usize, value: i64, mark: u8)
     marks[j] = mark;
 }
 
+// Makes place j missing: value 0 and mark 0. The mark first: with the order of `put` the compiler makes one path of the two, on
+// which both numbers are chosen.
+pub fn clear(values: &mut [i64], marks: &mut [u8], j: usize)
+    requires { ⌜ (j < length (now values)) × (j < length (now marks)) ⌝ }
+    ensures { λ _. ⌜ (now (values .exit) ≡ set (now (values .entry)) j (pos 0)) × (now (marks .exit) ≡ set (now (marks .entry)) j 0) ⌝ }
+{
+    marks[j] = 0;
+    values[j] = 0;
+}
+
 // Cell j of a register's two arrays, copied to place k: its value and its mark, whatever they are.
 pub fn copy_cell(
     cells: &[u8],
@@ -61,7 +71,7 @@ pub fn put_reading(values: &mut [i64], marks: &mut [u8], j: usize, reading: Read
         × (now (marks .exit) ≡ set (now (marks .entry)) j (readingMark reading)) × SFits w32 (readingValue reading) ⌝ }
 {
     match reading {
-        Reading::Missing => put(values, marks, j, 0, 0),
+        Reading::Missing => clear(values, marks, j),
         Reading::Value(value) => put(values, marks, j, integers::widen(value), 1),
     }
 }

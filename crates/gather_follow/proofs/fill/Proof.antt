@@ -10,7 +10,6 @@ use borrow.Author.Needs.{needs}
 use lib.ListN.{length, getD}
 use denote.Ref.{now}
 use Rattle.register.specs.Cells.{cellsOf}
-use Rattle.chain.proofs.Packing.{packed-some}
 use Rattle.plan_theory.specs.Plan.{word, line}
 use Rattle.plan_keys.specs.Keys.{factOf, kind}
 use Rattle.plan_lines.specs.Held.{factsIn}
@@ -79,7 +78,7 @@ fill-line-requires c κs =
       pre .0,
       pre .1,
       ready .follow .each (at b) _ inside this,
-      packed-some _ (omega (arith, ready .follow .two (at b) _ inside this)),
+      ready .follow .two (at b) _ inside this,
       omega (arith, room, inv .values-length),
       omega (arith, room, inv .marks-length),
     )
