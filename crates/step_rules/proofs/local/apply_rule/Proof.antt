@@ -14,12 +14,13 @@ use Rattle.register.specs.declared.cells.Cell.{Cell}
 use Rattle.register.specs.declared.cells.Cell.the-variants.{Missing, Value}
 use Rattle.register.proofs.Loading.{file-parts}
 use Rattle.chain.specs.declared.reading.Reading.{Reading}
-use Rattle.chain.specs.Word.{hasField}
+use Rattle.chain.specs.Word.{column, hasField}
 use Rattle.chain.proofs.Fields.{field-below}
 use Rattle.program.specs.Program.{Rule, targetField}
 use Rattle.program.specs.Stored.{ruleIn}
 use Rattle.step_terms.specs.Found.{followed}
 use Rattle.step_effects.specs.Answers.{cellWrite, writeOf}
+use Rattle.machine.specs.Local.{storedCell}
 use Rattle.step_rules.proofs.Locals.{rule-idles, rule-offends, rule-stores, stores-field, offends-field}
 use borrow.Author.Needs.{needs}
 use Rattle.step_rules.proofs.local.apply_rule.Statement.{statement}
@@ -131,7 +132,7 @@ same-length-4 : tie.Need-same-length-4
 same-length-4 c = search needs
 
 returns-2 : tie.Need-returns-2
-unfolding ruleIn cellWrite valueOf
+unfolding ruleIn cellWrite valueOf column storedCell
 returns-2 c =
     let stored = c .before .before .before in
     let f = stored .before .before .before .before in
@@ -147,7 +148,7 @@ same-length-6 : tie.Need-same-length-6
 same-length-6 c = search needs
 
 returns-3 : tie.Need-returns-3
-unfolding ruleIn cellWrite valueOf
+unfolding ruleIn cellWrite valueOf storedCell
 returns-3 c =
     let stored = c .before .before .before in
     let f = stored .before .before .before .before in

@@ -3,7 +3,7 @@
 use native.Mathlib.Omega.{arith}
 use Rattle.register.proofs.Bounds.{cellIndex-below}
 use Rattle.chain.proofs.Following.{column-below}
-use Rattle.step_cells.proofs.Working.{put-stored}
+use Rattle.step_cells.proofs.Working.{put-read}
 use borrow.Author.Needs.{needs}
 use Rattle.step_rules.proofs.local.store.Statement.{statement}
 use Rattle.step_rules.proofs.local.store.Tie as tie
@@ -11,8 +11,8 @@ use Rattle.step_rules.proofs.local.store.Tie as tie
 place-requires : tie.Need-place-requires
 place-requires c κs = search needs
 
-put-cell-requires : tie.Need-put-cell-requires
-put-cell-requires c κs =
+put-reading-requires : tie.Need-put-reading-requires
+put-reading-requires c κs =
     let p = c .before .before in
     let s = p .before .before in
     let b = cellIndex-below (s .args .sizes) (s .args .u) _ (s .pre .1) (column-below (s .args .sizes) (s .pre .0) _ (s .pre .2)) in
@@ -28,8 +28,8 @@ returns : tie.Need-returns
 returns c =
     let p = c .before .before .before in
     let w = p .before .before .before in
-    let e = p .put-cell .ensures in
-    rw (← w .place .ensures) (put-stored (e .0) (e .1))
+    let e = p .put-reading .ensures in
+    rw (← w .place .ensures) (put-read (w .before .before .args .reading) (e .0) (e .1))
 
 pub store-spec : {M : Type 1} → statement M
-store-spec = tie.close (tie.spec place-requires put-cell-requires same-length same-length-2 returns)
+store-spec = tie.close (tie.spec place-requires put-reading-requires same-length same-length-2 returns)
