@@ -14,8 +14,7 @@ use Rattle.register.specs.Shape.{Limits}
 use Rattle.laws.specs.Outcome.{Outcome, refused, unless, after}
 use Rattle.laws.specs.Outcome as O
 use Rattle.register.specs.declared.Sizes.{Sizes}
-use Rattle.plan_lines.specs.Held.{facts, HoldsLines}
-use Rattle.plan_lines.specs.declared.Added.{Added}
+use Rattle.plan_lines.specs.Held.{facts, HoldsLines, Added}
 use Rattle.text_forms.specs.Written as W
 use Rattle.text_forms.specs.Written.{Line, step, end, done, rule}
 use Rattle.text_forms.specs.Line.{lineForm}
@@ -38,7 +37,7 @@ use Rattle.text_reader.specs.Answers.{outcomeOf, Answers}
 use Rattle.program.specs.declared.location.Located.{Located}
 use Rattle.program.specs.declared.location.Locations.{Locations}
 use Rattle.program.specs.Location.{slotChains, locationsIn}
-use Rattle.text_plan.specs.Readings.{words, Short, PlannedWith}
+use Rattle.text_plan.specs.Readings.{words, Short, PlannedWith, addedOf}
 use Rattle.text_plan.specs.Listed.{withWanted}
 use Rattle.text_state.specs.State.{noRules, startState, frameOf, lastFrame, advanceOf}
 use Rattle.text_refusals.specs.Refusal.{refusalOf, lastRefusal}
@@ -46,7 +45,7 @@ use Rattle.program.specs.declared.Program as C
 use Rattle.program.specs.declared.frame.Frame.{Frame}
 use Rattle.text_state.specs.declared.state.State as S
 use Rattle.text_reader.proofs.Opening.{open-none}
-use Rattle.text_reader.proofs.Arms.{Behind, step-line, loop-line, end-line, done-line, rule-line, no-line, at-step, at-loop, at-rule, at-end, at-done, slot-short, rule-is, rule-steps, rule-rules, end-steps, end-count, done-steps}
+use Rattle.text_reader.proofs.Arms.{Behind, step-line, loop-line, end-line, done-line, rule-line, no-line, at-step, at-loop, at-rule, at-end, at-done, slot-short, rule-is, rule-steps, rule-rules, end-steps, end-none, end-count, done-steps}
 use Rattle.text_next.proofs.Fronts.{lines-first}
 use Rattle.text_state.proofs.Standing.{Stands, start-stands, advance-stands}
 use Rattle.text_refusals.proofs.Refusals.{number, refusal-is, last-is}
@@ -194,9 +193,12 @@ module _ {s : Sizes} {lim : Limits s} {t : List ℕ} {plan : Added} {wanted : Li
       pub arm-end-steps : x .steps < 32
       arm-end-steps = end-steps s lim (q .reached) (q .stands) (q .behind) n end-clean
 
-      pub arm-end : {o : Added} {marks : List Bool} → (o .full ≡ false) × HoldsLines (o .plan) [] → length marks ≡ 64
-          → Behind slots (set frames (x .steps) (frameOf x (plan .plan) wanted)) o marks (advanceOf x n read) (advance (q .state) (p .form))
-      arm-end h l = rw (e, end-is) (at-end s lim (q .reached) (q .stands) (q .behind) n end-clean h l)
+      pub arm-end : {marks : List Bool} → length marks ≡ 64
+          → let a = plan .plan in
+          Behind slots (set frames (x .steps) (frameOf x a wanted)) (addedOf (a .keys) (a .rounds) (a .backs) (a .reads) 0 (plan .full)) marks
+          (advanceOf x n read) (advance (q .state) (p .form))
+      arm-end l =
+          rw (e, end-is) (at-end s lim (q .reached) (q .stands) (q .behind) n end-clean (end-none s lim (q .reached) (q .stands) (q .behind) n end-clean) l)
 
     module _ (e : read ≡ L.Done) where
       done-is : p .form ≡ done
