@@ -16,12 +16,12 @@ use Rattle.plan_keys.specs.Keys.{factOf}
 use Rattle.plan_lines.specs.Held.{factsIn, facts, HoldsLines}
 use Rattle.plan_lines.specs.declared.Plan.{Plan}
 use Rattle.plan_lines.proofs.Appending.{holds-count}
-use Rattle.api_plan.specs.PlanArrays.{kindNumber, letterOf, kindAt, lettersAt, letterAt, roundAt, Filled, planLines}
+use Rattle.api_plan.specs.PlanArrays.{kindNumber, letterOf, kindAt, lettersAt, letterAt, roundAt, PlacesHold, planLines}
 
 -- the first i of n places hold the values of g, and those behind them 0
 pub record Progress (g : ℕ → ℕ) (n i : ℕ) (xs : List ℕ) : Type 0 where
   pub places : length xs ≡ n
-  pub filled : Filled g i xs
+  pub filled : PlacesHold g i xs
   pub cleared : (k : ℕ) → i ≤ k → getD xs k 0 ≡ 0
 
 zeros : (n k : ℕ) → _≡_ {A = ℕ} (getD (replicate n 0) k 0) 0
@@ -42,7 +42,7 @@ module _ {g : ℕ → ℕ} {n : ℕ} where
         cleared = λ k b. getD-set-other xs i k v 0 (λ q. omega arith) ∙ p .cleared k (omega arith);
       }
 
-  pub progress-all : {i : ℕ} {xs : List ℕ} → Progress g n i xs → ((k : ℕ) → i ≤ k → g k ≡ 0) → Filled g n xs
+  pub progress-all : {i : ℕ} {xs : List ℕ} → Progress g n i xs → ((k : ℕ) → i ≤ k → g k ≡ 0) → PlacesHold g n xs
   progress-all {i} p z k b = ⊎-elim (λ l. p .filled k l) (λ l. p .cleared k l ∙ sym (z k l)) (lt-or-le k i)
 
 -- the letter of a field

@@ -6,7 +6,7 @@ ghost use lib.ListN.{getD};
 ghost use Rattle.chain.specs.Word.{unpack};
 ghost use Rattle.plan_keys.specs.Keys.{factOf};
 ghost use Rattle.plan_lines.specs.Held.{facts, HoldsLines};
-ghost use Rattle.api_plan.specs.PlanArrays.{flagNumber, kindNumber, letterOf, kindAt, letterAt, roundAt, planLines, Filled, PlanArrays};
+ghost use Rattle.api_plan.specs.PlanArrays.{flagNumber, kindNumber, letterOf, kindAt, letterAt, roundAt, planLines, PlacesHold, PlanArrays};
 use chain::packed;
 use plan_keys::key;
 use plan_keys::key::Kind;
@@ -50,7 +50,7 @@ fn letter_at(chain: u64, hop: u64) -> u8
 
 fn fill_kinds(plan: Plan, kinds: &mut [u8; 64])
     requires { ⌜ HoldsLines plan (facts plan) ⌝ }
-    ensures { λ _. ⌜ Filled (kindAt (planLines plan)) 64 (now (kinds .exit)) ⌝ }
+    ensures { λ _. ⌜ PlacesHold (kindAt (planLines plan)) 64 (now (kinds .exit)) ⌝ }
 {
     let count = plan.count;
     *kinds = [0; 64];
@@ -61,7 +61,7 @@ fn fill_kinds(plan: Plan, kinds: &mut [u8; 64])
 
 fn fill_chains(plan: Plan, chains: &mut [u8; 1024])
     requires { ⌜ HoldsLines plan (facts plan) ⌝ }
-    ensures { λ _. ⌜ Filled (letterAt (planLines plan)) 1024 (now (chains .exit)) ⌝ }
+    ensures { λ _. ⌜ PlacesHold (letterAt (planLines plan)) 1024 (now (chains .exit)) ⌝ }
 {
     let end = 16 * plan.count;
     *chains = [0; 1024];
@@ -73,7 +73,7 @@ fn fill_chains(plan: Plan, chains: &mut [u8; 1024])
 
 fn fill_rounds(plan: Plan, rounds: &mut [u8; 64])
     requires { ⌜ HoldsLines plan (facts plan) ⌝ }
-    ensures { λ _. ⌜ Filled (roundAt (planLines plan)) 64 (now (rounds .exit)) ⌝ }
+    ensures { λ _. ⌜ PlacesHold (roundAt (planLines plan)) 64 (now (rounds .exit)) ⌝ }
 {
     let count = plan.count;
     *rounds = [0; 64];

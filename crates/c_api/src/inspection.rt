@@ -15,7 +15,8 @@ pub extern "C" fn plot_inspect(
     marks: &mut [u8],
     answer: &mut [u64; 8],
 ) -> u32
-    ensures { λ r. ⌜ InspectCalled (inspection (now (file .entry)) (now (text .entry)) step (length (now (values .entry))) (length (now (marks .entry)))) (now (file .entry)) t (now (values .entry)) (now (marks .entry)) (now (values .exit)) (now (marks .exit)) r (now (answer .exit)) ⌝ }
+    ensures { λ r. ⌜ InspectCalled (inspection (now (file .entry)) (now (text .entry)) step (length (now (values .entry))) (length (now (marks .entry))))
+        (now (file .entry)) t (now (values .entry)) (now (marks .entry)) (now (values .exit)) (now (marks .exit)) r (now (answer .exit)) ⌝ }
 {
     let inspected = op_inspect::inspect(file, text, step, t, values, marks);
     *answer = api_answer::of_inspection(inspected);

@@ -16,7 +16,8 @@ pub extern "C" fn plot_run_direct(
     marks: &mut [u8],
     answer: &mut [u64; 8],
 ) -> u32
-    ensures { λ r. ⌜ RunCalled Direct (directRun (now (file .entry)) (now (text .entry)) budget (lengths (now (out .entry)) (now (values .entry)) (now (marks .entry)))) (now (file .entry)) (now (out .entry)) (now (values .entry)) (now (marks .entry)) (now (out .exit)) (now (values .exit)) (now (marks .exit)) r (now (answer .exit)) ⌝ }
+    ensures { λ r. ⌜ RunCalled Direct (directRun (now (file .entry)) (now (text .entry)) budget (lengths (now (out .entry)) (now (values .entry)) (now (marks .entry))))
+        (now (file .entry)) (now (out .entry)) (now (values .entry)) (now (marks .entry)) (now (out .exit)) (now (values .exit)) (now (marks .exit)) r (now (answer .exit)) ⌝ }
 {
     let ran = op_run::run_direct(file, text, budget, out, values, marks);
     *answer = api_answer::of_run(ran);
@@ -34,7 +35,8 @@ pub extern "C" fn plot_run_messages(
     marks: &mut [u8],
     answer: &mut [u64; 8],
 ) -> u32
-    ensures { λ r. ⌜ RunCalled Messages (directRun (now (file .entry)) (now (text .entry)) budget (lengths (now (out .entry)) (now (values .entry)) (now (marks .entry)))) (now (file .entry)) (now (out .entry)) (now (values .entry)) (now (marks .entry)) (now (out .exit)) (now (values .exit)) (now (marks .exit)) r (now (answer .exit)) ⌝ }
+    ensures { λ r. ⌜ RunCalled Messages (directRun (now (file .entry)) (now (text .entry)) budget (lengths (now (out .entry)) (now (values .entry)) (now (marks .entry))))
+        (now (file .entry)) (now (out .entry)) (now (values .entry)) (now (marks .entry)) (now (out .exit)) (now (values .exit)) (now (marks .exit)) r (now (answer .exit)) ⌝ }
 {
     let ran = op_run::run_messages(file, text, budget, out, values, marks);
     *answer = api_answer::of_run(ran);

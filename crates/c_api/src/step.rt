@@ -14,7 +14,9 @@ pub extern "C" fn plot_plan(
     rounds: &mut [u8; 64],
     answer: &mut [u64; 8],
 ) -> u32
-    ensures { λ r. ⌜ PlanAnswer (planOfStep (now (file .entry)) (now (text .entry)) step) r (now (answer .exit)) (record { kinds = now (kinds .entry); chains = now (chains .entry); rounds = now (rounds .entry) }) (record { kinds = now (kinds .exit); chains = now (chains .exit); rounds = now (rounds .exit) }) ⌝ }
+    ensures { λ r. ⌜ PlanAnswer (planOfStep (now (file .entry)) (now (text .entry)) step) r (now (answer .exit))
+        (record { kinds = now (kinds .entry); chains = now (chains .entry); rounds = now (rounds .entry) })
+        (record { kinds = now (kinds .exit); chains = now (chains .exit); rounds = now (rounds .exit) }) ⌝ }
 {
     let found = op_check::step::plan_step(file, text, step);
     if found.refusal != 0 {

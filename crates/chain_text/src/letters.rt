@@ -20,7 +20,7 @@ pub struct Letters {
 pub fn is_capital(b: u8) -> bool
     ensures { λ r. ⌜ r ≡ isCapital b ⌝ }
 {
-    (65 <= b) & (b <= 90)
+    (b'A' <= b) & (b <= b'Z')
 }
 
 // The field of a capital letter.
@@ -28,10 +28,10 @@ pub fn field_of(letter: u8) -> u64
     requires { ⌜ 65 ≤ letter ⌝ }
     ensures { λ r. ⌜ r ≡ letterField letter ⌝ }
 {
-    if letter < 77 {
-        (letter - 65) as u64
+    if letter < b'M' {
+        (letter - b'A') as u64
     } else {
-        (letter - 69) as u64
+        (letter - b'M') as u64 + 8
     }
 }
 
@@ -41,10 +41,10 @@ pub fn names_field(sizes: Sizes, letter: u8) -> bool
     ensures { λ r. ⌜ r ≡ names sizes letter ⌝ }
 {
     let l = letter as usize;
-    if l < 77 {
-        (65 <= l) & (l < 65 + sizes.references)
+    if letter < b'M' {
+        (b'A' <= letter) & (l < b'A' as usize + sizes.references)
     } else {
-        l < 77 + sizes.measures
+        l < b'M' as usize + sizes.measures
     }
 }
 
@@ -53,7 +53,7 @@ pub fn step(sizes: Sizes, room: usize, letters: Letters, letter: u8) -> Letters
     requires { ⌜ Limits sizes × (isCapital letter ≡ true) × (room ≤ 16) × (letters .packed + 5 ≤ 5 * 8 ^ (16 - room)) ⌝ }
     ensures { λ r. ⌜ r ≡ stepOf sizes room letters letter ⌝ }
 {
-    let kinded = letters.kinded & ((letters.packed == 0) | (letter < 77));
+    let kinded = letters.kinded & ((letters.packed == 0) | (letter < b'M'));
     let named = letters.named & names_field(sizes, letter);
     if room == 0 {
         Letters {

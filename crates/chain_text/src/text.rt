@@ -35,7 +35,7 @@ pub fn opens_at(text: &[u8], at: usize) -> bool
     if text.len() - 2 < at {
         return false;
     }
-    letters::is_capital(text[at]) & (text[at + 1] == 91)
+    letters::is_capital(text[at]) & (text[at + 1] == b'[')
 }
 
 // Letters read so far, and the place behind them.
@@ -67,7 +67,7 @@ fn closes_at(text: &[u8], at: usize, n: usize) -> bool
     ensures { λ r. ⌜ r ≡ closes n (drop at (now (text .entry))) ⌝ }
 {
     for i in 0..n {
-        if !starts_with(text, at + i, 93) {
+        if !starts_with(text, at + i, b']') {
             return false;
         }
     }
@@ -83,7 +83,7 @@ fn overlong(text: &[u8], at: usize, sizes: Sizes, letters: Letters) -> Scanned
     let end = opened.at;
     let seen = opened.letters;
     let hops = (end - at) / 2;
-    if !starts_with(text, end, 117) {
+    if !starts_with(text, end, b'u') {
         return Scanned::NoForm;
     }
     if !closes_at(text, end + 1, hops) {
@@ -102,7 +102,7 @@ fn first(text: &[u8], at: usize, sizes: Sizes, letters: Letters, room: usize) ->
     requires { ⌜ Limits sizes × (room ≤ 16) × (letters .packed + 5 ≤ 5 * 8 ^ (16 - room)) × (at ≤ length (now text)) ⌝ }
     ensures { λ r. ⌜ r ≡ firstOf sizes room letters at (drop at (now (text .entry))) ⌝ }
 {
-    if starts_with(text, at, 117) {
+    if starts_with(text, at, b'u') {
         return Head::Answer(Scanned::Chain(letters, at + 1));
     }
     if !opens_at(text, at) {
@@ -121,7 +121,7 @@ fn closed(text: &[u8], inner: Scanned) -> Scanned
     let Scanned::Chain(letters, end) = inner else {
         return Scanned::NoForm;
     };
-    if starts_with(text, end, 93) {
+    if starts_with(text, end, b']') {
         Scanned::Chain(letters, end + 1)
     } else {
         Scanned::NoForm

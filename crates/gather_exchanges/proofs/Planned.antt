@@ -1,54 +1,59 @@
--- The plan of rules that pass is one that the exchanges take.
+-- A plan that keeps its promise for readings that pass is one that the exchanges take.
 use Prim.Native.Nat.{ℕ, _≤_, _<_}
-use mathlib.Core.Path.{_≡_, ap, subst, _∙_}
-use mathlib.Core.List.{List}
+use mathlib.Core.Path.{_≡_, sym, subst}
 use native.Mathlib.Omega.{arith}
 use lib.ListN.{length}
 use Rattle.register.specs.declared.Sizes.{Sizes}
 use Rattle.chain.specs.Word.{Passes}
-use Rattle.plan_theory.specs.Plan.{hops, round, lastRound, line}
+use Rattle.plan_theory.specs.Plan.{hops, lineFrom, round, lastRound, line}
+use Rattle.plan_theory.specs.Promise.{Wanted}
 use Rattle.plan_theory.proofs.Facts.{needed-hops}
-use Rattle.plan_theory.proofs.Kept.{plan-promise}
 use Rattle.plan_lines.specs.Held.{facts, LineColumn}
+use Rattle.plan_lines.specs.Promised.{factAt}
 use Rattle.plan_lines.specs.declared.Plan.{Plan}
-use Rattle.plan_lines.proofs.Appending.{holds-count}
-use Rattle.plan_lines.proofs.Promised.{promised}
-use Rattle.program.specs.Program.{Rule, readings, stepPlan}
-use Rattle.program.specs.Passed.{RulesPass}
-use Rattle.machine.proofs.Readable.{Follows}
+use Rattle.machine.proofs.Readable.{Follows, wanted-follows}
 use Rattle.laws.proofs.Lists.{each-of}
-use Rattle.machine.proofs.Readings.{readings-pass, plan-follows}
 use Rattle.gather_exchanges.specs.Lines.{Lines, Followable, StepPlanned}
-
-module _ {s : Sizes} {rs : List Rule} (k : RulesPass s rs) where
-  plan-short : (i : ℕ) → i < length (stepPlan rs) → hops (line (stepPlan rs) i) ≤ 16
-  unfolding stepPlan
-  plan-short i h =
-      let w = plan-promise (readings rs) .wanted i h in
-      omega (arith, needed-hops (w .needed), each-of (Passes s) (readings-pass s rs (k .each)) (w .among) .short)
-
-  plan-followable : Followable s (stepPlan rs)
-  plan-followable = record {
-    short = plan-short;
-    reads = λ i w h e. subst (Follows s) e (plan-follows s k i h);
-    backs = λ i w h e. subst (Follows s) e (plan-follows s k i h);
-  }
+use Rattle.gather_exchanges.proofs.Sending.{plan-count, plan-line, plan-round}
 
 module _ {s : Sizes} {p : Plan} (planned : StepPlanned s p) where
   pub planned-lines : Lines p
-  unfolding stepPlan
-  planned-lines = let h = planned .holds in record { keyed = h .keyed; each = promised {ws = readings (planned .rules)} h .each }
-
-  pub planned-followable : Followable s (facts p)
-  planned-followable = rw (planned .holds .facts-are) (plan-followable (planned .passes))
+  planned-lines = record { keys-length = planned .keys-length; count≤ = planned .promised .count≤; each = planned .promised .each }
 
   pub planned-count : length (facts p) ≡ p .count
-  planned-count = ap length (planned .holds .facts-are) ∙ holds-count (planned .holds)
+  planned-count = plan-count planned-lines
+
+  -- what is promised of line i, for the line as a fact
+  module _ (i : ℕ) (h : i < length (facts p)) where
+    inside : i < p .count
+    inside = omega (arith, planned-count)
+
+    line-is : line (facts p) i ≡ factAt p i
+    line-is = plan-line planned-lines i inside
+
+    wanted : Wanted (planned .readings) (line (facts p) i)
+    wanted = subst (Wanted (planned .readings)) (sym line-is) (planned .promised .wanted i inside)
+
+    pub planned-has-line : lineFrom (line (facts p) i) ≤ hops (line (facts p) i)
+    planned-has-line = rw line-is (planned .promised .each i inside .has-line)
+
+    pub planned-follows : Follows s (line (facts p) i)
+    planned-follows = wanted-follows s (λ v m. each-of (Passes s) (planned .passes) m .follows) wanted
+
+    -- no line has a round past the last
+    pub planned-last : round (line (facts p) i) ≤ lastRound (facts p)
+    planned-last = omega (arith, plan-round planned-lines i inside, planned .promised .to-last i inside)
+
+    short : hops (line (facts p) i) ≤ 16
+    short = omega (arith, needed-hops (wanted .needed), each-of (Passes s) (planned .passes) (wanted .among) .short)
+
+  pub planned-followable : Followable s (facts p)
+  planned-followable =
+      record {
+        short = short;
+        reads = λ i w h e. subst (Follows s) e (planned-follows i h);
+        backs = λ i w h e. subst (Follows s) e (planned-follows i h);
+      }
 
   pub planned-rounds : LineColumn (p .rounds) (facts p) round
-  planned-rounds = rw (planned .holds .facts-are) (planned .holds .rounds-are)
-
-  -- no line has a round past the last
-  pub planned-last : (i : ℕ) → i < length (facts p) → round (line (facts p) i) ≤ lastRound (facts p)
-  unfolding stepPlan
-  planned-last = rw (planned .holds .facts-are) (plan-promise (readings (planned .rules)) .to-last)
+  planned-rounds = record { places = planned .rounds-length; entry = λ i h. plan-round planned-lines i (inside i h) }

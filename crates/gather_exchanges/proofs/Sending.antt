@@ -62,10 +62,10 @@ pub record Earlier (s : Sizes) (cells : List Cell) (l : List Fact) (t i : ℕ) (
 
 module _ {p : Plan} (lines : Lines p) where
   pub plan-count : length (facts p) ≡ p .count
-  plan-count = facts-length (p .keys) (p .count) (omega (arith, lines .keyed))
+  plan-count = facts-length (p .keys) (p .count) (omega (arith, lines .keys-length, lines .count≤))
 
   pub plan-line : (i : ℕ) → i < p .count → line (facts p) i ≡ factAt p i
-  plan-line i b = facts-line (p .keys) (p .count) (omega (arith, lines .keyed)) i b
+  plan-line i b = facts-line (p .keys) (p .count) (omega (arith, lines .keys-length, lines .count≤)) i b
 
   pub plan-round : (i : ℕ) → i < p .count → lineAt p i .round ≡ round (line (facts p) i)
   plan-round i b = lines .each i b .round-is ∙ ap round (sym (plan-line i b))
@@ -79,7 +79,7 @@ module _ {p : Plan} (lines : Lines p) where
     promise = lines .each i b
 
     serves-line : {j : ℕ} {g : Fact} → Serves p i j g → j ≢ 64
-    serves-line x e = omega (arith, x .before, lines .keyed)
+    serves-line x e = omega (arith, x .before, lines .count≤)
 
     back-long : lineAt p i .back ≢ 64 → 2 ≤ hops (factAt p i)
     back-long e = ⊎-elim (λ one. absurd (e (promise .no-back-line one))) (λ two. two) (lt-or-le (hops (factAt p i)) 2)
@@ -109,10 +109,10 @@ module _ {p : Plan} (lines : Lines p) where
     read-before e = promise .read-line (read-long e) .before
 
     pub back-le : lineAt p i .back ≤ 64
-    back-le = w.none-or-line (lineAt p i .back) (λ e. omega arith) (λ e. omega (arith, back-before e, lines .keyed))
+    back-le = w.none-or-line (lineAt p i .back) (λ e. omega arith) (λ e. omega (arith, back-before e, lines .count≤))
 
     pub read-le : lineAt p i .read ≤ 64
-    read-le = w.none-or-line (lineAt p i .read) (λ e. omega arith) (λ e. omega (arith, read-before e, lines .keyed))
+    read-le = w.none-or-line (lineAt p i .read) (λ e. omega arith) (λ e. omega (arith, read-before e, lines .count≤))
 
     module _ {s : Sizes} (follow : Followable s (facts p)) where
       line-follows : (g : Fact) → line (facts p) i ≡ g → Follows s g

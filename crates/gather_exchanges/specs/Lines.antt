@@ -7,14 +7,12 @@ use lib.Dec.{ltb}
 use lib.IntN.{ℤ}
 use lib.ListN.{length}
 use Rattle.register.specs.declared.Sizes.{Sizes}
-use Rattle.laws.specs.Lists.{every}
-use Rattle.chain.specs.Word.{readable}
+use Rattle.laws.specs.Lists.{every, Each}
+use Rattle.chain.specs.Word.{readable, Passes}
 use Rattle.plan_theory.specs.Plan.{Fact, back, read, hops, line}
-use Rattle.plan_lines.specs.Held.{facts, Keyed, HoldsLines}
-use Rattle.plan_lines.specs.Promised.{LinePromise}
+use Rattle.plan_lines.specs.Held.{facts}
+use Rattle.plan_lines.specs.Promised.{LinePromise, Promised}
 use Rattle.plan_lines.specs.declared.Plan.{Plan}
-use Rattle.program.specs.Program.{Rule, stepPlan}
-use Rattle.program.specs.Passed.{RulesPass}
 use Rattle.machine_messages.specs.Held.{needed}
 
 -- the word that f's writer has to know is the field g, where it has one hop
@@ -23,7 +21,8 @@ OneHop f g = length (needed f) < 2 → needed f ≡ g ∷ []
 
 -- a plan that keeps its promise of each line
 pub record Lines (p : Plan) : Type 0 where
-  pub keyed : Keyed (p .keys) (p .count)
+  pub keys-length : length (p .keys) ≡ 64
+  pub count≤ : p .count ≤ 64
   pub each : (i : ℕ) → i < p .count → LinePromise p i
 
 -- every line has at most 16 hops, the word of a Read line can be followed, and that of a Back line leads from record to record
@@ -39,8 +38,10 @@ pub record PlanReady (s : Sizes) (p : Plan) (values : List ℤ) (marks : List �
   pub values-room : p .count * s .records ≤ length values
   pub marks-room : p .count * s .records ≤ length marks
 
--- a plan of rules that pass
+-- a plan that keeps its promise for readings that pass, in arrays of 64
 pub record StepPlanned (s : Sizes) (p : Plan) : Type 0 where
-  pub rules : List Rule
-  pub passes : RulesPass s rules
-  pub holds : HoldsLines p (stepPlan rules)
+  pub readings : List (List ℕ)
+  pub passes : Each (Passes s) readings
+  pub promised : Promised readings p
+  pub keys-length : length (p .keys) ≡ 64
+  pub rounds-length : length (p .rounds) ≡ 64

@@ -7,13 +7,13 @@ use mathlib.Core.Logic.{⊎-elim}
 use native.Mathlib.Nat.{mul-le-mul-right}
 use native.Mathlib.Omega.{arith}
 use lib.IntN.{ℤ}
-use lib.ListN.{getD}
+use lib.ListN.{length, getD}
 use Rattle.register.specs.declared.Sizes.{Sizes}
 use Rattle.register.specs.declared.cells.Cell.{Cell}
 use Rattle.chain.specs.Word.{valueAtRecord}
 use Rattle.plan_theory.specs.Plan.{Fact, back, read, word, line}
 use Rattle.plan_keys.specs.Keys.{factOf, kind}
-use Rattle.plan_lines.specs.Held.{factsIn, Keyed}
+use Rattle.plan_lines.specs.Held.{factsIn}
 use Rattle.plan_keys.specs.declared.key.Kind.{Kind}
 use Rattle.plan_keys.specs.declared.key.Kind.the-variants.{Back, Read}
 use Rattle.plan_lines.proofs.Search.{facts-line}
@@ -32,11 +32,11 @@ fact-by-kind (back w) = refl
 fact-by-kind (read w) = refl
 
 -- line i by the kind and the word of its key
-pub line-by-key : {k : Kind} {w : List ℕ} (keys : List ℕ) (count i : ℕ) → Keyed keys count → i < count
+pub line-by-key : {k : Kind} {w : List ℕ} (keys : List ℕ) (count i : ℕ) → count ≤ length keys → i < count
     → k ≡ kind (factOf (getD keys i 0)) → w ≡ word (factOf (getD keys i 0))
     → line (factsIn keys count) i ≡ kindFact k w
-line-by-key keys count i keyed h e q =
-    facts-line keys count (omega (arith, keyed .places, keyed .taken≤)) i h ∙ fact-by-kind (factOf (getD keys i 0)) ∙ sym (ap₂ kindFact e q)
+line-by-key keys count i within h e q =
+    facts-line keys count within i h ∙ fact-by-kind (factOf (getD keys i 0)) ∙ sym (ap₂ kindFact e q)
 
 module _ (s : Sizes) (cells : List Cell) where
   -- a reading stays where its place is kept

@@ -1,5 +1,4 @@
--- Laws for the proofs of the functions, and of the lines that can be filled.
+-- Laws for the proofs of the functions.
 pub mod Filling
 pub mod Leading
 pub mod Hopping
-pub mod Readings

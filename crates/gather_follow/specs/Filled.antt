@@ -15,7 +15,7 @@ use Rattle.chain.specs.declared.reading.Reading.{Reading}
 use Rattle.chain.specs.declared.reading.Reading.the-variants.{Missing, Value}
 use Rattle.chain.specs.Word.{readable, readOf, hop, valueAtRecord, refersTo}
 use Rattle.plan_theory.specs.Plan.{Fact, read, line}
-use Rattle.plan_lines.specs.Held.{factsIn, Keyed}
+use Rattle.plan_lines.specs.Held.{factsIn}
 use Rattle.scratch.specs.Places.{placeAt, Kept, StoredFrom}
 
 -- every Read line can be followed, and has two or more hops
@@ -25,7 +25,8 @@ pub record FollowLines (s : Sizes) (l : List Fact) : Type 0 where
 
 -- 64 places for keys and as many that tell which lines are wanted, Read lines that can be followed, and room for the places of the first `count`
 pub record FollowReady (s : Sizes) (keys : List ℕ) (wanted : List Bool) (count : ℕ) (values : List ℤ) (marks : List ℕ) : Type 0 where
-  pub keyed : Keyed keys count
+  pub keys-length : length keys ≡ 64
+  pub count≤ : count ≤ 64
   pub wanted-length : length wanted ≡ 64
   pub follow : FollowLines s (factsIn keys count)
   pub values-room : count * s .records ≤ length values

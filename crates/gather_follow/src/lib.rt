@@ -1,6 +1,7 @@
 // The direct machine's readings: the places of a plan's Read lines, filled by following references.
 ghost use mathlib.Core.Path.{_≡_};
 ghost use mathlib.Core.Bool.{true};
+ghost use mathlib.Core.List.{[], _∷_};
 ghost use Prim.Native.Nat.{_+_, _*_, _≤_, _<_};
 ghost use lib.IntN.{pos};
 ghost use lib.ListN.{length, getD};
@@ -15,11 +16,11 @@ ghost use Rattle.scratch.specs.Places.{placeAt, StoredFrom};
 ghost use Rattle.gather_follow.specs.Filled.{FollowReady, referred, Referring, Hopped, Filled};
 use chain::follow;
 use chain::packed;
+use chain::reading::Reading;
 use plan_keys::key;
 use plan_keys::key::Kind;
 use register::Sizes;
 use scratch;
-use scratch::column;
 
 // Place j one hop on: what is read in a column of the record that it names; where nothing is read it stays so.
 fn hop(
@@ -71,7 +72,48 @@ fn advance(
     }
 }
 
-// The places of line i: what each record reads for a chain that has a hop.
+// What record u reads by two hops.
+fn two_hops(
+    cells: &[u8],
+    filled: &[u8],
+    sizes: Sizes,
+    u: usize,
+    field: usize,
+    next: usize,
+) -> Reading
+    requires { ⌜ Parts sizes (now cells) (now filled) × Valid sizes (cellsOf (now cells) (now filled)) × (u < sizes .records) × (readable sizes (field ∷ next ∷ []) ≡ true) ⌝ }
+    ensures { λ r. ⌜ r ≡ valueAtRecord sizes (cellsOf (now (cells .entry)) (now (filled .entry))) (field ∷ next ∷ []) u ⌝ }
+{
+    let Reading::Value(number) = follow::read_cell(cells, filled, sizes, u, field) else {
+        return Reading::Missing;
+    };
+    let v = integers::index(number);
+    follow::read_cell(cells, filled, sizes, v, next)
+}
+
+// The places of a line, from `first` on, two hops on from the records themselves.
+fn begin_line(
+    cells: &[u8],
+    filled: &[u8],
+    values: &mut [i64],
+    marks: &mut [u8],
+    sizes: Sizes,
+    first: usize,
+    field: usize,
+    next: usize,
+)
+    requires { ⌜ Parts sizes (now cells) (now filled) × Valid sizes (cellsOf (now cells) (now filled)) × (readable sizes (field ∷ next ∷ []) ≡ true)
+        × (first + sizes .records ≤ length (now values)) × (first + sizes .records ≤ length (now marks)) ⌝ }
+    ensures { λ _. ⌜ StoredFrom first (sizes .records) (valueAtRecord sizes (cellsOf (now (cells .entry)) (now (filled .entry))) (field ∷ next ∷ []))
+        (now (values .entry)) (now (marks .entry)) (now (values .exit)) (now (marks .exit)) ⌝ }
+{
+    for u in 0..sizes.records {
+        let reading = two_hops(cells, filled, sizes, u, field, next);
+        scratch::put_reading(values, marks, first + u, reading);
+    }
+}
+
+// The places of line i: what each record reads for a chain of two or more hops.
 fn fill_line(
     cells: &[u8],
     filled: &[u8],
@@ -81,15 +123,17 @@ fn fill_line(
     i: usize,
     chain: u64,
 )
-    requires { ⌜ Parts sizes (now cells) (now filled) × Valid sizes (cellsOf (now cells) (now filled)) × (readable sizes (unpack chain) ≡ true) × (1 ≤ chain)
+    requires { ⌜ Parts sizes (now cells) (now filled) × Valid sizes (cellsOf (now cells) (now filled)) × (readable sizes (unpack chain) ≡ true) × (2 ≤ length (unpack chain))
         × (i * sizes .records + sizes .records ≤ length (now values)) × (i * sizes .records + sizes .records ≤ length (now marks)) ⌝ }
     ensures { λ _. ⌜ StoredFrom (i * sizes .records) (sizes .records) (valueAtRecord sizes (cellsOf (now (cells .entry)) (now (filled .entry))) (unpack chain))
         (now (values .entry)) (now (marks .entry)) (now (values .exit)) (now (marks .exit)) ⌝ }
 {
     let first = i * sizes.records;
     let field = packed::first_hop(chain) as usize;
-    column::copy_column(cells, filled, values, marks, sizes, first, field);
-    let mut rest = packed::rest_hops(chain);
+    let behind = packed::rest_hops(chain);
+    let second = packed::first_hop(behind) as usize;
+    begin_line(cells, filled, values, marks, sizes, first, field, second);
+    let mut rest = packed::rest_hops(behind);
     while rest != 0 {
         let next = packed::first_hop(rest) as usize;
         advance(cells, filled, values, marks, sizes, first, next);

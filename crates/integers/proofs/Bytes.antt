@@ -10,7 +10,7 @@ use lib.ListN.{length, getD, drop}
 use mir.Syntax.{w32}
 use mir.Val.{toZ, ofZ, SFits, Fits}
 use mir.Facts.{toZ-ofZ, ofZ-toZ, sfits-toZ, fits-ofZ}
-use Rattle.integers.specs.Bytes.{word, wordAt, wordBytes, valueAt, valueBytes}
+use Rattle.integers.specs.Bytes.{fourBytes, wordAt, wordBytes, valueAt, valueBytes}
 
 pub wordBytes-length : (n : ℕ) → length (wordBytes n) ≡ 4
 unfolding wordBytes
@@ -38,7 +38,7 @@ joined a b c d e₁ e₂ e₃ e₄ = omega arith
 
 -- a number is read back from its bytes, whatever stands behind them
 pub word-read : (n : ℕ) (rest : List ℕ) → n < 4294967296 → wordAt (wordBytes n ++ rest) 0 ≡ n
-unfolding word wordAt wordBytes
+unfolding fourBytes wordAt wordBytes
 word-read n rest h =
     joined (n % 256) (n / 256 % 256) (n / 65536 % 256) (n / 16777216 % 256)
     (split n)
@@ -60,8 +60,8 @@ unfolding valueAt
 value-behind k at s = ap (toZ w32) (word-behind k at s)
 
 -- four bytes are written back from the number that they are
-word-written : (a b c d : ℕ) → a < 256 → b < 256 → c < 256 → d < 256 → wordBytes (word a b c d) ≡ a ∷ b ∷ c ∷ d ∷ []
-unfolding word wordBytes
+word-written : (a b c d : ℕ) → a < 256 → b < 256 → c < 256 → d < 256 → wordBytes (fourBytes a b c d) ≡ a ∷ b ∷ c ∷ d ∷ []
+unfolding fourBytes wordBytes
 word-written a b c d ha hb hc hd =
     let w : ℕ = c + 256 * d in
     let v : ℕ = b + 256 * w in
@@ -73,7 +73,7 @@ word-written a b c d ha hb hc hd =
 
 module _ (s : List ℕ) (bytes : (i : ℕ) → getD s i 0 < 256) where
   pub word-fits : (at : ℕ) → Fits w32 (wordAt s at)
-  unfolding word wordAt
+  unfolding fourBytes wordAt
   word-fits at = record { fits = omega (arith, bytes at, bytes (at + 1), bytes (at + 2), bytes (at + 3)) }
 
   pub value-fits : (at : ℕ) → SFits w32 (valueAt s at)

@@ -7,12 +7,12 @@ use mir.Syntax.{w32}
 use mir.Val.{toZ, ofZ}
 
 -- the number of four bytes
-unfoldable pub word : ℕ → ℕ → ℕ → ℕ → ℕ
-word a b c d = a + 256 * (b + 256 * (c + 256 * d))
+unfoldable pub fourBytes : ℕ → ℕ → ℕ → ℕ → ℕ
+fourBytes a b c d = a + 256 * (b + 256 * (c + 256 * d))
 
 -- the number whose four bytes stand at `at`
 unfoldable pub wordAt : List ℕ → ℕ → ℕ
-wordAt s at = word (getD s at 0) (getD s (at + 1) 0) (getD s (at + 2) 0) (getD s (at + 3) 0)
+wordAt s at = fourBytes (getD s at 0) (getD s (at + 1) 0) (getD s (at + 2) 0) (getD s (at + 3) 0)
 
 -- the four bytes of a number
 unfoldable pub wordBytes : ℕ → List ℕ

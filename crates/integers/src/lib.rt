@@ -8,7 +8,7 @@ ghost use lib.Seq.{sets};
 ghost use lib.Signed.{mag, ltZ, nonNeg};
 ghost use mir.Syntax.{w32};
 ghost use mir.Val.{SFits, toZ, ofZ};
-ghost use Rattle.integers.specs.Bytes.{word as wordOf, wordAt, valueAt, valueBytes};
+ghost use Rattle.integers.specs.Bytes.{fourBytes, wordAt, valueAt, valueBytes};
 ghost use Rattle.integers.specs.Range.{sumOf, eqZ, isIndex};
 
 // A sum, or that it leaves the range of a value.
@@ -18,7 +18,7 @@ pub enum Sum {
 }
 
 pub fn word(a: u8, b: u8, c: u8, d: u8) -> u32
-    ensures { λ r. ⌜ r ≡ wordOf a b c d ⌝ }
+    ensures { λ r. ⌜ r ≡ fourBytes a b c d ⌝ }
 {
     a as u32 + 256 * (b as u32 + 256 * (c as u32 + 256 * (d as u32)))
 }

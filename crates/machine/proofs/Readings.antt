@@ -1,16 +1,15 @@
--- Every reading of rules that pass can be followed, and so can every line of their plan.
-use Prim.Native.Nat.{ℕ, _<_}
+-- Every reading of rules that pass can be followed, and a plan that holds their lines keeps its promise for these readings.
 use mathlib.Core.List.{List, [], _∷_}
-use lib.ListN.{length}
 use Rattle.register.specs.declared.Sizes.{Sizes}
 use Rattle.chain.specs.Word.{Passes}
-use Rattle.plan_theory.specs.Plan.{line}
-use Rattle.plan_theory.proofs.Kept.{plan-promise}
+use Rattle.plan_lines.specs.Held.{HoldsLines}
+use Rattle.plan_lines.specs.Promised.{Promised}
+use Rattle.plan_lines.specs.declared.Plan.{Plan}
+use Rattle.plan_lines.proofs.Promised.{promised}
 use Rattle.program.specs.Program.{Expression, reading, constant, operation, Test, always, when, Target, own, remote, Rule, expressionReadings, testReadings, targetReadings, ruleReadings, readings, stepPlan}
 use Rattle.laws.specs.Lists.{Each}
-use Rattle.program.specs.Passed.{ExpressionPasses, TestPasses, TargetPasses, RulePasses, RulesPass}
-use Rattle.laws.proofs.Lists.{each-append, each-of}
-use Rattle.machine.proofs.Readable.{Follows, wanted-follows}
+use Rattle.program.specs.Passed.{ExpressionPasses, TestPasses, TargetPasses, RulePasses}
+use Rattle.laws.proofs.Lists.{each-append}
 
 module _ (s : Sizes) where
   -- the readings of an expression, of a test, and of a target
@@ -42,7 +41,7 @@ module _ (s : Sizes) where
   readings-pass [] k = tt
   readings-pass (r ∷ rs) k = each-append (Passes s) (ruleReadings r) (readings rs) (rule-pass r (k .0)) (readings-pass rs (k .1))
 
-  -- and so can every line, for it is one that a reading wants
-  pub plan-follows : {rs : List Rule} → RulesPass s rs → (i : ℕ) → i < length (stepPlan rs) → Follows s (line (stepPlan rs) i)
-  unfolding stepPlan
-  plan-follows {rs} k i h = wanted-follows s (λ v m. each-of (Passes s) (readings-pass rs (k .each)) m .follows) (plan-promise (readings rs) .wanted i h)
+-- all that the machines take of the plan of a step
+pub step-promised : {p : Plan} (rs : List Rule) → HoldsLines p (stepPlan rs) → Promised (readings rs) p
+unfolding stepPlan
+step-promised rs h = promised {ws = readings rs} h

@@ -6,23 +6,23 @@ use native.Mathlib.Omega.{arith}
 use Rattle.register.specs.declared.Sizes.{Sizes}
 use Rattle.register.specs.declared.cells.Cell.{Cell}
 use Rattle.program.specs.Program.{Step}
-use Rattle.machine_messages.specs.Counts.{stepExchanges, stepMessages, exchanges, messages}
+use Rattle.machine_messages.specs.Counts.{stepExchanges, stepMessages, traceExchanges, traceMessages}
 
-pub exchanges-append : (t t′ : List (Step × List Cell)) → exchanges (t ++ t′) ≡ exchanges t + exchanges t′
-unfolding exchanges
+pub exchanges-append : (t t′ : List (Step × List Cell)) → traceExchanges (t ++ t′) ≡ traceExchanges t + traceExchanges t′
+unfolding traceExchanges
 exchanges-append [] t′ = omega arith
 exchanges-append ((x, cells) ∷ t) t′ = omega (arith, exchanges-append t t′)
 
-pub exchanges-more : (t : List (Step × List Cell)) (x : Step) (cells : List Cell) → exchanges (t ++ ((x, cells) ∷ [])) ≡ exchanges t + stepExchanges (x .rules)
-unfolding exchanges
+pub exchanges-more : (t : List (Step × List Cell)) (x : Step) (cells : List Cell) → traceExchanges (t ++ ((x, cells) ∷ [])) ≡ traceExchanges t + stepExchanges (x .rules)
+unfolding traceExchanges
 exchanges-more t x cells = omega (arith, exchanges-append t ((x, cells) ∷ []))
 
-pub messages-append : (s : Sizes) (t t′ : List (Step × List Cell)) → messages s (t ++ t′) ≡ messages s t + messages s t′
-unfolding messages
+pub messages-append : (s : Sizes) (t t′ : List (Step × List Cell)) → traceMessages s (t ++ t′) ≡ traceMessages s t + traceMessages s t′
+unfolding traceMessages
 messages-append s [] t′ = omega arith
 messages-append s ((x, cells) ∷ t) t′ = omega (arith, messages-append s t t′)
 
 pub messages-more : (s : Sizes) (t : List (Step × List Cell)) (x : Step) (cells : List Cell)
-    → messages s (t ++ ((x, cells) ∷ [])) ≡ messages s t + stepMessages s (x .rules) cells
-unfolding messages
+    → traceMessages s (t ++ ((x, cells) ∷ [])) ≡ traceMessages s t + stepMessages s (x .rules) cells
+unfolding traceMessages
 messages-more s t x cells = omega (arith, messages-append s t ((x, cells) ∷ []))

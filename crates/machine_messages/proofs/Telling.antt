@@ -7,7 +7,6 @@ use native.Mathlib.Omega.{arith}
 use borrow.Author.Tests.{ltb-true, le-ltb}
 use lib.Dec.{ltb}
 use lib.IntN.{pos, natAbs}
-use lib.ListN.{length}
 use Rattle.laws.proofs.Bools.{and-both}
 use Rattle.integers.proofs.Complement.{index-is}
 use Rattle.register.specs.Shape.{Valid}
@@ -18,14 +17,10 @@ use Rattle.chain.specs.declared.reading.Reading.the-variants.{Missing, Value}
 use Rattle.chain.specs.Word.{hop, follow, valueAtRecord, refersTo}
 use Rattle.laws.specs.Lists.{every}
 use Rattle.chain.proofs.Following.{follow-missing, own-refers, hop-refers}
-use Rattle.plan_theory.specs.Plan.{Fact, back, read, word, hops, front, rest, lineFrom, backNeed, readNeed, round, line}
+use Rattle.plan_theory.specs.Plan.{Fact, back, read, word, hops, front, rest, lineFrom, backNeed, readNeed, round}
 use Rattle.plan_theory.proofs.Half.{half-pos}
 use Rattle.plan_theory.proofs.Facts.{front-rest, front-length, round-one, round-both, fact-ind}
-use Rattle.plan_theory.proofs.Kept.{plan-promise}
-use Rattle.program.specs.Program.{Rule, readings, stepPlan}
-use Rattle.program.specs.Passed.{RulesPass}
 use Rattle.machine.proofs.Readable.{referring, Follows, back-follows, read-follows}
-use Rattle.machine.proofs.Readings.{plan-follows}
 use Rattle.machine_messages.specs.Held.{knows, writer, needed, written, sent, heldAfter}
 use Rattle.machine_messages.proofs.Settling.{held-now, held-settled}
 
@@ -100,10 +95,3 @@ module _ {s : Sizes} {cells : List Cell} (valid : Valid s cells) where
       (λ f h b r k l t u ht hu.
       let m = max (round (backNeed f)) (round (readNeed f)) in
       held-sent f m t u (round-both f h) (omega (arith, round-both f h)) (sent-value f h b r k m u (omega arith) (omega arith) hu))
-
-  -- every line of the plan of rules that pass
-  pub lines-told : {rs : List Rule} → RulesPass s rs → (i t u : ℕ) → i < length (stepPlan rs) → round (line (stepPlan rs) i) ≤ t → u < s .records
-      → heldAfter s cells t (line (stepPlan rs) i) u ≡ valueAtRecord s cells (word (line (stepPlan rs) i)) u
-  unfolding stepPlan
-  lines-told {rs} k i t u h ht hu =
-      told (line (stepPlan rs) i) (plan-follows s k i h) (plan-promise (readings rs) .stands i h .has-line) t u ht hu

@@ -52,10 +52,10 @@ stepMessages s rs cells =
     planMessages (heldIn s rs cells) (stepPlan rs) n + length (recordMessages (byMessages s rs cells) rs n)
 
 -- "the sum, over the finished steps, each counted as often as it finished"
-unfoldable pub exchanges : List (Step × List Cell) → ℕ
-exchanges [] = 0
-exchanges ((x, cells) ∷ trace) = stepExchanges (x .rules) + exchanges trace
+unfoldable pub traceExchanges : List (Step × List Cell) → ℕ
+traceExchanges [] = 0
+traceExchanges ((x, cells) ∷ trace) = stepExchanges (x .rules) + traceExchanges trace
 
-unfoldable pub messages : Sizes → List (Step × List Cell) → ℕ
-messages s [] = 0
-messages s ((x, cells) ∷ trace) = stepMessages s (x .rules) cells + messages s trace
+unfoldable pub traceMessages : Sizes → List (Step × List Cell) → ℕ
+traceMessages s [] = 0
+traceMessages s ((x, cells) ∷ trace) = stepMessages s (x .rules) cells + traceMessages s trace

@@ -34,7 +34,8 @@ pub fn inspect(
     values: &mut [i64],
     marks: &mut [u8],
 ) -> InspectAnswer
-    ensures { λ r. ⌜ Answered (inspection (now (file .entry)) (now (text .entry)) step (length (now (values .entry))) (length (now (marks .entry)))) (now (file .entry)) t (now (values .entry)) (now (marks .entry)) (now (values .exit)) (now (marks .exit)) r ⌝ }
+    ensures { λ r. ⌜ Answered (inspection (now (file .entry)) (now (text .entry)) step (length (now (values .entry))) (length (now (marks .entry))))
+        (now (file .entry)) t (now (values .entry)) (now (marks .entry)) (now (values .exit)) (now (marks .exit)) r ⌝ }
 {
     let planned = step::plan_step(file, text, step);
     if planned.refusal != 0 {

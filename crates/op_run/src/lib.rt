@@ -44,7 +44,8 @@ fn run_text(
     marks: &mut [u8],
     machine: Machine,
 ) -> RunAnswer
-    ensures { λ r. ⌜ Answered machine (directRun (now (file .entry)) (now (text .entry)) budget (lengths (now (out .entry)) (now (values .entry)) (now (marks .entry)))) (now (file .entry)) (now (out .entry)) (now (values .entry)) (now (marks .entry)) (now (out .exit)) (now (values .exit)) (now (marks .exit)) r ⌝ }
+    ensures { λ r. ⌜ Answered machine (directRun (now (file .entry)) (now (text .entry)) budget (lengths (now (out .entry)) (now (values .entry)) (now (marks .entry))))
+        (now (file .entry)) (now (out .entry)) (now (values .entry)) (now (marks .entry)) (now (out .exit)) (now (values .exit)) (now (marks .exit)) r ⌝ }
 {
     let checked = check::check(file, text);
     if checked.refusal != 0 {
@@ -75,7 +76,8 @@ pub fn run_direct(
     values: &mut [i64],
     marks: &mut [u8],
 ) -> RunAnswer
-    ensures { λ r. ⌜ Answered Direct (directRun (now (file .entry)) (now (text .entry)) budget (lengths (now (out .entry)) (now (values .entry)) (now (marks .entry)))) (now (file .entry)) (now (out .entry)) (now (values .entry)) (now (marks .entry)) (now (out .exit)) (now (values .exit)) (now (marks .exit)) r ⌝ }
+    ensures { λ r. ⌜ Answered Direct (directRun (now (file .entry)) (now (text .entry)) budget (lengths (now (out .entry)) (now (values .entry)) (now (marks .entry))))
+        (now (file .entry)) (now (out .entry)) (now (values .entry)) (now (marks .entry)) (now (out .exit)) (now (values .exit)) (now (marks .exit)) r ⌝ }
 {
     run_text(file, text, budget, out, values, marks, Machine::Direct)
 }
@@ -90,7 +92,8 @@ pub fn run_messages(
     values: &mut [i64],
     marks: &mut [u8],
 ) -> RunAnswer
-    ensures { λ r. ⌜ Answered Messages (directRun (now (file .entry)) (now (text .entry)) budget (lengths (now (out .entry)) (now (values .entry)) (now (marks .entry)))) (now (file .entry)) (now (out .entry)) (now (values .entry)) (now (marks .entry)) (now (out .exit)) (now (values .exit)) (now (marks .exit)) r ⌝ }
+    ensures { λ r. ⌜ Answered Messages (directRun (now (file .entry)) (now (text .entry)) budget (lengths (now (out .entry)) (now (values .entry)) (now (marks .entry))))
+        (now (file .entry)) (now (out .entry)) (now (values .entry)) (now (marks .entry)) (now (out .exit)) (now (values .exit)) (now (marks .exit)) r ⌝ }
 {
     run_text(file, text, budget, out, values, marks, Machine::Messages)
 }

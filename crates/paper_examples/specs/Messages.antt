@@ -10,10 +10,10 @@ use Rattle.plan_theory.specs.Plan.{Fact, back, read, round, rounds, tree, treeW
 use Rattle.program.specs.Program.{Step, Program, stepPlan, readings, ruleReadings, targetReadings, testReadings, expressionReadings, someTarget, isRemote, hasRemote}
 use Rattle.machine.specs.Run.{Run, run}
 use Rattle.machine_messages.specs.Held.{knows, writer, needed, written, sent, heldAfter}
-use Rattle.machine_messages.specs.Counts.{mostRounds, heldIn, byMessages, lineMessages, planMessages, stepExchanges, stepMessages, exchanges, messages}
+use Rattle.machine_messages.specs.Counts.{mostRounds, heldIn, byMessages, lineMessages, planMessages, stepExchanges, stepMessages, traceExchanges, traceMessages}
 use Rattle.paper_examples.specs.Printed.{printedSizes, printedCells}
 use Rattle.paper_examples.specs.Programs.{printedStep}
-use Rattle.paper_examples.specs.Runs.{exampleRun, exampleMessages, printedResult}
+use Rattle.paper_examples.specs.Runs.{exampleRun, overPrinted, printedResult}
 
 -- the lines of a step's plan, each with its messages over the cells before the step
 unfoldable pub lineCounts : Sizes → Step → List Cell → List (Fact × ℕ)
@@ -21,9 +21,9 @@ unfolding width cellIndex isReference column readOf readCell round rounds tree t
 lineCounts s x cells = map (λ f. (f, lineMessages (heldIn s (x .rules) cells f) (s .records))) (stepPlan (x .rules))
 
 -- the exchanges and the messages of a run
-unfoldable pub counted : Sizes → Run → ℕ × ℕ
-unfolding lineCounts someTarget isRemote hasRemote planMessages stepExchanges stepMessages exchanges messages
-counted s x = (exchanges (x .trace), messages s (x .trace))
+unfoldable pub runCounts : Sizes → Run → ℕ × ℕ
+unfolding lineCounts someTarget isRemote hasRemote planMessages stepExchanges stepMessages traceExchanges traceMessages
+runCounts s x = (traceExchanges (x .trace), traceMessages s (x .trace))
 
 -- the run of the message machine
 unfoldable pub messageRun : Sizes → Program → ℕ → List Cell → Run
@@ -37,8 +37,8 @@ unfolding lineCounts printedSizes printedCells
 printed-lines = refl
 
 -- "3 exchanges 4 letters"
-pub printed-counts : counted printedSizes (exampleMessages (printedStep ∷ [])) ≡ (3, 4)
-unfolding counted exampleMessages
+pub printed-counts : runCounts printedSizes (overPrinted (printedStep ∷ [])) ≡ (3, 4)
+unfolding runCounts overPrinted
 printed-counts = refl
 
 -- the printed values, by messages
@@ -50,11 +50,11 @@ printed-messages = refl
 abbrev pub noRecords : Sizes
 noRecords = record { records = 0; references = 1; measures = 1 }
 
-pub no-records-counts : counted noRecords (exampleRun noRecords (printedStep ∷ []) 1000 []) ≡ (3, 0)
-unfolding counted exampleRun
+pub no-records-counts : runCounts noRecords (exampleRun noRecords (printedStep ∷ []) 1000 []) ≡ (3, 0)
+unfolding runCounts exampleRun
 no-records-counts = refl
 
 -- "Empty text, allowance 0", over any register
-pub empty-counts : (s : Sizes) (cells : List Cell) → counted s (exampleRun s [] 0 cells) ≡ (0, 0)
-unfolding counted exampleRun
+pub empty-counts : (s : Sizes) (cells : List Cell) → runCounts s (exampleRun s [] 0 cells) ≡ (0, 0)
+unfolding runCounts exampleRun
 empty-counts s cells = refl

@@ -3,7 +3,7 @@ use Prim.Native.Nat.{ℕ}
 use mathlib.Core.Path.{_≡_, refl}
 use mathlib.Core.List.{List, [], _∷_, map}
 use lib.IntN.{pos}
-use Rattle.integers.specs.Bytes.{word, wordAt, wordBytes, valueAt, valueBytes}
+use Rattle.integers.specs.Bytes.{fourBytes, wordAt, wordBytes, valueAt, valueBytes}
 use Rattle.integers.specs.Range.{eqZ, isIndex}
 use Rattle.laws.specs.Outcome.{done, unless, after, orElse, first}
 use Rattle.register.specs.Cells.{valueOf, markOf, cellOf, cellsOf, valuesOf, marksOf}
@@ -21,5 +21,5 @@ unfoldable pub depth : List ℕ
 depth = 77 ∷ 91 ∷ 117 ∷ 93 ∷ []
 
 pub depth-readings : map (reading printedFile depth) (0 ∷ 1 ∷ []) ≡ done Missing ∷ done (Value (pos 0)) ∷ []
-unfolding printedSizes printedCells printedFile depth word wordAt wordBytes valueAt valueBytes eqZ isIndex unless after orElse first valueOf markOf cellOf cellsOf valuesOf marksOf width cellCount cellIndex sizesOf valuesPart marksPart cellsOfFile fileOf withinLimits cellRefusal refusalAt recordRefusal cellsRefusal loadSized load isReference column readOf readCell hop follow valueAtRecord isCapital closed form letterField isReferenceLetter names every innerReferences lettersRefusal wordOf wordOfForm atRecord readingLoaded reading
+unfolding printedSizes printedCells printedFile depth fourBytes wordAt wordBytes valueAt valueBytes eqZ isIndex unless after orElse first valueOf markOf cellOf cellsOf valuesOf marksOf width cellCount cellIndex sizesOf valuesPart marksPart cellsOfFile fileOf withinLimits cellRefusal refusalAt recordRefusal cellsRefusal loadSized load isReference column readOf readCell hop follow valueAtRecord isCapital closed form letterField isReferenceLetter names every innerReferences lettersRefusal wordOf wordOfForm atRecord readingLoaded reading
 depth-readings = refl

@@ -25,13 +25,16 @@ unfolding inRange width cellIndex isReference column readOf readCell hop follow 
 exampleRun s program budget cells = run s (direct s) program budget cells
 
 -- over the printed register, "allowance 1,000"
-unfoldable pub exampleMessages : Program → Run
+unfoldable pub overPrinted : Program → Run
 unfolding exampleRun printedSizes printedCells
-exampleMessages program = exampleRun printedSizes program 1000 printedCells
+overPrinted program = exampleRun printedSizes program 1000 printedCells
 
--- the most that a cell holds
+-- the most that a cell holds, and the printed register with M at it
 abbrev pub most : Cell
 most = Value (pos 2147483647)
+
+abbrev pub mostCells : List Cell
+mostCells = Value (pos 1) ∷ most ∷ Value (pos 2) ∷ most ∷ Missing ∷ most ∷ []
 
 -- "1 steps"; "0 1 180", "1 2 -", "2 - -"
 abbrev pub printedResult : Run
@@ -41,47 +44,35 @@ printedResult = record {
   ending = complete;
 }
 
-pub printed-values : exampleMessages (printedStep ∷ []) ≡ printedResult
-unfolding exampleMessages
+pub printed-values : overPrinted (printedStep ∷ []) ≡ printedResult
+unfolding overPrinted
 printed-values = refl
 
 -- "`A[u] := u` gives filled A everywhere"
-pub own-filled : exampleMessages (ownStep ∷ [])
+pub own-filled : overPrinted (ownStep ∷ [])
     ≡ record {
       cells = Value (pos 0) ∷ Missing ∷ Value (pos 1) ∷ Value (pos 0) ∷ Value (pos 2) ∷ Value (pos 180) ∷ [];
       trace = (ownStep, printedCells) ∷ [];
       ending = complete;
     }
-unfolding exampleMessages
+unfolding overPrinted
 own-filled = refl
 
 -- "2147483647 + 1 stops"
-pub above-stops : exampleMessages (aboveStep ∷ [])
+pub above-stops : overPrinted (aboveStep ∷ [])
     ≡ record { cells = printedCells; trace = []; ending = offended (aboveStep .rules) printedCells }
-unfolding exampleMessages
+unfolding overPrinted
 above-stops = refl
 
 -- "2147483647 + 0 does not"
-pub most-stands : exampleMessages (mostStep ∷ [])
-    ≡ record {
-      cells = Value (pos 1) ∷ most ∷ Value (pos 2) ∷ most ∷ Missing ∷ most ∷ [];
-      trace = (mostStep, printedCells) ∷ [];
-      ending = complete;
-    }
-unfolding exampleMessages
+pub most-stands : overPrinted (mostStep ∷ []) ≡ record { cells = mostCells; trace = (mostStep, printedCells) ∷ []; ending = complete }
+unfolding overPrinted
 most-stands = refl
 
--- one record: A refers to itself, M is 2147483647
-abbrev pub singleSizes : Sizes
-singleSizes = record { records = 1; references = 1; measures = 1 }
-
-abbrev pub singleCells : List Cell
-singleCells = Value (pos 0) ∷ most ∷ []
-
 -- "M at 2147483647 with two remote amounts 1 and −1 stands"
-pub amounts-stand : exampleRun singleSizes (amountsStep ∷ []) 1000 singleCells
-    ≡ record { cells = singleCells; trace = (amountsStep, singleCells) ∷ []; ending = complete }
-unfolding exampleRun
+pub amounts-stand : overPrinted (mostStep ∷ amountsStep ∷ [])
+    ≡ record { cells = mostCells; trace = (mostStep, printedCells) ∷ (amountsStep, mostCells) ∷ []; ending = complete }
+unfolding overPrinted
 amounts-stand = refl
 
 -- "Empty text, allowance 0: finished 0; one step, allowance 0: refusal 20", over any register

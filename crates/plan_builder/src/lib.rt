@@ -4,45 +4,24 @@ ghost use lib.ListN.{length};
 ghost use Rattle.chain.specs.Word.{unpack};
 ghost use Rattle.plan_theory.specs.Plan.{read, hops, add as addOf};
 ghost use Rattle.plan_keys.specs.Keys.{factOf};
-ghost use Rattle.plan_lines.specs.Held.{factsIn, facts, HoldsLines, planOf, ExtendedTo, AddedTo};
+ghost use Rattle.plan_lines.specs.Held.{factsIn, HoldsLines, planOf, ExtendedTo};
 use plan_keys::key;
 use plan_keys::key::ONE_HOP;
-use plan_lines::Added;
-use plan_lines::Plan;
 use plan_lines::lines;
 
-// The plan with the lines of a reading behind its own, or as it was where a 65th line would be needed.
-pub fn add(plan: Plan, chain: u64) -> Added
-    requires { ⌜ HoldsLines plan (facts plan) × (length (unpack chain) ≤ 16) ⌝ }
-    ensures { λ r. ⌜ AddedTo plan (addOf (facts plan) (read (unpack chain))) r ⌝ }
+// The lines of a reading behind those of a plan, and the number of lines then; 65 where there is no room.
+pub fn add(
+    keys: &mut [u64; 64],
+    rounds: &mut [u8; 64],
+    backs: &mut [u8; 64],
+    reads: &mut [u8; 64],
+    count: usize,
+    chain: u64,
+) -> usize
+    requires { ⌜ HoldsLines (planOf (now keys) (now rounds) (now backs) (now reads) count) (factsIn (now keys) count) × (length (unpack chain) ≤ 16) ⌝ }
+    ensures { λ r. ⌜ ExtendedTo (addOf (factsIn (now (keys .entry)) count) (read (unpack chain))) (planOf (now (keys .exit)) (now (rounds .exit)) (now (backs .exit)) (now (reads .exit)) r) ⌝ }
 {
-    let mut keys = plan.keys;
-    let mut rounds = plan.rounds;
-    let mut backs = plan.backs;
-    let mut reads = plan.reads;
-    let from = plan.count;
-    let count = add_fact(
-        &mut keys,
-        &mut rounds,
-        &mut backs,
-        &mut reads,
-        from,
-        key::read(chain),
-    );
-    if 64 < count {
-        return Added { plan, full: true };
-    }
-    let longer = Plan {
-        keys,
-        rounds,
-        backs,
-        reads,
-        count,
-    };
-    Added {
-        plan: longer,
-        full: false,
-    }
+    add_fact(keys, rounds, backs, reads, count, key::read(chain))
 }
 
 // The lines of a fact behind those of a plan, those of its needs first, then its own; the number of lines then, 65 where

@@ -12,9 +12,8 @@ use Rattle.plan_theory.proofs.Facts.{back-need-shorter, read-need-shorter}
 use Rattle.plan_theory.proofs.Lines.{add-one, add-both, grows-length, add-grows, add-next, plan-more}
 use Rattle.plan_theory.specs.Promise.{Next}
 use Rattle.plan_keys.specs.Keys.{factOf, NeedsOf}
-use Rattle.plan_lines.specs.Held.{facts, settled, HoldsLines, Extended, ExtendedTo, AddedTo}
+use Rattle.plan_lines.specs.Held.{facts, settled, HoldsLines, Extended, ExtendedTo, Added}
 use Rattle.plan_lines.specs.declared.Plan.{Plan}
-use Rattle.plan_lines.specs.declared.Added.{Added}
 use Rattle.plan_keys.specs.declared.key.Needs.{Needs}
 use Rattle.plan_lines.proofs.Appending.{holds-count}
 use Rattle.plan_lines.proofs.Settled.{settled-adds}
@@ -83,15 +82,6 @@ module _ {l : List Fact} {f : Fact} (n : NewBoth l f) where
   pub both-done : {p : Plan} {r : Added} → HoldsLines p (add (add l (backNeed f)) (readNeed f)) → Extended (facts p ++ (f ∷ [])) r → Extended (add l f) r
   both-done h e = rw (both, ← h .facts-are) e
 
--- the plan kept where the answer is full, and the answer otherwise
-pub added-full : {l : List Fact} {r : Added} (p : Plan) → Extended l r → r .full ≡ true → AddedTo p l (record { plan = p; full = true })
-added-full {l} p e y =
-    let full : ltb 64 (length l) ≡ true = sym (e .full-is) ∙ y in
-    record { extended = record { full-is = sym full; holds = λ b. absurd (omega (arith, ltb-true 64 (length l) full)) }; kept = λ b. refl }
-
-pub added-held : {l : List Fact} {r : Added} (p : Plan) → Extended l r → r .full ≡ false → AddedTo p l r
-added-held {l} p e n = record { extended = e; kept = λ b. absurd (omega (arith, ltb-false 64 (length l) (sym (e .full-is) ∙ n))) }
-
 -- one reading more than those that the plan holds
-pub added-plan : {p : Plan} {r : Added} (ws : List (List ℕ)) (w : List ℕ) → HoldsLines p (plan ws) → AddedTo p (add (facts p) (read w)) r → AddedTo p (plan (ws ++ (w ∷ []))) r
-added-plan ws w h e = rw (plan-more ws w, ← h .facts-are) e
+pub extended-plan : {p : Plan} {r : Added} (ws : List (List ℕ)) (w : List ℕ) → HoldsLines p (plan ws) → Extended (add (facts p) (read w)) r → Extended (plan (ws ++ (w ∷ []))) r
+extended-plan ws w h e = rw (plan-more ws w, ← h .facts-are) e

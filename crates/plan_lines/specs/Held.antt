@@ -9,7 +9,6 @@ use Rattle.plan_theory.specs.Plan.{Fact, hops, lineFrom, backNeed, readNeed, ro
 use Rattle.plan_theory.specs.Promise.{Next, Ordered}
 use Rattle.plan_keys.specs.Keys.{factOf, NeedsOf}
 use Rattle.plan_lines.specs.declared.Plan.{Plan}
-use Rattle.plan_lines.specs.declared.Added.{Added}
 use Rattle.plan_lines.specs.declared.Line.{Line}
 use Rattle.plan_lines.specs.declared.Found.{Found}
 use Rattle.plan_lines.specs.declared.Found.the-variants.{At, Nothing}
@@ -85,6 +84,11 @@ pub record NeedsReady (l : List Fact) (k : ℕ) (needs : Needs) : Type 0 where
   pub two : 2 ≤ hops (factOf k)
   pub short : hops (factOf k) ≤ 16
 
+-- a plan with lines added, or that a 65th line would be needed
+pub record Added : Type 0 where
+  pub plan : Plan
+  pub full : Bool
+
 -- the answer for the lines l: full where they are more than 64, otherwise a plan that holds them
 pub record Extended (l : List Fact) (r : Added) : Type 0 where
   pub full-is : r .full ≡ ltb 64 (length l)
@@ -97,8 +101,3 @@ planOf keys rounds backs reads n = record { keys = keys; rounds = rounds; backs 
 -- the same answer as a plan whose number of lines is above 64 where there is no room
 abbrev pub ExtendedTo : List Fact → Plan → Type 0
 ExtendedTo l p = Extended l (record { plan = p; full = ltb 64 (p .count) })
-
--- and where it is full, the plan p as it was
-pub record AddedTo (p : Plan) (l : List Fact) (r : Added) : Type 0 where
-  pub extended : Extended l r
-  pub kept : 64 < length l → r .plan ≡ p

@@ -5,7 +5,7 @@ ghost use Prim.Native.Nat.{_≤_};
 ghost use lib.ListN.{length};
 ghost use Rattle.chain.specs.Word.{unpack};
 ghost use Rattle.plan_theory.specs.Plan.{read};
-ghost use Rattle.plan_lines.specs.Held.{factsIn, settled, found, Keyed, LastOf, HoldsLines};
+ghost use Rattle.plan_lines.specs.Held.{factsIn, found, Keyed, LastOf, HoldsLines};
 
 pub mod lines;
 
@@ -26,12 +26,6 @@ pub struct Line {
     pub round: u8,
     pub back: u8,
     pub read: u8,
-}
-
-// A plan with lines added, or that a 65th line would be needed.
-pub struct Added {
-    pub plan: Plan,
-    pub full: bool,
 }
 
 // The index of a line, if there is one.
@@ -64,14 +58,6 @@ pub fn last_round(rounds: &[u8; 64], count: usize) -> u8
         latest = lines::later(latest, rounds[i]);
     }
     latest
-}
-
-// Whether a reading adds no line to a plan of these keys. Unlike `add`, it copies no plan.
-pub fn is_planned(keys: &[u64; 64], count: usize, chain: u64) -> bool
-    requires { ⌜ Keyed (now keys) count × (length (unpack chain) ≤ 16) ⌝ }
-    ensures { λ r. ⌜ r ≡ settled (factsIn (now (keys .entry)) count) (read (unpack chain)) ⌝ }
-{
-    lines::is_settled(keys, count, key::read(chain))
 }
 
 // The line of a reading in a plan of these keys.

@@ -4,6 +4,7 @@ ghost use mathlib.Core.List.{[], _∷_, _++_};
 ghost use Prim.Native.Nat.{suc, _<_, max};
 ghost use lib.ListN.{length, getD};
 ghost use Rattle.plan_theory.specs.Plan.{round as roundOf, lineIndex};
+ghost use Rattle.plan_theory.specs.Promise.{Ordered};
 ghost use Rattle.plan_keys.specs.Keys.{factOf};
 ghost use Rattle.plan_lines.specs.Held.{factsIn, settled, index, firstLine, Keyed, LineColumn, LineOf, NeedsReady, HoldsLines, planOf, ExtendedTo};
 use crate::Line;
@@ -37,10 +38,14 @@ pub fn is_settled(keys: &[u64; 64], count: usize, key: u64) -> bool
     true
 }
 
+// The line of a need. One without a line of its own is not searched for.
 fn index_of(keys: &[u64; 64], count: usize, key: u64) -> u8
-    requires { ⌜ Keyed (now keys) count ⌝ }
+    requires { ⌜ Keyed (now keys) count × Ordered (factsIn (now keys) count) ⌝ }
     ensures { λ r. ⌜ r ≡ index (factsIn (now (keys .entry)) count) (factOf key) ⌝ }
 {
+    if !has_line(key) {
+        return NO_LINE;
+    }
     let at = find(keys, count, key);
     if at < count { at as u8 } else { NO_LINE }
 }
@@ -85,7 +90,7 @@ pub fn first_line(key: u64) -> Line
 
 // The line of a fact whose two needs are had.
 pub fn line_after(keys: &[u64; 64], rounds: &[u8; 64], count: usize, key: u64, needs: Needs) -> Line
-    requires { ⌜ Keyed (now keys) count × LineColumn (now rounds) (factsIn (now keys) count) roundOf × NeedsReady (factsIn (now keys) count) key needs ⌝ }
+    requires { ⌜ Keyed (now keys) count × Ordered (factsIn (now keys) count) × LineColumn (now rounds) (factsIn (now keys) count) roundOf × NeedsReady (factsIn (now keys) count) key needs ⌝ }
     ensures { λ r. ⌜ (r .key ≡ key) × LineOf (factsIn (now (keys .entry)) count) r ⌝ }
 {
     let back = index_of(keys, count, needs.back);

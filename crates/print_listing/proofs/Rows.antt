@@ -7,7 +7,7 @@ use native.Mathlib.Numerals.{add-one}
 use native.Mathlib.Omega.{arith}
 use lib.ListN.{length, length-append}
 use Rattle.laws.proofs.Cases.{lt-or-le}
-use Rattle.print_page.specs.Put.{Room, Put}
+use Rattle.print_page.specs.Put.{PageRoom, PagePut}
 use Rattle.print_listing.specs.Listing.{inARow}
 
 module _ (f : ℕ → List ℕ) where
@@ -26,8 +26,8 @@ module _ (f : ℕ → List ℕ) where
       (lt-or-le i n)
 
   -- so there is room for it behind them
-  pub row-room : {at n i r : ℕ} {page page′ : List ℕ} → Room at (inARow n f) page → i < n → Put at (inARow i f) page page′ r → length page′ ≡ length page
-      → Room r (f i) page′
+  pub row-room : {at n i r : ℕ} {page page′ : List ℕ} → PageRoom at (inARow n f) page → i < n → PagePut at (inARow i f) page page′ r → length page′ ≡ length page
+      → PageRoom r (f i) page′
   row-room {n = n} {i = i} h l p e = record { fits = omega (arith, h .fits, row-before n {i = i} l, p .end, e) }
 
   -- n texts of at most k bytes

@@ -8,11 +8,11 @@ use Rattle.register.specs.declared.Sizes.{Sizes}
 use Rattle.register.specs.declared.cells.Cell.{Cell}
 use Rattle.register.specs.declared.cells.Cell.the-variants.{Missing}
 use Rattle.laws.specs.Bytes.{bytes}
-use Rattle.print_page.specs.Decimal.{decimal, cellText}
+use Rattle.print_page.specs.Decimal.{decimalText, cellText}
 
 -- a number and what stands behind it
 abbrev pub counted : ℕ → String → List ℕ
-counted n name = decimal n ++ bytes name
+counted n name = decimalText n ++ bytes name
 
 -- "Header: records, finished steps, exchanges, letters."
 unfoldable pub header : ℕ → ℕ → ℕ → ℕ → List ℕ
@@ -30,7 +30,7 @@ fieldText s cells u f = bytes " " ++ cellText (getD cells (cellIndex s u f) Miss
 
 -- "Then record number, its fields in order"
 unfoldable pub recordLine : Sizes → List Cell → ℕ → List ℕ
-recordLine s cells u = decimal u ++ inARow (width s) (fieldText s cells u) ++ bytes "\n"
+recordLine s cells u = decimalText u ++ inARow (width s) (fieldText s cells u) ++ bytes "\n"
 
 -- the header, and a line for each record
 unfoldable pub listing : Sizes → List Cell → ℕ → ℕ → ℕ → List ℕ

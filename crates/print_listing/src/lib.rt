@@ -6,8 +6,8 @@ ghost use lib.ListN.{length};
 ghost use Rattle.register.specs.Cells.{cellsOf};
 ghost use Rattle.register.specs.File.{cellCount, cellsOfFile};
 ghost use Rattle.register.specs.Shape.{Limits, Parts};
-ghost use Rattle.print_page.specs.Decimal.{decimal};
-ghost use Rattle.print_page.specs.Put.{Room, Put};
+ghost use Rattle.print_page.specs.Decimal.{decimalText};
+ghost use Rattle.print_page.specs.Put.{PageRoom, PagePut};
 ghost use Rattle.print_listing.specs.Listing.{header, inARow, recordLine, listing, refusedLine};
 use print_page::put_byte;
 use print_page::put_bytes;
@@ -26,16 +26,16 @@ pub struct Ran {
 }
 
 fn put_count(page: &mut [u8], at: usize, count: u64, name: &[u8]) -> usize
-    requires { ⌜ Room at (decimal count ++ now name) (now page) ⌝ }
-    ensures { λ r. ⌜ Put at (decimal count ++ now (name .entry)) (now (page .entry)) (now (page .exit)) r ⌝ }
+    requires { ⌜ PageRoom at (decimalText count ++ now name) (now page) ⌝ }
+    ensures { λ r. ⌜ PagePut at (decimalText count ++ now (name .entry)) (now (page .entry)) (now (page .exit)) r ⌝ }
 {
     let next = put_number(page, at, count);
     put_bytes(page, next, name)
 }
 
 fn put_header(page: &mut [u8], records: usize, ran: Ran) -> usize
-    requires { ⌜ Room 0 (header records (ran .finished) (ran .exchanges) (ran .letters)) (now page) ⌝ }
-    ensures { λ r. ⌜ Put 0 (header records (ran .finished) (ran .exchanges) (ran .letters)) (now (page .entry)) (now (page .exit)) r ⌝ }
+    requires { ⌜ PageRoom 0 (header records (ran .finished) (ran .exchanges) (ran .letters)) (now page) ⌝ }
+    ensures { λ r. ⌜ PagePut 0 (header records (ran .finished) (ran .exchanges) (ran .letters)) (now (page .entry)) (now (page .exit)) r ⌝ }
 {
     let steps = put_count(page, 0, records as u64, b" records ");
     let exchanges = put_count(page, steps, ran.finished as u64, b" steps ");
@@ -51,8 +51,8 @@ fn put_record(
     sizes: Sizes,
     u: usize,
 ) -> usize
-    requires { ⌜ Parts sizes (now cells) (now filled) × (u < sizes .records) × Room at (recordLine sizes (cellsOf (now cells) (now filled)) u) (now page) ⌝ }
-    ensures { λ r. ⌜ Put at (recordLine sizes (cellsOf (now (cells .entry)) (now (filled .entry))) u) (now (page .entry)) (now (page .exit)) r ⌝ }
+    requires { ⌜ Parts sizes (now cells) (now filled) × (u < sizes .records) × PageRoom at (recordLine sizes (cellsOf (now cells) (now filled)) u) (now page) ⌝ }
+    ensures { λ r. ⌜ PagePut at (recordLine sizes (cellsOf (now (cells .entry)) (now (filled .entry))) u) (now (page .entry)) (now (page .exit)) r ⌝ }
 {
     let mut next = put_number(page, at, u as u64);
     for f in 0..sizes.references + sizes.measures {
@@ -64,8 +64,8 @@ fn put_record(
 }
 
 fn put_records(page: &mut [u8], at: usize, cells: &[u8], filled: &[u8], sizes: Sizes) -> usize
-    requires { ⌜ Parts sizes (now cells) (now filled) × Room at (inARow (sizes .records) (recordLine sizes (cellsOf (now cells) (now filled)))) (now page) ⌝ }
-    ensures { λ r. ⌜ Put at (inARow (sizes .records) (recordLine sizes (cellsOf (now (cells .entry)) (now (filled .entry))))) (now (page .entry)) (now (page .exit)) r ⌝ }
+    requires { ⌜ Parts sizes (now cells) (now filled) × PageRoom at (inARow (sizes .records) (recordLine sizes (cellsOf (now cells) (now filled)))) (now page) ⌝ }
+    ensures { λ r. ⌜ PagePut at (inARow (sizes .records) (recordLine sizes (cellsOf (now (cells .entry)) (now (filled .entry))))) (now (page .entry)) (now (page .exit)) r ⌝ }
 {
     let mut next = at;
     for u in 0..sizes.records {
@@ -76,8 +76,9 @@ fn put_records(page: &mut [u8], at: usize, cells: &[u8], filled: &[u8], sizes: S
 
 // The listing of a register file.
 pub fn put_listing(page: &mut [u8], file: &[u8], sizes: Sizes, ran: Ran) -> usize
-    requires { ⌜ Limits sizes × (length (now file) ≡ 12 + 5 * cellCount sizes) × Room 0 (listing sizes (cellsOfFile sizes (now file)) (ran .finished) (ran .exchanges) (ran .letters)) (now page) ⌝ }
-    ensures { λ r. ⌜ Put 0 (listing sizes (cellsOfFile sizes (now (file .entry))) (ran .finished) (ran .exchanges) (ran .letters)) (now (page .entry)) (now (page .exit)) r ⌝ }
+    requires { ⌜ Limits sizes × (length (now file) ≡ 12 + 5 * cellCount sizes)
+        × PageRoom 0 (listing sizes (cellsOfFile sizes (now file)) (ran .finished) (ran .exchanges) (ran .letters)) (now page) ⌝ }
+    ensures { λ r. ⌜ PagePut 0 (listing sizes (cellsOfFile sizes (now (file .entry))) (ran .finished) (ran .exchanges) (ran .letters)) (now (page .entry)) (now (page .exit)) r ⌝ }
 {
     let at = put_header(page, sizes.records, ran);
     let cells = cells::values_part(file, sizes);
@@ -87,8 +88,8 @@ pub fn put_listing(page: &mut [u8], file: &[u8], sizes: Sizes, ran: Ran) -> usiz
 
 // A refusal's number, and the number behind `at`.
 pub fn put_refused(page: &mut [u8], refusal: u32, place: usize) -> usize
-    requires { ⌜ Room 0 (refusedLine refusal place) (now page) ⌝ }
-    ensures { λ r. ⌜ Put 0 (refusedLine refusal place) (now (page .entry)) (now (page .exit)) r ⌝ }
+    requires { ⌜ PageRoom 0 (refusedLine refusal place) (now page) ⌝ }
+    ensures { λ r. ⌜ PagePut 0 (refusedLine refusal place) (now (page .entry)) (now (page .exit)) r ⌝ }
 {
     let number = put_bytes(page, 0, b"refused ");
     let next = put_count(page, number, refusal as u64, b" at ");

@@ -16,7 +16,7 @@ use Rattle.register.specs.Cells.{valueOf}
 use Rattle.register.specs.declared.cells.Cell.{Cell}
 use Rattle.register.specs.declared.cells.Cell.the-variants.{Missing, Value}
 use Rattle.io.specs.Digits.{digits, glyph, Fewest}
-use Rattle.print_page.specs.Decimal.{digit, digitsWithin, decimal, valueText, cellText}
+use Rattle.print_page.specs.Decimal.{digit, digitsWithin, decimalText, valueText, cellText}
 
 -- a digit as `io` spells it
 spelled : (n : ℕ) → glyph (n % 10) ≡ digit (n % 10)
@@ -51,8 +51,8 @@ within m (suc (suc k)) n h f = more m (omega (arith, ten)) h (λ m l. within m (
     more zero l h front = absurd (omega arith)
     more (suc m) l h front = rw (le-ltb n 10 ten, ← front m (omega (arith, ten)), spelled n)
 
-pub fewest-decimal : (k n : ℕ) → Fewest 10 1 n k → digits 10 k n ≡ decimal n
-unfolding decimal
+pub fewest-decimal : (k n : ℕ) → Fewest 10 1 n k → digits 10 k n ≡ decimalText n
+unfolding decimalText
 fewest-decimal k n f = within n k n (omega arith) f
 
 -- a number below 10 to the k + 1 has at most k + 1 digits
@@ -65,8 +65,8 @@ within-length (suc m) (suc k) n h =
     (omega arith)
     (simp length-append (omega (arith, within-length m k (n / 10) (tenth-below k n h))))
 
-pub decimal-length : (k n : ℕ) → n < 10 ^ suc k → length (decimal n) ≤ suc k
-unfolding decimal
+pub decimal-length : (k n : ℕ) → n < 10 ^ suc k → length (decimalText n) ≤ suc k
+unfolding decimalText
 decimal-length k n h = within-length (suc n) k n h
 
 -- ten digits and a minus

@@ -18,13 +18,13 @@ digitsWithin zero n = []
 digitsWithin (suc k) n = cond (ltb n 10) (digit n ∷ []) (digitsWithin k (n / 10) ++ (digit (n % 10) ∷ []))
 
 -- a number in decimal, which has at most n + 1 digits
-unfoldable pub decimal : ℕ → List ℕ
-decimal n = digitsWithin (suc n) n
+unfoldable pub decimalText : ℕ → List ℕ
+decimalText n = digitsWithin (suc n) n
 
 -- a value: a minus and its size where it is negative
 unfoldable pub valueText : ℤ → List ℕ
-valueText (pos n) = decimal n
-valueText (negsuc n) = bytes "-" ++ decimal (suc n)
+valueText (pos n) = decimalText n
+valueText (negsuc n) = bytes "-" ++ decimalText (suc n)
 
 -- a cell: "`-` for unfilled"
 unfoldable pub cellText : Cell → List ℕ

@@ -2,21 +2,21 @@
 ghost use mathlib.Core.Path.{_≡_};
 ghost use mathlib.Core.List.{[], _∷_};
 ghost use lib.IntN.{natAbs};
-ghost use Rattle.print_page.specs.Decimal.{decimal, valueText, cellText};
-ghost use Rattle.print_page.specs.Put.{Room, Put};
+ghost use Rattle.print_page.specs.Decimal.{decimalText, valueText, cellText};
+ghost use Rattle.print_page.specs.Put.{PageRoom, PagePut};
 use register::cells::Cell;
 
 pub fn put_byte(page: &mut [u8], at: usize, byte: u8) -> usize
-    requires { ⌜ Room at (byte ∷ []) (now page) ⌝ }
-    ensures { λ r. ⌜ Put at (byte ∷ []) (now (page .entry)) (now (page .exit)) r ⌝ }
+    requires { ⌜ PageRoom at (byte ∷ []) (now page) ⌝ }
+    ensures { λ r. ⌜ PagePut at (byte ∷ []) (now (page .entry)) (now (page .exit)) r ⌝ }
 {
     page[at] = byte;
     at + 1
 }
 
 pub fn put_bytes(page: &mut [u8], at: usize, bytes: &[u8]) -> usize
-    requires { ⌜ Room at (now bytes) (now page) ⌝ }
-    ensures { λ r. ⌜ Put at (now (bytes .entry)) (now (page .entry)) (now (page .exit)) r ⌝ }
+    requires { ⌜ PageRoom at (now bytes) (now page) ⌝ }
+    ensures { λ r. ⌜ PagePut at (now (bytes .entry)) (now (page .entry)) (now (page .exit)) r ⌝ }
 {
     for i in 0..bytes.len() {
         page[at + i] = bytes[i];
@@ -25,8 +25,8 @@ pub fn put_bytes(page: &mut [u8], at: usize, bytes: &[u8]) -> usize
 }
 
 pub fn put_number(page: &mut [u8], at: usize, number: u64) -> usize
-    requires { ⌜ Room at (decimal number) (now page) ⌝ }
-    ensures { λ r. ⌜ Put at (decimal number) (now (page .entry)) (now (page .exit)) r ⌝ }
+    requires { ⌜ PageRoom at (decimalText number) (now page) ⌝ }
+    ensures { λ r. ⌜ PagePut at (decimalText number) (now (page .entry)) (now (page .exit)) r ⌝ }
 {
     let mut digits = [0u8; 20];
     let count = io::decimal(number, &mut digits);
@@ -45,8 +45,8 @@ fn magnitude(value: i32) -> u64
 }
 
 fn put_value(page: &mut [u8], at: usize, value: i32) -> usize
-    requires { ⌜ Room at (valueText value) (now page) ⌝ }
-    ensures { λ r. ⌜ Put at (valueText value) (now (page .entry)) (now (page .exit)) r ⌝ }
+    requires { ⌜ PageRoom at (valueText value) (now page) ⌝ }
+    ensures { λ r. ⌜ PagePut at (valueText value) (now (page .entry)) (now (page .exit)) r ⌝ }
 {
     if value < 0 {
         let next = put_byte(page, at, b'-');
@@ -57,8 +57,8 @@ fn put_value(page: &mut [u8], at: usize, value: i32) -> usize
 
 // "`-` for unfilled"
 pub fn put_cell(page: &mut [u8], at: usize, cell: Cell) -> usize
-    requires { ⌜ Room at (cellText cell) (now page) ⌝ }
-    ensures { λ r. ⌜ Put at (cellText cell) (now (page .entry)) (now (page .exit)) r ⌝ }
+    requires { ⌜ PageRoom at (cellText cell) (now page) ⌝ }
+    ensures { λ r. ⌜ PagePut at (cellText cell) (now (page .entry)) (now (page .exit)) r ⌝ }
 {
     match cell {
         Cell::Missing => put_byte(page, at, b'-'),

@@ -29,7 +29,7 @@ use Rattle.op_run.specs.Answer.{Ended, RunAnswered, Answered}
 use Rattle.op_run.proofs.Answering.{register}
 use Rattle.io.specs.Counts as io
 use Rattle.io.proofs.Counting.{counts}
-use Rattle.print_page.specs.Put.{Room, Put}
+use Rattle.print_page.specs.Put.{PageRoom, PagePut}
 use Rattle.print_listing.specs.Listing.{listing, tooLarge}
 use Rattle.print_listing.specs.Room.{pageRoom}
 use Rattle.print_listing.proofs.Lengths.{Short, listing-length, refused-length}
@@ -157,6 +157,6 @@ module _ (file text : List ℕ) where
   small-page h = rw (le-ltb 512 (length file) h)
 
 -- a page that is put at the start
-pub page-put : {text page page′ p : List ℕ} {r : ℕ} → p ≡ text → Put 0 text page page′ r → Room 0 text page → length page′ ≡ length page
+pub page-put : {text page page′ p : List ℕ} {r : ℕ} → p ≡ text → PagePut 0 text page page′ r → PageRoom 0 text page → length page′ ≡ length page
     → io.Counts r page′ × (take r page′ ≡ p)
 page-put {page′ = page′} {r = r} e put room l = (counts r page′ (omega (arith, put .end, room .fits, l)), put .put ∙ sym e)

@@ -9,7 +9,7 @@ use Rattle.register.specs.File.{sizesOf, cellsOfFile}
 use Rattle.register.specs.declared.Sizes.{Sizes}
 use Rattle.text_rules.specs.Text.{check}
 use Rattle.machine.specs.Run.{Ending, complete, exhausted, offended, Run, direct, run}
-use Rattle.machine_messages.specs.Counts.{exchanges, messages}
+use Rattle.machine_messages.specs.Counts.{traceExchanges, traceMessages}
 use Rattle.print_listing.specs.Listing.{listing, refusedLine, tooLarge}
 use Rattle.print_run.specs.Behind.{behindAt}
 
@@ -24,7 +24,7 @@ refusedPage n line finished = refusedLine n (behindAt n line finished)
 
 -- how a run ended: the register at the end with the counts of the finished steps, or 20 or 21
 unfoldable pub endedPage : Sizes → Ending → Run → List ℕ
-endedPage s complete x = listing s (x .cells) (length (x .trace)) (exchanges (x .trace)) (messages s (x .trace))
+endedPage s complete x = listing s (x .cells) (length (x .trace)) (traceExchanges (x .trace)) (traceMessages s (x .trace))
 endedPage s exhausted x = refusedPage 20 0 (length (x .trace))
 endedPage s (offended rs before) x = refusedPage 21 0 (length (x .trace))
 

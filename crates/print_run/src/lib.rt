@@ -4,7 +4,7 @@ ghost use Prim.Native.Nat.{_≤_};
 ghost use lib.ListN.{length, take};
 ghost use Rattle.io.specs.Counts.{Counts};
 ghost use Rattle.register.specs.File.{sizesOf};
-ghost use Rattle.print_page.specs.Put.{Room, Put};
+ghost use Rattle.print_page.specs.Put.{PageRoom, PagePut};
 ghost use Rattle.print_listing.specs.Room.{pageRoom};
 ghost use Rattle.print_run.specs.Behind.{behindAt};
 ghost use Rattle.print_run.specs.RanBy.{RanBy, Whole, ranPage};
@@ -47,8 +47,8 @@ fn behind_at(refusal: u32, line: usize, finished: u16) -> usize
 
 // What is printed of a run over `file` that left the register `out`.
 fn put_ran(page: &mut [u8], file: &[u8], out: &[u8], ran: Ran) -> usize
-    requires { ⌜ Room 0 (ranPage (sizesOf (now file)) (now out) ran) (now page) × (ran .refusal ≡ 0 → Whole (now file) (now out)) ⌝ }
-    ensures { λ r. ⌜ Put 0 (ranPage (sizesOf (now (file .entry))) (now (out .entry)) ran) (now (page .entry)) (now (page .exit)) r ⌝ }
+    requires { ⌜ PageRoom 0 (ranPage (sizesOf (now file)) (now out) ran) (now page) × (ran .refusal ≡ 0 → Whole (now file) (now out)) ⌝ }
+    ensures { λ r. ⌜ PagePut 0 (ranPage (sizesOf (now (file .entry))) (now (out .entry)) ran) (now (page .entry)) (now (page .exit)) r ⌝ }
 {
     if ran.refusal != 0 {
         let place = behind_at(ran.refusal, ran.line, ran.finished);

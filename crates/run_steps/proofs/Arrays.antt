@@ -20,7 +20,14 @@ use Rattle.program.proofs.Frames.{frame-at}
 
 -- what a place behind the last frame would hold
 abbrev pub noFrame : Frame
-noFrame = record { rules = 0; remote = false; fields = []; setting = Single; plan = record { keys = []; rounds = []; backs = []; reads = []; count = 0 }; wanted = [] }
+noFrame = record {
+  rules = 0;
+  remote = false;
+  fields = [];
+  setting = Single;
+  plan = record { keys = []; rounds = []; backs = []; reads = []; count = 0 };
+  wanted = [];
+}
 
 -- step i has the rules of its 32 places, and its frame's setting
 steps-at : (slots : List Located) (fs : List Frame) (i : ℕ) (d : Step) (e : Frame) → i < length fs
@@ -40,7 +47,7 @@ steps-length slots [] = refl
 steps-length slots (f ∷ fs) = ap suc (steps-length (drop 32 slots) fs)
 
 -- the 32 places of step i, of which those of its rules are located
-abbrev placesOf : List Located → ℕ → List Located
+abbrev pub placesOf : List Located → ℕ → List Located
 placesOf slots i = take 32 (drop (32 * i) slots)
 
 abbrev StepLocated : Frame → List Located → Type 0

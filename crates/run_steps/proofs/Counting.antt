@@ -15,7 +15,7 @@ use Rattle.machine.specs.Remote.{recordMessages}
 use Rattle.machine.specs.Run.{direct}
 use Rattle.machine.proofs.Running.{Trace}
 use Rattle.machine_messages.specs.Held.{heldAfter}
-use Rattle.machine_messages.specs.Counts.{mostRounds, heldIn, planMessages, stepExchanges, stepMessages, exchanges, messages}
+use Rattle.machine_messages.specs.Counts.{mostRounds, heldIn, planMessages, stepExchanges, stepMessages, traceExchanges, traceMessages}
 use Rattle.machine_messages.specs.By.{exchangesBy, messagesBy}
 use Rattle.machine_messages.specs.declared.Machine.{Machine}
 use Rattle.machine_messages.specs.declared.Machine.the-variants.{Direct, Messages}
@@ -29,13 +29,14 @@ use Rattle.gather.specs.declared.counts.Counts.{Counts}
 
 -- no step is finished
 pub counts-none : (m : Machine) (s : Sizes) → noCounts ≡ countsOf m s []
-unfolding exchangesBy messagesBy exchanges messages
+unfolding exchangesBy messagesBy traceExchanges traceMessages
 counts-none Direct s = refl
 counts-none Messages s = refl
 
 -- one more is
 counts-more : (m : Machine) {s : Sizes} (trace : Trace) (x : Step) {cells : List Cell} → RulesPass s (x .rules) → Valid s cells
-    → countsAfter m (countsOf m s trace) (countedBy m s cells (stepPlan (x .rules))) (hasRemote (x .rules)) (length (recordMessages (direct s (x .rules) cells) (x .rules) (s .records)))
+    → countsAfter m (countsOf m s trace) (countedBy m s cells (stepPlan (x .rules))) (hasRemote (x .rules))
+    (length (recordMessages (direct s (x .rules) cells) (x .rules) (s .records)))
     ≡ countsOf m s (trace ++ ((x, cells) ∷ []))
 unfolding exchangesBy messagesBy stepExchanges stepMessages heldIn stepPlan
 counts-more Direct trace x k v = refl
@@ -46,8 +47,8 @@ counts-more Messages {s} trace x {cells} k v =
     let writes = length (recordMessages (direct s rs cells) rs (s .records)) in
     rw (exchanges-more trace x cells, messages-more s trace x cells, last, ap length (step-writes k v))
     (ap₂ (λ (a b : ℕ). record { exchanges = a; messages = b })
-    (add-assoc (exchanges trace) (lastRound (stepPlan rs)) (cond (hasRemote rs) 1 0))
-    (add-assoc (messages s trace) held writes))
+    (add-assoc (traceExchanges trace) (lastRound (stepPlan rs)) (cond (hasRemote rs) 1 0))
+    (add-assoc (traceMessages s trace) held writes))
 
 -- the same, by what the code has of them
 pub counts-step : (m : Machine) {s : Sizes} (trace : Trace) (x : Step) {cells : List Cell} → RulesPass s (x .rules) → Valid s cells

@@ -61,11 +61,13 @@ module _ (s : Sizes) (l : List Fact) (wanted : List Bool) {cells : List Cell} {v
       → Filled s cells l wanted (length l) values marks values′ marks′ → LinesHold s l wanted cells (take base values′) (take base marks′)
   unfolding placeAt storedAt
   filled-lines base h v m f =
-      let below : (i u : ℕ) → i < length l → u < s .records → i * s .records + u < base = λ i u a b. omega (arith, place-below (length l) (s .records) i u a b) in
+      let below : (i u : ℕ) → i < length l → u < s .records → i * s .records + u < base =
+      λ i u a b. omega (arith, place-below (length l) (s .records) i u a b) in
       record {
         values-room = omega (arith, length-take-le base values′ v);
         marks-room = omega (arith, length-take-le base marks′ m);
-        holds = λ i u w a b e k. rw (getD-take base values′ _ (pos 0) (below i u a b), getD-take base marks′ _ 0 (below i u a b)) (f .reads i u w a b k e .place-is);
+        holds = λ i u w a b e k.
+            rw (getD-take base values′ _ (pos 0) (below i u a b), getD-take base marks′ _ 0 (below i u a b)) (f .reads i u w a b k e .place-is);
         fits = λ i u w a b e k. rw (getD-take base values′ _ (pos 0) (below i u a b)) (f .reads i u w a b k e .fits);
       }
 
@@ -101,21 +103,25 @@ module _ (s : Sizes) (l : List Fact) (wanted : List Bool) (cells : List Cell) (v
         found-is = lines .holds i u (f ∷ g ∷ w) b inside e h;
       }
 
-  chain-found : (c : ℕ) {at : Location} → at ≡ locationOf l (unpack c) → Wants wanted at → WordPlanned s l (unpack c) → WordFound s cells values marks u at (unpack c)
+  chain-found : (c : ℕ) {at : Location} → at ≡ locationOf l (unpack c) → Wants wanted at → WordPlanned s l (unpack c)
+      → WordFound s cells values marks u at (unpack c)
   chain-found c e h p = rw e (word-found (unpack c) p (rw e at h))
 
-  term-found : (x : Term) {at : Location} → at ≡ locationOf l (unpack (chainIn x)) → Wants wanted at → AllPlanned s l (expressionReadings (termIn x)) → TermFound s cells values marks u at x
+  term-found : (x : Term) {at : Location} → at ≡ locationOf l (unpack (chainIn x)) → Wants wanted at → AllPlanned s l (expressionReadings (termIn x))
+      → TermFound s cells values marks u at x
   unfolding chainIn termIn expressionReadings
   term-found (Chain c) e h p = chain-found c e h (p (unpack c) (List·Memᴰ·head refl))
   term-found (Number z) e h p = tt
 
   terms-found : (x y : Term) {at : Places} → at ≡ placesIn l (record { first = chainIn x; second = chainIn y }) → PlacesWanted wanted at
-      → AllPlanned s l (expressionReadings (termIn x) ++ expressionReadings (termIn y)) → TermFound s cells values marks u (at .first) x × TermFound s cells values marks u (at .second) y
+      → AllPlanned s l (expressionReadings (termIn x) ++ expressionReadings (termIn y))
+      → TermFound s cells values marks u (at .first) x × TermFound s cells values marks u (at .second) y
   terms-found x y e h p =
       let (a, b) = parts-planned s l _ _ p in
       (term-found x (ap (λ (q : Places). q .first) e) (h .first) a, term-found y (ap (λ (q : Places). q .second) e) (h .second) b)
 
-  test-found : (t : Test) {at : Places} → at ≡ placesIn l (testChains t) → PlacesWanted wanted at → AllPlanned s l (testReadings (testIn t)) → TestFound s cells values marks u at t
+  test-found : (t : Test) {at : Places} → at ≡ placesIn l (testChains t) → PlacesWanted wanted at → AllPlanned s l (testReadings (testIn t))
+      → TestFound s cells values marks u at t
   unfolding testChains testIn testReadings
   test-found Always e h p = tt
   test-found (When x c y) e h p = terms-found x y e h p
@@ -140,7 +146,8 @@ module _ (s : Sizes) (l : List Fact) (wanted : List Bool) (cells : List Cell) (v
       }
 
 -- a target is a reference, so it leads to a record
-target-refers : {s : Sizes} {cells : List Cell} → Valid s cells → (u : ℕ) → u < s .records → (t : Target) → TargetPasses s t → Targets (s .records) (followed s cells u) t
+target-refers : {s : Sizes} {cells : List Cell} → Valid s cells → (u : ℕ) → u < s .records → (t : Target) → TargetPasses s t
+    → Targets (s .records) (followed s cells u) t
 unfolding direct
 target-refers v u h (own f) p = tt
 target-refers v u h (remote k f c) p = direct-refers v [] u h c (p .passes) (p .reference)

@@ -3,5 +3,7 @@ pub mod Arrays
 pub mod Finding
 pub mod Counting
 pub mod Bounds
+pub mod Loops
 pub mod Standing
 pub mod Turn
+pub mod Done

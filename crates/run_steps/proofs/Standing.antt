@@ -57,10 +57,13 @@ pub lines-end : (s : Sizes) {lines : ℕ} → lines ≤ 64 → s .records ≤ 40
 lines-end s few k = omega (arith, mul-le-mul-right (s .records) few, k)
 
 pub scratch-behind : {s : Sizes} {lines : ℕ} {values : List ℤ} {marks : List ℕ} → Scratch s lines values marks → Behind s (lines * s .records) values marks
-scratch-behind {s} {lines} t = record { values-room = omega (arith, scratch-is s lines, t .values-room); marks-room = omega (arith, scratch-is s lines, t .marks-room) }
+scratch-behind {s} {lines} t =
+    let is = scratch-is s lines in
+    record { values-room = omega (arith, is, t .values-room); marks-room = omega (arith, is, t .marks-room) }
 
 -- before step `step` of the program p
-pub record Stands (m : Machine) (s : Sizes) (p : Program) (at budget : ℕ) (file : List ℕ) (step first finished : ℕ) (counts : Counts) (out : List ℕ) (values : List ℤ) (marks : List ℕ) : Type 0 where
+pub record Stands (m : Machine) (s : Sizes) (p : Program) (at budget : ℕ) (file : List ℕ) (step first finished : ℕ) (counts : Counts)
+    (out : List ℕ) (values : List ℤ) (marks : List ℕ) : Type 0 where
   pub trace : Trace
   pub around : Option ℕ
   pub before : List Cell
@@ -84,13 +87,14 @@ pass-kept s at k (Looped f first last) before h = record {
   place-is = λ u l. placeAt-kept (k u l) ∙ h .place-is u l;
 }
 
-has-pass : (s : Sizes) (g : Setting) (before : List Cell) (at : ℕ) (values : List ℤ) (marks : List ℕ) → InPass s g before at values marks → HasPass s g at values
+has-pass : (s : Sizes) (g : Setting) (before : List Cell) (at : ℕ) (values : List ℤ) (marks : List ℕ) → InPass s g before at values marks
+    → HasPass s g at values
 has-pass s Single before at values marks h = tt
 has-pass s (Looped f first last) before at values marks h = h .column
 
 module _ {m : Machine} {s : Sizes} {p : Program} {at budget : ℕ} {file : List ℕ} where
-  pub stands-start : {values : List ℤ} {marks : List ℕ} → Register s file → HoldsCells (at + s .records) (cellsOfFile s file) values marks → Behind s at values marks → ProgramPasses s p
-      → {steps : ℕ} → steps ≡ length p → Stands m s p at budget file 0 steps 0 noCounts file values marks
+  pub stands-start : {values : List ℤ} {marks : List ℕ} → Register s file → HoldsCells (at + s .records) (cellsOfFile s file) values marks
+      → Behind s at values marks → ProgramPasses s p → {steps : ℕ} → steps ≡ length p → Stands m s p at budget file 0 steps 0 noCounts file values marks
   stands-start g w c q e = record {
     trace = [];
     around = none;
@@ -131,7 +135,8 @@ module _ {m : Machine} {s : Sizes} {p : Program} {at budget : ℕ} {file : List 
           → Ends m s p budget file out′ (record { refusal = 21; line = 0; finished = finished; counts = counts; row = u; column = c })
       stands-offended b {out′} {u} {c} o =
           let cells = cellsOfFile s out in
-          let e = running-offended (t .running) comes b (stops-at s (direct s (here .rules) cells) (here .rules) cells u c (o .row) (o .col) (o .offends-there)) in
+          let stops = stops-at s (direct s (here .rules) cells) (here .rules) cells u c (o .row) (o .col) (o .offends-there) in
+          let e = running-offended (t .running) comes b stops in
           record {
             finished-is = rw e (sym (t .running .count));
             counts-are = rw e (t .counts-are);
@@ -149,7 +154,8 @@ module _ {m : Machine} {s : Sizes} {p : Program} {at budget : ℕ} {file : List 
 
       -- one step is done: its pass was entered, its rules run, and the next step found
       module _ {g : Setting} {out′ : List ℕ} {values₁ values₂ : List ℤ} {marks₁ marks₂ : List ℕ} {sent : ℕ} (q : here .setting ≡ g)
-          (entered : Entered s g (cellsOfFile s out) at values marks values₁ marks₁) (kept : (u : ℕ) → u < s .records → Kept (at + u) values₁ marks₁ values₂ marks₂)
+          (entered : Entered s g (cellsOfFile s out) at values marks values₁ marks₁)
+          (kept : (u : ℕ) → u < s .records → Kept (at + u) values₁ marks₁ values₂ marks₂)
           (through : GoesThrough s (direct s (here .rules) (cellsOfFile s out)) (here .rules) out out′ (at + s .records) values₂ marks₂ sent) where
         abbrev before′ : List Cell
         before′ = cond (begins g) (cellsOfFile s out) (t .before)
@@ -169,15 +175,21 @@ module _ {m : Machine} {s : Sizes} {p : Program} {at budget : ℕ} {file : List 
         behind-column (Looped f first true) i o h = absurd (let z : _≡_ {A = ℕ} 0 1 = cc in omega arith)
         behind-column (Looped f first false) i o h = subst (λ (j : ℕ). LoopColumn s j before′ at values₂ marks₂) (some-is o) h
 
-        pub stands-next : finished < budget → ProgramPasses s p → length out′ ≡ length out → Behind s at values₂ marks₂ → {first′ next finished′ : ℕ} {counts′ : Counts}
-            → first′ ≡ cond (begins g) step first → NextIs s g (cellsOfFile s out′) at values₂ marks₂ step first′ next → finished′ ≡ suc finished → counts′ ≡ countsOf m s trace′ → Few (suc finished) counts′
+        pub stands-next : finished < budget → ProgramPasses s p → length out′ ≡ length out → Behind s at values₂ marks₂
+            → {first′ next finished′ : ℕ} {counts′ : Counts} → first′ ≡ cond (begins g) step first
+            → NextIs s g (cellsOfFile s out′) at values₂ marks₂ step first′ next → finished′ ≡ suc finished
+            → counts′ ≡ countsOf m s trace′ → Few (suc finished) counts′
             → Stands m s p at budget file next first′ finished′ counts′ out′ values₂ marks₂
         stands-next b k n room {first′} {next} {finished′} f follows c counted few =
             let cells = cellsOfFile s out in
             let after = stepCells s (direct s (here .rules) cells) (here .rules) cells in
             let first-is = cond (begins g) step first in
-            let r : Running s p budget (cellsOfFile s file) (cond (goesOn s g before′ after) (suc step) first-is) first-is (suc finished) trace′ (openBehind g) before′ after =
-            subst (λ (x : Setting). Running s p budget (cellsOfFile s file) (cond (goesOn s x (cond (begins x) cells (t .before)) after) (suc step) (cond (begins x) step first)) (cond (begins x) step first) (suc finished) trace′ (openBehind x) (cond (begins x) cells (t .before)) after) q
+            let r : Running s p budget (cellsOfFile s file) (cond (goesOn s g before′ after) (suc step) first-is) first-is (suc finished) trace′
+            (openBehind g) before′ after =
+            subst
+            (λ (x : Setting).
+            Running s p budget (cellsOfFile s file) (cond (goesOn s x (cond (begins x) cells (t .before)) after) (suc step) (cond (begins x) step first))
+            (cond (begins x) step first) (suc finished) trace′ (openBehind x) (cond (begins x) cells (t .before)) after) q
             (running-step (t .running) comes b k (through .stops-not)) in
             let cells-are : cellsOfFile s out′ ≡ after = ap (cellsOfFile s) (through .file-is) ∙ decode-encode s after (r .valid) in
             let next-is : next ≡ cond (goesOn s g before′ after) (suc step) first-is =
@@ -189,7 +201,11 @@ module _ {m : Machine} {s : Sizes} {p : Program} {at budget : ℕ} {file : List 
               running = rw (next-is, f, c, cells-are) r;
               counts-are = counted;
               few = rw c few;
-              register = record { valid = rw cells-are (r .valid); file-is = through .file-is ∙ ap (fileOf s) (sym cells-are); whole = n ∙ t .register .whole };
+              register = record {
+                valid = rw cells-are (r .valid);
+                file-is = through .file-is ∙ ap (fileOf s) (sym cells-are);
+                whole = n ∙ t .register .whole;
+              };
               working = rw cells-are (through .holds);
               room = room;
               column = λ i o. behind-column g i o stepped-pass;

@@ -69,7 +69,8 @@ fn run_steps(
     machine: Machine,
     budget: u16,
 ) -> RunAnswer
-    requires { ⌜ Register sizes (now out) × Scratch sizes (program .lines) (now values) (now marks) × Complete program × ProgramPasses sizes (programOf program) × HoldsCells (program .lines * sizes .records + sizes .records) (cellsOfFile sizes (now out)) (now values) (now marks) ⌝ }
+    requires { ⌜ Register sizes (now out) × Scratch sizes (program .lines) (now values) (now marks) × Complete program × ProgramPasses sizes (programOf program)
+        × HoldsCells (program .lines * sizes .records + sizes .records) (cellsOfFile sizes (now out)) (now values) (now marks) ⌝ }
     ensures { λ r. ⌜ Ends machine sizes (programOf program) budget (now (out .entry)) (now (out .exit)) r ⌝ }
 {
     let slots = program.slots;

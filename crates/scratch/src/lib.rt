@@ -8,11 +8,9 @@ ghost use lib.ListN.{length, getD, set};
 ghost use mir.Syntax.{w32};
 ghost use mir.Val.{SFits};
 ghost use Rattle.integers.specs.Bytes.{valueAt};
-ghost use Rattle.register.specs.Cells.{valueOf, markOf};
 ghost use Rattle.chain.specs.Word.{readingValue};
 ghost use Rattle.scratch.specs.Places.{placeAt, readingMark};
 use chain::reading::Reading;
-use register::cells::Cell;
 
 // What is read at place j.
 pub fn read_at(values: &[i64], marks: &[u8], j: usize) -> Reading
@@ -34,6 +32,16 @@ pub fn put(values: &mut [i64], marks: &mut [u8], j: usize, value: i64, mark: u8)
     marks[j] = mark;
 }
 
+// Makes place j missing: value 0 and mark 0. The mark first: with the order of `put` the compiler makes one path of the two, on
+// which both numbers are chosen.
+pub fn clear(values: &mut [i64], marks: &mut [u8], j: usize)
+    requires { ⌜ (j < length (now values)) × (j < length (now marks)) ⌝ }
+    ensures { λ _. ⌜ (now (values .exit) ≡ set (now (values .entry)) j (pos 0)) × (now (marks .exit) ≡ set (now (marks .entry)) j 0) ⌝ }
+{
+    marks[j] = 0;
+    values[j] = 0;
+}
+
 // Cell j of a register's two arrays, copied to place k: its value and its mark, whatever they are.
 pub fn copy_cell(
     cells: &[u8],
@@ -44,7 +52,8 @@ pub fn copy_cell(
     k: usize,
 )
     requires { ⌜ (4 * j + 4 ≤ length (now cells)) × (j < length (now filled)) × (k < length (now values)) × (k < length (now marks)) ⌝ }
-    ensures { λ _. ⌜ (now (values .exit) ≡ set (now (values .entry)) k (valueAt (now (cells .entry)) (4 * j))) × (now (marks .exit) ≡ set (now (marks .entry)) k (getD (now (filled .entry)) j 0)) ⌝ }
+    ensures { λ _. ⌜ (now (values .exit) ≡ set (now (values .entry)) k (valueAt (now (cells .entry)) (4 * j)))
+        × (now (marks .exit) ≡ set (now (marks .entry)) k (getD (now (filled .entry)) j 0)) ⌝ }
 {
     put(
         values,
@@ -55,24 +64,14 @@ pub fn copy_cell(
     );
 }
 
-// A missing cell has value 0 and mark 0.
-pub fn put_cell(values: &mut [i64], marks: &mut [u8], j: usize, cell: Cell)
-    requires { ⌜ (j < length (now values)) × (j < length (now marks)) ⌝ }
-    ensures { λ _. ⌜ (now (values .exit) ≡ set (now (values .entry)) j (valueOf cell)) × (now (marks .exit) ≡ set (now (marks .entry)) j (markOf cell)) × SFits w32 (valueOf cell) ⌝ }
-{
-    match cell {
-        Cell::Missing => put(values, marks, j, 0, 0),
-        Cell::Value(value) => put(values, marks, j, integers::widen(value), 1),
-    }
-}
-
 // A missing reading has value 0 and mark 0.
 pub fn put_reading(values: &mut [i64], marks: &mut [u8], j: usize, reading: Reading)
     requires { ⌜ (j < length (now values)) × (j < length (now marks)) ⌝ }
-    ensures { λ _. ⌜ (now (values .exit) ≡ set (now (values .entry)) j (readingValue reading)) × (now (marks .exit) ≡ set (now (marks .entry)) j (readingMark reading)) × SFits w32 (readingValue reading) ⌝ }
+    ensures { λ _. ⌜ (now (values .exit) ≡ set (now (values .entry)) j (readingValue reading))
+        × (now (marks .exit) ≡ set (now (marks .entry)) j (readingMark reading)) × SFits w32 (readingValue reading) ⌝ }
 {
     match reading {
-        Reading::Missing => put(values, marks, j, 0, 0),
+        Reading::Missing => clear(values, marks, j),
         Reading::Value(value) => put(values, marks, j, integers::widen(value), 1),
     }
 }

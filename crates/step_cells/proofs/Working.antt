@@ -16,7 +16,11 @@ use Rattle.register.specs.Cells.{valueOf, markOf, cellOf, cellAt}
 use Rattle.register.specs.declared.cells.Cell.{Cell}
 use Rattle.register.specs.declared.cells.Cell.the-variants.{Missing}
 use Rattle.register.proofs.Arrays.{cellOf-kept}
-use Rattle.scratch.specs.Places.{storedAt}
+use Rattle.chain.specs.declared.reading.Reading.{Reading}
+use Rattle.chain.specs.declared.reading.Reading.the-variants as R
+use Rattle.chain.specs.Word.{readingValue}
+use Rattle.machine.specs.Local.{storedCell}
+use Rattle.scratch.specs.Places.{storedAt, readingMark}
 use Rattle.step_cells.specs.Work.{Room, HoldsCells, Same, Put, Small}
 
 -- nothing is stored
@@ -50,6 +54,13 @@ put-stored {c} v m = record {
   marks-are = m;
   cell-is = cellOf-kept c;
 }
+
+-- and so is what is made of a reading
+pub put-read : {j : ℕ} (x : Reading) {values values′ : List ℤ} {marks marks′ : List ℕ}
+    → values′ ≡ set values j (readingValue x) → marks′ ≡ set marks j (readingMark x) → Put j (storedCell x) values marks values′ marks′
+unfolding storedCell readingValue readingMark valueOf markOf
+put-read R.Missing v m = put-stored v m
+put-read (R.Value z) v m = put-stored v m
 
 -- a cell of the register is copied
 pub put-copied : (cells filled : List ℕ) (k : ℕ) {j : ℕ} {values values′ : List ℤ} {marks marks′ : List ℕ}

@@ -15,10 +15,10 @@ ghost use Rattle.machine.specs.Remote.{merged};
 ghost use Rattle.program.specs.declared.rule.Sort.the-variants.{Least, Total};
 ghost use Rattle.step_cells.specs.Work.{Room, HoldsCells, Put, Same};
 use chain::follow;
+use chain::reading::Reading;
 use program::rule::Sort;
 use register::Sizes;
 use register::cells;
-use register::cells::Cell;
 use scratch;
 
 // They begin as the cells of the register in `out`.
@@ -52,7 +52,7 @@ fn keep_least(values: &mut [i64], marks: &mut [u8], j: usize, amount: i32)
             return;
         }
     }
-    scratch::put_cell(values, marks, j, Cell::Value(amount));
+    scratch::put_reading(values, marks, j, Reading::Value(amount));
 }
 
 // `+=` adds to a cell that has a value; a missing cell stays missing.

@@ -105,16 +105,8 @@ pub fn local_write(
         return Write::Nothing;
     }
     let test = slot.test;
-    if !term::holds(
-        cells,
-        filled,
-        values,
-        marks,
-        sizes,
-        u,
-        test,
-        located.at.test,
-    ) {
+    let places = located.at.test;
+    if !term::holds(cells, filled, values, marks, sizes, u, test, places) {
         return Write::Nothing;
     }
     let at = located.at.rule;

@@ -120,23 +120,23 @@ module _ (s : Sizes) (cells : List Cell) (u : ℕ) (x : Located) where
 
   module _ (base : ℕ) (values : List ℤ) (marks : List ℕ) where
     -- it sends nothing
-    pub rule-silent : [] ≡ ruleMessages read (ruleAt x) → RuleDelivered s cells base u x values marks values marks 0
+    pub rule-silent : {n : ℕ} → [] ≡ ruleMessages read (ruleAt x) → RuleDelivered s cells base u x values marks values marks n n
     unfolding deliverAll
     rule-silent e = record {
       same = same-refl;
       holds = λ d l h. subst (λ (ms : List Message). HoldsCells base (deliverAll s d ms) values marks) e h;
-      sent-is = ap length e;
+      sent-is = omega (arith, ap length e);
       sent≤ = omega arith;
       small = λ b h. small-within (omega arith) h;
     }
 
     -- it sends one message, to a place of the working cells
-    pub rule-delivered : {m : Message} {j : ℕ} {values′ : List ℤ} {marks′ : List ℕ} → m ∷ [] ≡ ruleMessages read (ruleAt x) → Placed m
+    pub rule-delivered : {m : Message} {j n : ℕ} {values′ : List ℤ} {marks′ : List ℕ} → m ∷ [] ≡ ruleMessages read (ruleAt x) → Placed m
         → Room base (cellCount s) values marks → SFits w32 (m .amount) → j ≡ base + cellIndex s (m .target) (column s (m .field))
         → Put j (merged (m .sort) (storedAt values marks j) (m .amount)) values marks values′ marks′
-        → RuleDelivered s cells base u x values marks values′ marks′ 1
+        → RuleDelivered s cells base u x values marks values′ marks′ n (n + 1)
     unfolding deliverAll deliver
-    rule-delivered {m} {j} {values′} {marks′} e placed room fits at p =
+    rule-delivered {m} {j} {values′ = values′} {marks′ = marks′} e placed room fits at p =
         let k = cellIndex s (m .target) (column s (m .field)) in
         let below : k < cellCount s = placed .below in
         let there : ℕ → Cell = λ i. merged (m .sort) (storedAt values marks i) (m .amount) in
@@ -147,7 +147,7 @@ module _ (s : Sizes) (cells : List Cell) (u : ℕ) (x : Located) where
               subst (λ (ms : List Message). HoldsCells base (deliverAll s d ms) values′ marks′) e
               (subst (λ (c : Cell). HoldsCells base (set d k (merged (m .sort) c (m .amount))) values′ marks′) (h .place-is k (omega arith))
               (holds-put base k p′ room below l h));
-          sent-is = ap length e;
+          sent-is = omega (arith, ap length e);
           sent≤ = omega arith;
           small = λ b h.
               small-put base k p′ room below (merged-below (m .sort) (storedAt values marks (base + k)) (m .amount) fits (h .below k below)) (omega arith) h;
@@ -184,13 +184,13 @@ sends-then {s} {ms} {ns} {base} {values″ = values″} {marks″ = marks″} a 
 pub sends-more : (s : Sizes) (cells : List Cell) (places : List Located) (u k : ℕ) (x : Located) {base b n n′ i : ℕ}
     {values values′ values″ : List ℤ} {marks marks′ marks″ : List ℕ} → k < length places
     → Sends s (messages (followed s cells u) (rulesIn k places)) base b n values marks values′ marks′ n′
-    → RuleDelivered s cells base u (getD places k x) values′ marks′ values″ marks″ i → {k′ : ℕ} → k′ ≡ suc k → {b′ : ℕ} → b + 2147483648 ≤ b′
-    → Sends s (messages (followed s cells u) (rulesIn k′ places)) base b′ n values marks values″ marks″ (n′ + i)
+    → RuleDelivered s cells base u (getD places k x) values′ marks′ values″ marks″ n′ i → {k′ : ℕ} → k′ ≡ suc k → {b′ : ℕ} → b + 2147483648 ≤ b′
+    → Sends s (messages (followed s cells u) (rulesIn k′ places)) base b′ n values marks values″ marks″ i
 sends-more s cells places u k x {base} {b} {n′ = n′} {i} {values′ = values′} {values″} {marks′ = marks′} {marks″} h t r q {b′} l =
     let read = followed s cells u in
     let rule = ruleAt (getD places k x) in
-    let one : Sends s (ruleMessages read rule) base b′ n′ values′ marks′ values″ marks″ (n′ + i) =
-    record { same = r .same; holds = r .holds; sent-is = ap (λ (k : ℕ). n′ + k) (r .sent-is); small = small-within l (r .small b (t .small)) } in
+    let one : Sends s (ruleMessages read rule) base b′ n′ values′ marks′ values″ marks″ i =
+    record { same = r .same; holds = r .holds; sent-is = r .sent-is; small = small-within l (r .small b (t .small)) } in
     rw (q, rules-more places k x h, messages-more read (rulesIn k places) rule) (sends-then t one)
 
 -- one record more

@@ -3,14 +3,15 @@ ghost use mathlib.Core.Path.{_≡_};
 ghost use mathlib.Core.Bool.{true};
 ghost use Prim.Native.Nat.{_+_, _*_, _<_};
 ghost use lib.ListN.{length, take};
-ghost use Rattle.register.specs.Cells.{cellOf};
 ghost use Rattle.register.specs.File.{cellCount, cellIndex, cellsOfFile};
 ghost use Rattle.register.specs.Shape.{Limits};
 ghost use Rattle.chain.specs.Word.{hasField, column as columnOf};
 ghost use Rattle.program.specs.Stored.{ruleIn};
+ghost use Rattle.machine.specs.Local.{storedCell};
 ghost use Rattle.step_cells.specs.Work.{Room, Put};
 ghost use Rattle.step_rules.specs.Ready.{RuleReady, LocalRule};
 use chain::follow;
+use chain::reading::Reading;
 use program::location::Located;
 use register::Sizes;
 use register::cells;
@@ -20,7 +21,7 @@ use step_cells::stop::Stop;
 use step_effects::stored;
 use step_effects::stored::Write;
 
-// Stores a value and a mark in the working cell of record u and a field.
+// Stores what is made of a reading in the working cell of record u and a field.
 fn store(
     values: &mut [i64],
     marks: &mut [u8],
@@ -28,14 +29,13 @@ fn store(
     base: usize,
     u: usize,
     field: u64,
-    value: i64,
-    mark: u8,
+    reading: Reading,
 )
     requires { ⌜ Limits sizes × (u < sizes .records) × (hasField sizes field ≡ true) × Room base (cellCount sizes) (now values) (now marks) ⌝ }
-    ensures { λ _. ⌜ Put (base + cellIndex sizes u (columnOf sizes field)) (cellOf value mark) (now (values .entry)) (now (marks .entry)) (now (values .exit)) (now (marks .exit)) ⌝ }
+    ensures { λ _. ⌜ Put (base + cellIndex sizes u (columnOf sizes field)) (storedCell reading) (now (values .entry)) (now (marks .entry)) (now (values .exit)) (now (marks .exit)) ⌝ }
 {
     let place = step_cells::place(sizes, base, u, field);
-    scratch::put(values, marks, place, value, mark);
+    scratch::put_reading(values, marks, place, reading);
 }
 
 // One rule at record u of the register in `out`.
@@ -63,12 +63,11 @@ pub fn apply_rule(
     ) {
         Write::Nothing => Stop::Nowhere,
         Write::Clear(field) => {
-            store(values, marks, sizes, base, u, field, 0, 0);
+            store(values, marks, sizes, base, u, field, Reading::Missing);
             Stop::Nowhere
         }
         Write::Store(field, value) => {
-            let wide = integers::widen(value);
-            store(values, marks, sizes, base, u, field, wide, 1);
+            store(values, marks, sizes, base, u, field, Reading::Value(value));
             Stop::Nowhere
         }
         Write::OutOfRange(field) => Stop::At(u, follow::column(sizes, field as usize)),

@@ -16,7 +16,8 @@ use step_cells;
 use step_effects::sent;
 use step_effects::sent::Sent;
 
-// The message of one rule at record u, where it sends one. The number of messages.
+// The message of one rule at record u, where it sends one. The number of messages, with those sent before: a number of its own
+// would be made 0 or 1 on every way out and added.
 fn apply_rule(
     cells: &[u8],
     filled: &[u8],
@@ -26,11 +27,12 @@ fn apply_rule(
     base: usize,
     u: usize,
     rule: Located,
+    sent: usize,
 ) -> usize
     requires { ⌜ Parts sizes (now cells) (now filled) × (u < sizes .records) × Room base (length (now filled)) (now values) (now marks) ⌝ }
     requires { ⌜ RuleReady sizes (cellsOf (now cells) (now filled)) (take base (now values)) (take base (now marks)) rule ⌝ }
-    requires { ⌜ Small 4611686018427387904 base (length (now filled)) (now values) (now marks) ⌝ }
-    ensures { λ r. ⌜ RuleDelivered sizes (cellsOf (now (cells .entry)) (now (filled .entry))) base u rule (now (values .entry)) (now (marks .entry)) (now (values .exit)) (now (marks .exit)) r ⌝ }
+    requires { ⌜ Small 4611686018427387904 base (length (now filled)) (now values) (now marks) × (sent < 131072) ⌝ }
+    ensures { λ r. ⌜ RuleDelivered sizes (cellsOf (now (cells .entry)) (now (filled .entry))) base u rule (now (values .entry)) (now (marks .entry)) (now (values .exit)) (now (marks .exit)) sent r ⌝ }
 {
     match sent::message_of(
         cells,
@@ -41,12 +43,12 @@ fn apply_rule(
         u,
         rule,
     ) {
-        Sent::Nothing => 0,
+        Sent::Nothing => sent,
         Sent::One(message) => {
             let place = step_cells::place(sizes, base, message.target, message.field);
             let sort = message.sort;
             step_cells::deliver(values, marks, place, sort, message.amount);
-            1
+            sent + 1
         }
     }
 }
@@ -71,7 +73,7 @@ pub fn apply(
     let mut sent = 0;
     for u in 0..sizes.records {
         for k in 0..count {
-            sent += apply_rule(cells, filled, values, marks, sizes, base, u, rules[k]);
+            sent = apply_rule(cells, filled, values, marks, sizes, base, u, rules[k], sent);
         }
     }
     sent

@@ -19,7 +19,7 @@ use Rattle.program.specs.declared.rule.Operator.{Operator}
 use Rattle.program.specs.declared.rule.Operator.the-variants.{Plus, Minus}
 use Rattle.program.specs.declared.rule.Sort.{Sort}
 use Rattle.program.specs.declared.rule.Sort.the-variants.{Least, Total}
-use Rattle.text_forms.specs.Token.{Token, capital, then, word, or, finished}
+use Rattle.text_forms.specs.Token.{Token, capital, then, literal, or, finished}
 use Rattle.text_forms.specs.Term.{printedTerm, ProperTerm, termForm}
 use Rattle.text_forms.specs.Line.{made, comparisonText, operatorText, sortText, printedAction, printedLine, ProperAction, Proper, assigned, localForm, sentForms, remoteForm, actionForm, ruleLine, compared, testedForm, lineForm}
 use Rattle.text_forms.proofs.Tokens.{All, all-some, then-all, or-all, finished-all, word-all, capital-is, capital-read, capital-word}
@@ -116,7 +116,7 @@ line-all t =
     (word-all P (bytes "if ") t testedForm (λ r e. rw e (tested-spelled r)))
     (rule-all P (SpelledAction t) always (actionForm t) (action-spelled t) (λ a v. record { text = v .text; proper = (tt, v .proper) }))))))
   where
-    bare : (w : List ℕ) (l : Line) → w ≡ printedLine l → Proper l → All (Spelled t) (word w t (finished l))
+    bare : (w : List ℕ) (l : Line) → w ≡ printedLine l → Proper l → All (Spelled t) (literal w t (finished l))
     bare w l same p = word-all (Spelled t) w t (finished l) (λ r e. finished-all (Spelled t) l r (λ n. record { text = e ∙ rw (n, append-nil, same); proper = p }))
 
 -- a line that has a form is the printed text of that form, which is proper
@@ -138,7 +138,7 @@ capital-action f t h = rw (capital-word f 114 (bytes "emote ") t (λ r. remoteFo
 
 -- `F[u] := X` is read
 assign-read : (f : ℕ) (x : Term) (r : List ℕ) → isCapital f ≡ true → ProperTerm x → digits r ≡ [] → actionForm (f ∷ (bytes "[u] := " ++ (printedTerm x ++ r))) ≡ assigned f x r
-unfolding localForm then word
+unfolding localForm then literal
 assign-read f x r h p e =
     capital-action f (bytes "[u] := " ++ (printedTerm x ++ r)) h
     ∙ rw (capital-read f (bytes "[u] := " ++ (printedTerm x ++ r)) h, printed-term x r p e)
@@ -146,11 +146,11 @@ assign-read f x r h p e =
 -- `remote F[C]` is read
 target-read : (f : ℕ) (c r : List ℕ) → every isCapital (f ∷ c) ≡ true
     → actionForm (bytes "remote " ++ (printed (f ∷ c) ++ r)) ≡ or (sentForms f c r) (localForm (bytes "remote " ++ (printed (f ∷ c) ++ r)))
-unfolding actionForm word remoteForm
+unfolding actionForm literal remoteForm
 target-read f c r h = rw (printed-form (f ∷ c) r h)
 
 action-read : (a : Action) → ProperAction a → actionForm (printedAction a) ≡ some a
-unfolding printedAction assigned sentForms or finished word digits isDigit
+unfolding printedAction assigned sentForms or finished literal digits isDigit
 action-read (set f x) p = ap (λ (l : List ℕ). actionForm (f ∷ (bytes "[u] := " ++ l))) (sym (append-nil (printedTerm x))) ∙ assign-read f x [] (p .0) (p .1) refl
 action-read (combine f Plus x y) p = assign-read f x (operatorText Plus ++ printedTerm y) (p .0) (p .1) refl ∙ rw (last-read (combine f Plus x) y (p .2))
 action-read (combine f Minus x y) p = assign-read f x (operatorText Minus ++ printedTerm y) (p .0) (p .1) refl ∙ rw (last-read (combine f Minus x) y (p .2))
@@ -160,13 +160,13 @@ action-read (remote Total f c x) p = target-read f c (sortText Total ++ printedT
 -- a test is read
 module _ (x y : Term) (a : Action) (px : ProperTerm x) (py : ProperTerm y) (pa : ProperAction a) where
   compared-read : (c : Comparison) → compared x c (comparisonText c ++ (printedTerm y ++ (bytes ": " ++ printedAction a))) ≡ some (rule (when x c y) a)
-  unfolding compared word then digits isDigit ruleLine
+  unfolding compared literal then digits isDigit ruleLine
   compared-read Less = rw (printed-term y (bytes ": " ++ printedAction a) py refl, action-read a pa)
   compared-read Equal = rw (printed-term y (bytes ": " ++ printedAction a) py refl, action-read a pa)
   compared-read Unequal = rw (printed-term y (bytes ": " ++ printedAction a) py refl, action-read a pa)
 
   tested-read : (c : Comparison) → testedForm (printedTerm x ++ (comparisonText c ++ (printedTerm y ++ (bytes ": " ++ printedAction a)))) ≡ some (rule (when x c y) a)
-  unfolding testedForm then or word digits isDigit compared
+  unfolding testedForm then or literal digits isDigit compared
   tested-read Less = rw (printed-term x (comparisonText Less ++ (printedTerm y ++ (bytes ": " ++ printedAction a))) px refl) (rw (compared-read Less))
   tested-read Equal = rw (printed-term x (comparisonText Equal ++ (printedTerm y ++ (bytes ": " ++ printedAction a))) px refl) (rw (compared-read Equal))
   tested-read Unequal = rw (printed-term x (comparisonText Unequal ++ (printedTerm y ++ (bytes ": " ++ printedAction a))) px refl) (rw (compared-read Unequal))
@@ -184,14 +184,14 @@ capital-line f t h =
     )
 
 rule-line : (a : Action) → ProperAction a → lineForm (printedAction a) ≡ ruleLine always (actionForm (printedAction a))
-unfolding printedAction lineForm or word
+unfolding printedAction lineForm or literal
 rule-line (set f x) p = capital-line f _ (p .0)
 rule-line (combine f op x y) p = capital-line f _ (p .0)
 rule-line (remote k f c x) p = refl
 
 -- and the printed text of a proper line has that line's form
 pub printed-line : (l : Line) → Proper l → lineForm (printedLine l) ≡ some l
-unfolding printedLine lineForm or word then finished ruleLine
+unfolding printedLine lineForm or literal then finished ruleLine
 printed-line step p = refl
 printed-line end p = refl
 printed-line done p = refl

@@ -10,7 +10,7 @@ use lib.Dec.{eqb, leb}
 use lib.ListN.{length, drop}
 use Rattle.chain_text.specs.Text.{isCapital}
 use Rattle.laws.proofs.Bools.{and-both}
-use Rattle.text_forms.specs.Token.{opensWith, Token, token, other, capital, then, word, or, finished}
+use Rattle.text_forms.specs.Token.{opensWith, Token, token, other, capital, then, literal, or, finished}
 
 -- P holds of the answer, if there is one
 abbrev pub All : {A : Type 0} → (A → Type 0) → Option A → Type 0
@@ -35,24 +35,24 @@ unfolding finished
 finished-all P a [] k = k refl
 finished-all P a (b ∷ r) k = tt
 
-pub word-all : {A : Type 0} (P : A → Type 0) (w t : List ℕ) (f : List ℕ → Option A) → ((r : List ℕ) → t ≡ w ++ r → All P (f r)) → All P (word w t f)
-unfolding word
+pub word-all : {A : Type 0} (P : A → Type 0) (w t : List ℕ) (f : List ℕ → Option A) → ((r : List ℕ) → t ≡ w ++ r → All P (f r)) → All P (literal w t f)
+unfolding literal
 word-all P [] t f k = k t refl
 word-all P (b ∷ w) [] f k = tt
 word-all P (b ∷ w) (d ∷ t) f k = go (word-all P w t f) (eqb d b) refl
   where
-    go : (((r : List ℕ) → t ≡ w ++ r → All P (f r)) → All P (word w t f)) → (x : Bool) → eqb d b ≡ x → All P (cond x (word w t f) none)
+    go : (((r : List ℕ) → t ≡ w ++ r → All P (f r)) → All P (literal w t f)) → (x : Bool) → eqb d b ≡ x → All P (cond x (literal w t f) none)
     go ih true e = ih (λ r q. k r (ap₂ (λ (c : ℕ) (l : List ℕ). c ∷ l) (eqb-true d b e) q))
     go ih false e = tt
 
 -- a word by a test, and what stands behind it
-pub word-begins : {A : Type 0} (w t : List ℕ) (f : List ℕ → Option A) → word w t f ≡ cond (opensWith w t) (f (drop (length w) t)) none
-unfolding word opensWith
+pub word-begins : {A : Type 0} (w t : List ℕ) (f : List ℕ → Option A) → literal w t f ≡ cond (opensWith w t) (f (drop (length w) t)) none
+unfolding literal opensWith
 word-begins [] t f = refl
 word-begins (b ∷ w) [] f = refl
 word-begins (b ∷ w) (d ∷ t) f = go (word-begins w t f) (eqb d b)
   where
-    go : word w t f ≡ cond (opensWith w t) (f (drop (length w) t)) none → (x : Bool) → cond x (word w t f) none ≡ cond (x && opensWith w t) (f (drop (length w) t)) none
+    go : literal w t f ≡ cond (opensWith w t) (f (drop (length w) t)) none → (x : Bool) → cond x (literal w t f) none ≡ cond (x && opensWith w t) (f (drop (length w) t)) none
     go ih true = ih
     go ih false = refl
 
@@ -71,6 +71,6 @@ unfolding capital
 capital-read l r h = rw h
 
 -- a line that begins with a capital begins with none of the fixed words, which begin with small letters
-pub capital-word : {A : Type 0} (l b : ℕ) (w t : List ℕ) (f : List ℕ → Option A) → isCapital l ≡ true → 90 < b → word (b ∷ w) (l ∷ t) f ≡ none
-unfolding word isCapital
+pub capital-word : {A : Type 0} (l b : ℕ) (w t : List ℕ) (f : List ℕ → Option A) → isCapital l ≡ true → 90 < b → literal (b ∷ w) (l ∷ t) f ≡ none
+unfolding literal isCapital
 capital-word l b w t f h k = rw (ne-eqb l b (λ e. omega (arith, leb-true l 90 (and-both (leb 65 l) (leb l 90) h .1))))

@@ -15,7 +15,7 @@ use Rattle.program.specs.declared.rule.Operator.{Operator}
 use Rattle.program.specs.declared.rule.Operator.the-variants.{Plus, Minus}
 use Rattle.program.specs.declared.rule.Sort.{Sort}
 use Rattle.program.specs.declared.rule.Sort.the-variants.{Least, Total}
-use Rattle.text_forms.specs.Token.{capital, then, word, or, finished}
+use Rattle.text_forms.specs.Token.{capital, then, literal, or, finished}
 use Rattle.text_forms.specs.Term.{printedTerm, ProperTerm, termForm}
 
 -- a comparison with its spaces
@@ -70,7 +70,7 @@ Proper (rule c a) = ProperCondition c × ProperAction a
 
 -- a word, and what make does with the term behind it that ends the line
 abbrev pub made : {A : Type 0} → (Term → A) → List ℕ → List ℕ → Option A
-made make w t = word w t (λ r. then (termForm r) (λ y. finished (make y)))
+made make w t = literal w t (λ r. then (termForm r) (λ y. finished (make y)))
 
 -- behind `F[u] := X`, with this operator
 abbrev pub combinedForm : ℕ → Term → Operator → List ℕ → Option Action
@@ -82,7 +82,7 @@ assigned f x t = or (finished (set f x) t) (or (combinedForm f x Plus t) (combin
 
 -- `F[u] := ..`: F is any capital, and `[u]` stands as it is
 unfoldable pub localForm : List ℕ → Option Action
-localForm t = then (capital t) (λ f r. word (bytes "[u] := ") r (λ r. then (termForm r) (assigned f)))
+localForm t = then (capital t) (λ f r. literal (bytes "[u] := ") r (λ r. then (termForm r) (assigned f)))
 
 -- behind `remote F[C]`, with this sort
 abbrev pub sentForm : ℕ → List ℕ → Sort → List ℕ → Option Action
@@ -100,7 +100,7 @@ remoteForm (C.formed (f ∷ c) r) = sentForms f c r
 
 -- a rule without its test
 unfoldable pub actionForm : List ℕ → Option Action
-actionForm t = or (word (bytes "remote ") t (λ r. remoteForm (C.form r))) (localForm t)
+actionForm t = or (literal (bytes "remote ") t (λ r. remoteForm (C.form r))) (localForm t)
 
 -- a rule with this test, where there is one
 unfoldable pub ruleLine : Condition → Option Action → Option Line
@@ -109,7 +109,7 @@ ruleLine c (some a) = some (rule c a)
 
 -- behind `if X`, with this comparison
 unfoldable pub compared : Term → Comparison → List ℕ → Option Line
-compared x c t = word (comparisonText c) t (λ r. then (termForm r) (λ y r. word (bytes ": ") r (λ r. ruleLine (when x c y) (actionForm r))))
+compared x c t = literal (comparisonText c) t (λ r. then (termForm r) (λ y r. literal (bytes ": ") r (λ r. ruleLine (when x c y) (actionForm r))))
 
 -- behind `if `
 unfoldable pub testedForm : List ℕ → Option Line
@@ -118,9 +118,9 @@ testedForm t = then (termForm t) (λ x r. or (compared x Less r) (or (compared x
 -- the form of a line, or none: "7 no such line"
 unfoldable pub lineForm : List ℕ → Option Line
 lineForm t =
-    or (word (bytes "step") t (finished step))
-    (or (word (bytes "end") t (finished end))
-    (or (word (bytes "done") t (finished done))
-    (or (word (bytes "loop ") t (λ r. then (capital r) (λ f. finished (loop f))))
-    (or (word (bytes "if ") t testedForm)
+    or (literal (bytes "step") t (finished step))
+    (or (literal (bytes "end") t (finished end))
+    (or (literal (bytes "done") t (finished done))
+    (or (literal (bytes "loop ") t (λ r. then (capital r) (λ f. finished (loop f))))
+    (or (literal (bytes "if ") t testedForm)
     (ruleLine always (actionForm t))))))

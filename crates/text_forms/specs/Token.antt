@@ -22,10 +22,10 @@ then other f = none
 then (token a r) f = f a r
 
 -- these bytes, and then what f reads behind them
-unfoldable pub word : {A : Type 0} → List ℕ → List ℕ → (List ℕ → Option A) → Option A
-word [] t f = f t
-word (b ∷ w) [] f = none
-word (b ∷ w) (d ∷ t) f = cond (eqb d b) (word w t f) none
+unfoldable pub literal : {A : Type 0} → List ℕ → List ℕ → (List ℕ → Option A) → Option A
+literal [] t f = f t
+literal (b ∷ w) [] f = none
+literal (b ∷ w) (d ∷ t) f = cond (eqb d b) (literal w t f) none
 
 -- the first reading, or the second where there is none
 unfoldable pub or : {A : Type 0} → Option A → Option A → Option A

@@ -15,18 +15,19 @@ use Rattle.chain_text.specs.Text as C
 use Rattle.chain_text.specs.Text.{names, letterField}
 use Rattle.laws.specs.Bytes.{bytes}
 use Rattle.text_forms.specs.Written as W
-use Rattle.text_forms.specs.Token.{other, capital, then, word, or, finished, opensWith}
+use Rattle.text_forms.specs.Token.{other, capital, then, literal, or, finished, opensWith}
 use Rattle.text_forms.specs.Term.{termForm}
 use Rattle.text_forms.specs.Line.{localForm, actionForm, ruleLine, compared, testedForm, lineForm}
 use Rattle.text_forms.specs.Parts.{terms, conditionTerms, actionTerms, everyTerm, fieldNamed, named, kindsAgree, kinded, short, numbersInRange, conditionKinds, actionKinds, termNamed, termKinded, termShort, termInRange, target}
 use Rattle.text_terms.specs.Read.{partsOf}
 use Rattle.text_local.specs.ActionRead.{bothChecks, termsChecks, ruleChecks, actionChecks, packedRule, actionRead, packedTest}
-use Rattle.text_line.specs.LineRead.{lineChecks, lineRead, conditionParts, alwaysParts, whenParts, ruleRead, unequalRead, equalRead, comparisonRead, comparedForm, ruledForm, loopForm, openForm, isWord}
+use Rattle.text_line.specs.LineRead.{lineChecks, lineRead, conditionParts, alwaysParts, whenParts, ruleRead, symbolRead, comparisonRead, comparedForm, ruledForm, loopForm, openForm, isWord}
 use Rattle.text_terms.specs.declared.term.Checks.{Checks}
 use Rattle.text_terms.specs.declared.term.TermParts.{TermParts}
 use Rattle.text_line.specs.declared.line.TestParts.{TestParts}
 use Rattle.program.specs.declared.rule.Comparison.{Comparison}
 use Rattle.program.specs.declared.rule.Comparison.the-variants.{Less, Equal, Unequal}
+use Rattle.text_line.specs.declared.line.ComparisonRead.{ComparisonRead}
 use Rattle.text_line.specs.declared.line.ComparisonRead.the-variants.{At, NoForm as NoComparison}
 use Rattle.text_line.specs.declared.line.LineRead.the-variants.{Step, End, Done, Loop, Rule, NoForm as NoLine}
 use Rattle.text_forms.proofs.Tokens.{word-begins}
@@ -90,31 +91,21 @@ unfolding alwaysParts conditionParts packedTest ruleChecks conditionKinds termsC
 always-parts s = refl
 
 -- comparisons
-module _ (t : List ℕ) (at : ℕ) where
-  pub unequal-none : opensWith (bytes " != ") (drop at t) ≡ false → unequalRead at (drop at t) ≡ NoComparison
-  unfolding unequalRead
-  unequal-none e = simp e
+module _ (t w : List ℕ) (at : ℕ) (c : Comparison) (otherwise : ComparisonRead) where
+  pub symbol-none : opensWith w (drop at t) ≡ false → symbolRead at w c otherwise (drop at t) ≡ otherwise
+  unfolding symbolRead
+  symbol-none e = simp e
 
-  pub equal-none : opensWith (bytes " == ") (drop at t) ≡ false → equalRead at (drop at t) ≡ unequalRead at (drop at t)
-  unfolding equalRead
-  equal-none e = simp e
+  pub symbol-some : (end : ℕ) → Taken t w at end → At c end ≡ symbolRead at w c otherwise (drop at t)
+  unfolding symbolRead
+  symbol-some end p = ap (At c) (p .place) ∙ simp (p .stands)
 
-  pub less-none : opensWith (bytes " < ") (drop at t) ≡ false → comparisonRead at (drop at t) ≡ equalRead at (drop at t)
-  unfolding comparisonRead
-  less-none e = simp e
-
-  module _ (end : ℕ) where
-    pub unequal-some : Taken t (bytes " != ") at end → At Unequal end ≡ unequalRead at (drop at t)
-    unfolding unequalRead
-    unequal-some p = ap (At Unequal) (p .place) ∙ simp (p .stands)
-
-    pub equal-some : Taken t (bytes " == ") at end → At Equal end ≡ equalRead at (drop at t)
-    unfolding equalRead
-    equal-some p = ap (At Equal) (p .place) ∙ simp (p .stands)
-
-    pub less-some : Taken t (bytes " < ") at end → At Less end ≡ comparisonRead at (drop at t)
-    unfolding comparisonRead
-    less-some p = ap (At Less) (p .place) ∙ simp (p .stands)
+-- one after the other, the last first
+pub comparison-is : (at : ℕ) (t : List ℕ) {unequal equal r : ComparisonRead} → unequal ≡ symbolRead at (bytes " != ") Unequal NoComparison t
+    → equal ≡ symbolRead at (bytes " == ") Equal unequal t → r ≡ symbolRead at (bytes " < ") Less equal t → r ≡ comparisonRead at t
+unfolding comparisonRead
+comparison-is at t u e r =
+    r ∙ ap (λ x. symbolRead at (bytes " < ") Less x t) (e ∙ ap (λ x. symbolRead at (bytes " == ") Equal x t) u)
 
 -- where a comparison was read: the word of one of them, and the others do not stand there
 no-comparison : {A : Type 0} {c : Comparison} {e : ℕ} → NoComparison ≡ At c e → A
@@ -131,20 +122,20 @@ sides x r = or (compared x Less r) (or (compared x Equal r) (compared x Unequal 
 
 -- behind a comparison that stands
 less-sides : (x : W.Term) (r : List ℕ) → sides x (bytes " < " ++ r) ≡ comparedForm x Less r
-unfolding compared comparedForm word or
+unfolding compared comparedForm literal or
 less-sides x r = or-none (comparedForm x Less r)
 
 equal-sides : (x : W.Term) (r : List ℕ) → sides x (bytes " == " ++ r) ≡ comparedForm x Equal r
-unfolding compared comparedForm word or
+unfolding compared comparedForm literal or
 equal-sides x r = or-none (comparedForm x Equal r)
 
 unequal-sides : (x : W.Term) (r : List ℕ) → sides x (bytes " != " ++ r) ≡ comparedForm x Unequal r
-unfolding compared comparedForm word or
+unfolding compared comparedForm literal or
 unequal-sides x r = refl
 
 module _ (t : List ℕ) (at : ℕ) (x : W.Term) where
   pub sides-none : comparisonRead at (drop at t) ≡ NoComparison → sides x (drop at t) ≡ none
-  unfolding comparisonRead equalRead unequalRead compared or
+  unfolding comparisonRead symbolRead compared or
   sides-none e = go (opensWith (bytes " < ") (drop at t)) refl (opensWith (bytes " == ") (drop at t)) refl (opensWith (bytes " != ") (drop at t)) refl e
     where
       go : (a : Bool) → opensWith (bytes " < ") (drop at t) ≡ a → (b : Bool) → opensWith (bytes " == ") (drop at t) ≡ b → (c : Bool) → opensWith (bytes " != ") (drop at t) ≡ c
@@ -155,7 +146,7 @@ module _ (t : List ℕ) (at : ℕ) (x : W.Term) where
       go false a false hb false hc e = rw (word-refused _ (bytes " < ") (drop at t) a, word-refused _ (bytes " == ") (drop at t) hb, word-refused _ (bytes " != ") (drop at t) hc)
 
   pub sides-some : {c : Comparison} {end : ℕ} → comparisonRead at (drop at t) ≡ At c end → (sides x (drop at t) ≡ comparedForm x c (drop end t)) × (end ≤ length t)
-  unfolding comparisonRead equalRead unequalRead
+  unfolding comparisonRead symbolRead
   sides-some {c} {end} e = go (opensWith (bytes " < ") (drop at t)) refl (opensWith (bytes " == ") (drop at t)) refl (opensWith (bytes " != ") (drop at t)) refl e
     where
       -- the place behind a word of this size, and what stands there
@@ -188,7 +179,7 @@ module _ (s : Sizes) (t : List ℕ) (at : ℕ) (x : W.Term) (c : Comparison) whe
     abbrev rest-rule : List ℕ → Option W.Line
     rest-rule r = ruleLine (W.when x c (q .written)) (actionForm r)
 
-    compared-term : comparedForm x c (drop at t) ≡ word (bytes ": ") (drop end t) rest-rule
+    compared-term : comparedForm x c (drop at t) ≡ literal (bytes ": ") (drop end t) rest-rule
     unfolding comparedForm then
     compared-term = rw (q .stands)
 
@@ -219,7 +210,7 @@ module _ (s : Sizes) (t : List ℕ) (at : ℕ) where
 
 -- a rule, with a test or without; no rule begins with `if `
 action-if : (r : List ℕ) → ruleLine W.always (actionForm (bytes "if " ++ r)) ≡ none
-unfolding actionForm localForm capital then word or ruleLine C.isCapital
+unfolding actionForm localForm capital then literal or ruleLine C.isCapital
 action-if r = refl
 
 module _ (t : List ℕ) where
@@ -232,7 +223,7 @@ module _ (t : List ℕ) where
 
 -- a loop's first line; no rule begins with `loop `
 ruled-loop : (r : List ℕ) → ruledForm (bytes "loop " ++ r) ≡ none
-unfolding actionForm localForm capital then word or ruleLine C.isCapital
+unfolding actionForm localForm capital then literal or ruleLine C.isCapital
 ruled-loop r = refl
 
 module _ (t : List ℕ) where
@@ -272,7 +263,7 @@ module _ (w t : List ℕ) where
   word-not e = sym (and-false (eqb (length w) (length t)) e) ∙ e
 
   module _ {A : Type 0} (a : A) where
-    word-by : word w t (finished a) ≡ cond (isWord w t) (some a) none
+    word-by : literal w t (finished a) ≡ cond (isWord w t) (some a) none
     unfolding isWord
     word-by = word-begins w t (finished a) ∙ go (opensWith w t) refl
       where
@@ -287,10 +278,10 @@ module _ (w t : List ℕ) where
         go true h = whole h (eqb (length w) (length t)) refl
         go false h = refl
 
-    pub word-yes : isWord w t ≡ true → word w t (finished a) ≡ some a
+    pub word-yes : isWord w t ≡ true → literal w t (finished a) ≡ some a
     word-yes e = word-by ∙ ap (λ (x : Bool). cond x (some a) none) e
 
-    pub word-no : isWord w t ≡ false → word w t (finished a) ≡ none
+    pub word-no : isWord w t ≡ false → literal w t (finished a) ≡ none
     word-no e = word-by ∙ ap (λ (x : Bool). cond x (some a) none) e
 
 -- the whole line

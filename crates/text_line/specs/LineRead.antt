@@ -10,7 +10,7 @@ use Rattle.register.specs.declared.Sizes.{Sizes}
 use Rattle.chain_text.specs.Text.{names, letterField}
 use Rattle.laws.specs.Bytes.{bytes}
 use Rattle.text_forms.specs.Written as W
-use Rattle.text_forms.specs.Token.{capital, then, word, or, finished, opensWith}
+use Rattle.text_forms.specs.Token.{capital, then, literal, or, finished, opensWith}
 use Rattle.text_forms.specs.Term.{termForm}
 use Rattle.text_forms.specs.Line.{actionForm, ruleLine, testedForm}
 use Rattle.text_forms.specs.Parts.{sameKind, conditionTerms, conditionKinds, named, kinded, short, numbersInRange}
@@ -59,21 +59,18 @@ unfoldable pub ruleRead : TestParts → ActionRead → LineRead
 ruleRead p NoForm = NoLine
 ruleRead p (Action r checks) = Rule (record { test = p .test; rule = r }) (bothChecks (p .checks) checks)
 
--- ` != ` at the front of a text
-unfoldable pub unequalRead : ℕ → List ℕ → ComparisonRead
-unequalRead at t = cond (opensWith (bytes " != ") t) (At Unequal (at + 4)) NoComparison
-
--- ` == ` or ` != ` at the front of a text
-unfoldable pub equalRead : ℕ → List ℕ → ComparisonRead
-equalRead at t = cond (opensWith (bytes " == ") t) (At Equal (at + 4)) (unequalRead at t)
+-- the comparison whose text w a text begins with; or what is read otherwise
+unfoldable pub symbolRead : ℕ → List ℕ → Comparison → ComparisonRead → List ℕ → ComparisonRead
+symbolRead at w c otherwise t = cond (opensWith w t) (At c (at + length w)) otherwise
 
 -- the comparison that a text begins with
 unfoldable pub comparisonRead : ℕ → List ℕ → ComparisonRead
-comparisonRead at t = cond (opensWith (bytes " < ") t) (At Less (at + 3)) (equalRead at t)
+comparisonRead at t =
+    symbolRead at (bytes " < ") Less (symbolRead at (bytes " == ") Equal (symbolRead at (bytes " != ") Unequal NoComparison t) t) t
 
 -- `Y: ` and a rule, behind `if X` and a comparison
 unfoldable pub comparedForm : W.Term → Comparison → List ℕ → Option W.Line
-comparedForm x c t = then (termForm t) (λ y r. word (bytes ": ") r (λ r. ruleLine (W.when x c y) (actionForm r)))
+comparedForm x c t = then (termForm t) (λ y r. literal (bytes ": ") r (λ r. ruleLine (W.when x c y) (actionForm r)))
 
 -- an answer that is right for every term with these parts
 abbrev pub ForSide : Sizes → TermParts → (W.Term → LineRead) → LineRead → Type 0
@@ -81,7 +78,7 @@ ForSide s p answer r = (w : W.Term) → p ≡ partsOf s w → r ≡ answer w
 
 -- a rule with a test or without
 abbrev pub ruledForm : List ℕ → Option W.Line
-ruledForm t = or (word (bytes "if ") t testedForm) (ruleLine W.always (actionForm t))
+ruledForm t = or (literal (bytes "if ") t testedForm) (ruleLine W.always (actionForm t))
 
 -- the field of a loop, behind `loop `
 abbrev pub loopForm : List ℕ → Option W.Line
@@ -89,7 +86,7 @@ loopForm t = then (capital t) (λ f. finished (W.loop f))
 
 -- a loop's first line, or a rule
 abbrev pub openForm : List ℕ → Option W.Line
-openForm t = or (word (bytes "loop ") t loopForm) (ruledForm t)
+openForm t = or (literal (bytes "loop ") t loopForm) (ruledForm t)
 
 -- whether a word is the whole text
 unfoldable pub isWord : List ℕ → List ℕ → Bool

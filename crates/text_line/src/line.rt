@@ -5,7 +5,7 @@ ghost use lib.ListN.{length, drop};
 ghost use Rattle.register.specs.Shape.{Limits};
 ghost use Rattle.text_forms.specs.Line.{actionForm, testedForm, lineForm};
 ghost use Rattle.text_local.specs.ActionRead.{actionRead};
-ghost use Rattle.text_line.specs.LineRead.{alwaysParts, whenParts, ruleRead, unequalRead, equalRead, comparisonRead, ForSide, comparedForm, loopForm, isWord, ruledForm, openForm, lineRead};
+ghost use Rattle.text_line.specs.LineRead.{alwaysParts, whenParts, ruleRead, symbolRead, comparisonRead, ForSide, comparedForm, loopForm, isWord, ruledForm, openForm, lineRead};
 use chain_text::letters;
 use program::rule::Comparison;
 use program::rule::Slot;
@@ -90,24 +90,21 @@ fn read_rule(line: &[u8], at: usize, test: TestParts, sizes: Sizes) -> LineRead
     LineRead::Rule(Slot { test: own, rule }, action::both(test.checks, checks))
 }
 
-fn read_unequal(line: &[u8], at: usize) -> ComparisonRead
+// A comparison whose text stands at `at`; or what is read otherwise.
+fn read_symbol(
+    line: &[u8],
+    at: usize,
+    symbol: &[u8],
+    comparison: Comparison,
+    otherwise: ComparisonRead,
+) -> ComparisonRead
     requires { ⌜ at ≤ length (now line) ⌝ }
-    ensures { λ r. ⌜ r ≡ unequalRead at (drop at (now (line .entry))) ⌝ }
+    ensures { λ r. ⌜ r ≡ symbolRead at (now (symbol .entry)) comparison otherwise (drop at (now (line .entry))) ⌝ }
 {
-    let Place::At(end) = token::literal(line, at, b" != ") else {
-        return ComparisonRead::NoForm;
+    let Place::At(end) = token::literal(line, at, symbol) else {
+        return otherwise;
     };
-    ComparisonRead::At(Comparison::Unequal, end)
-}
-
-fn read_equal(line: &[u8], at: usize) -> ComparisonRead
-    requires { ⌜ at ≤ length (now line) ⌝ }
-    ensures { λ r. ⌜ r ≡ equalRead at (drop at (now (line .entry))) ⌝ }
-{
-    let Place::At(end) = token::literal(line, at, b" == ") else {
-        return read_unequal(line, at);
-    };
-    ComparisonRead::At(Comparison::Equal, end)
+    ComparisonRead::At(comparison, end)
 }
 
 // The comparison at `at`.
@@ -115,10 +112,10 @@ fn read_comparison(line: &[u8], at: usize) -> ComparisonRead
     requires { ⌜ at ≤ length (now line) ⌝ }
     ensures { λ r. ⌜ r ≡ comparisonRead at (drop at (now (line .entry))) ⌝ }
 {
-    let Place::At(end) = token::literal(line, at, b" < ") else {
-        return read_equal(line, at);
-    };
-    ComparisonRead::At(Comparison::Less, end)
+    let none = ComparisonRead::NoForm;
+    let unequal = read_symbol(line, at, b" != ", Comparison::Unequal, none);
+    let equal = read_symbol(line, at, b" == ", Comparison::Equal, unequal);
+    read_symbol(line, at, b" < ", Comparison::Less, equal)
 }
 
 // `Y: ` and a rule, behind `if X <`.

@@ -11,7 +11,7 @@ use lib.Seq.{drop-cons, drop-drop}
 use Rattle.register.specs.declared.Sizes.{Sizes}
 use Rattle.chain_text.specs.Text.{isCapital, letterField, names, isReferenceLetter}
 use Rattle.text_forms.specs.Written as W
-use Rattle.text_forms.specs.Token.{Token, token, other, capital, then, word, or, finished, opensWith}
+use Rattle.text_forms.specs.Token.{Token, token, other, capital, then, literal, or, finished, opensWith}
 use Rattle.laws.specs.Bytes.{bytes}
 use Rattle.text_forms.specs.Term.{termForm}
 use Rattle.text_forms.specs.Line.{made, combinedForm, assigned, localForm}
@@ -87,14 +87,14 @@ or-none (some a) = refl
 
 -- a word and what f reads behind it
 module _ {A : Type 0} (f : List ℕ → Option A) where
-  pub word-refused : (w t : List ℕ) → opensWith w t ≡ false → word w t f ≡ none
+  pub word-refused : (w t : List ℕ) → opensWith w t ≡ false → literal w t f ≡ none
   word-refused w t e = word-begins w t f ∙ rw e
 
-  pub word-taken : (t w : List ℕ) (at end : ℕ) → Taken t w at end → word w (drop at t) f ≡ f (drop end t)
+  pub word-taken : (t w : List ℕ) (at end : ℕ) → Taken t w at end → literal w (drop at t) f ≡ f (drop end t)
   word-taken t w at end p = word-begins w (drop at t) f ∙ rw (p .stands, p .rest)
 
   -- a word that stands, beside a reading that is none
-  pub or-word : {t w : List ℕ} {at end : ℕ} {y : Option A} → Taken t w at end → y ≡ none → or (word w (drop at t) f) y ≡ f (drop end t)
+  pub or-word : {t w : List ℕ} {at end : ℕ} {y : Option A} → Taken t w at end → y ≡ none → or (literal w (drop at t) f) y ≡ f (drop end t)
   or-word {t} {w} {at} {end} p e = rw (e, word-taken t w at end p) (or-none (f (drop end t)))
 
 -- a line that ends at a place, or goes on
@@ -140,13 +140,13 @@ mapped make none = none
 mapped make (some a) = some (make a)
 
 word-mapped : {A B : Type 0} (make : A → B) (f : List ℕ → Option A) (g : List ℕ → Option B) → ((r : List ℕ) → g r ≡ mapped make (f r))
-    → (w t : List ℕ) → word w t g ≡ mapped make (word w t f)
-unfolding word mapped
+    → (w t : List ℕ) → literal w t g ≡ mapped make (literal w t f)
+unfolding literal mapped
 word-mapped make f g h [] t = h t
 word-mapped make f g h (b ∷ w) [] = refl
 word-mapped make f g h (b ∷ w) (d ∷ t) = go (word-mapped make f g h w t) (eqb d b)
   where
-    go : word w t g ≡ mapped make (word w t f) → (x : Bool) → cond x (word w t g) none ≡ mapped make (cond x (word w t f) none)
+    go : literal w t g ≡ mapped make (literal w t f) → (x : Bool) → cond x (literal w t g) none ≡ mapped make (cond x (literal w t f) none)
     go ih true = ih
     go ih false = refl
 
@@ -254,7 +254,7 @@ module _ (t : List ℕ) (at : ℕ) where
   local-no-letter e = rw e
 
   module _ (l : ℕ) (k : Lettered t at l) where
-    local-letter : localForm (drop at t) ≡ word (bytes "[u] := ") (drop (at + 1) t) (λ r. then (termForm r) (assigned l))
+    local-letter : localForm (drop at t) ≡ literal (bytes "[u] := ") (drop (at + 1) t) (λ r. then (termForm r) (assigned l))
     unfolding localForm then
     local-letter = rw (k .stands)
 

@@ -9,7 +9,7 @@ use Rattle.register.specs.declared.Sizes.{Sizes}
 use Rattle.chain.specs.Word.{pack}
 use Rattle.chain_text.specs.Text.{names, letterField, wordOf, isReferenceLetter}
 use Rattle.text_forms.specs.Written as W
-use Rattle.text_forms.specs.Token.{Token, token, other, then, word, finished}
+use Rattle.text_forms.specs.Token.{Token, token, other, then, literal, finished}
 use Rattle.text_forms.specs.Term.{termForm}
 use Rattle.text_forms.specs.Parts.{everyTerm, termNamed, termKinded, termShort, termInRange, actionTerms, target, actionKinds}
 use Rattle.text_terms.specs.Read.{packedTerm, partsOf}
@@ -78,7 +78,7 @@ letterRead (token l r) = Capital l
 
 -- a word, and behind it the term that ends the line
 unfoldable pub lastTerm : List ℕ → List ℕ → Option W.Term
-lastTerm w t = word w t (λ r. then (termForm r) finished)
+lastTerm w t = literal w t (λ r. then (termForm r) finished)
 
 -- the answer for a term that ends the line
 unfoldable pub lastRead : Sizes → Option W.Term → LastRead

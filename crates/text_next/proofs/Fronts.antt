@@ -13,46 +13,46 @@ use Rattle.text_forms.specs.Line.{lineForm}
 use Rattle.text_forms.proofs.Spans.{starts-within, span-text, span-every, span-behind}
 use Rattle.text_rules.specs.Text.{isWithin, Piece, ended, cut, pieceForm, lines}
 use Rattle.text_rules.proofs.Pieces.{lines-ended, lines-cut}
-use Rattle.text_next.specs.Front.{front, firstForm}
+use Rattle.text_next.specs.Front.{lineBytes, firstForm}
 
 -- a first line with byte 10 behind it, and a last line without
-first-ended : (t : List ℕ) → length (front t) < length t → lines t ≡ ended (front t) ∷ lines (drop (length (front t) + 1) t)
+first-ended : (t : List ℕ) → length (lineBytes t) < length t → lines t ≡ ended (lineBytes t) ∷ lines (drop (length (lineBytes t) + 1) t)
 unfolding isWithin
 first-ended t h =
-    let n = length (front t) in
+    let n = length (lineBytes t) in
     let ten : getD t n 0 ≡ 10 = eqb-true (getD t n 0) 10 (not-false _ (sym (starts-within isWithin t n h) ∙ span-behind isWithin t)) in
     let rest : drop n t ≡ 10 ∷ drop (n + 1) t = drop-cons t n 0 h ∙ ap₂ (λ (b i : ℕ). b ∷ drop i t) ten (sym (add-one n)) in
-    ap lines (span-text isWithin t ∙ ap (λ (l : List ℕ). front t ++ l) rest) ∙ lines-ended (front t) (drop (n + 1) t) (span-every isWithin t)
+    ap lines (span-text isWithin t ∙ ap (λ (l : List ℕ). lineBytes t ++ l) rest) ∙ lines-ended (lineBytes t) (drop (n + 1) t) (span-every isWithin t)
 
-first-cut : (b : ℕ) (t : List ℕ) → length (b ∷ t) ≤ length (front (b ∷ t)) → lines (b ∷ t) ≡ cut (b ∷ t) ∷ []
+first-cut : (b : ℕ) (t : List ℕ) → length (b ∷ t) ≤ length (lineBytes (b ∷ t)) → lines (b ∷ t) ≡ cut (b ∷ t) ∷ []
 first-cut b t h =
-    let whole : front (b ∷ t) ≡ b ∷ t = sym (append-nil (front (b ∷ t))) ∙ sym (span-text isWithin (b ∷ t) ∙ ap (λ (l : List ℕ). front (b ∷ t) ++ l) (drop-of-length-le (b ∷ t) h)) in
+    let whole : lineBytes (b ∷ t) ≡ b ∷ t = sym (append-nil (lineBytes (b ∷ t))) ∙ sym (span-text isWithin (b ∷ t) ∙ ap (λ (l : List ℕ). lineBytes (b ∷ t) ++ l) (drop-of-length-le (b ∷ t) h)) in
     lines-cut b t (rw whole at (span-every isWithin (b ∷ t)))
 
 -- the form of the line at a place: none where the text ends, otherwise that of the part up to its byte 10
 module _ (t : List ℕ) (at : ℕ) where
-  pub first-past : length t ≤ at + length (front (drop at t)) → firstForm (drop at t) ≡ none
+  pub first-past : length t ≤ at + length (lineBytes (drop at t)) → firstForm (drop at t) ≡ none
   unfolding firstForm
-  first-past h = rw (le-ltb (length (front (drop at t))) (length (drop at t)) (omega (arith, length-drop at t)))
+  first-past h = rw (le-ltb (length (lineBytes (drop at t))) (length (drop at t)) (omega (arith, length-drop at t)))
 
-  pub first-within : (end : ℕ) → end ≡ at + length (front (drop at t)) → end < length t → firstForm (drop at t) ≡ lineForm (take (end - at) (drop at t))
+  pub first-within : (end : ℕ) → end ≡ at + length (lineBytes (drop at t)) → end < length t → firstForm (drop at t) ≡ lineForm (take (end - at) (drop at t))
   unfolding firstForm
   first-within end e h =
       let u = drop at t in
-      let size : end - at ≡ length (front u) = omega (arith, e) in
-      let part : take (length (front u)) u ≡ front u = ap (take (length (front u))) (span-text isWithin u) ∙ take-append-seam (front u) (drop (length (front u)) u) in
-      rw (lt-ltb (length (front u)) (length u) (omega (arith, length-drop at t, e)), size, part)
+      let size : end - at ≡ length (lineBytes u) = omega (arith, e) in
+      let part : take (length (lineBytes u)) u ≡ lineBytes u = ap (take (length (lineBytes u))) (span-text isWithin u) ∙ take-append-seam (lineBytes u) (drop (length (lineBytes u)) u) in
+      rw (lt-ltb (length (lineBytes u)) (length u) (omega (arith, length-drop at t, e)), size, part)
 
 -- the lines of a text: its first line, by its form, and the lines behind it
-pub lines-first : (b : ℕ) (t : List ℕ) → (p : Piece) × (pieceForm p ≡ firstForm (b ∷ t)) × (lines (b ∷ t) ≡ p ∷ lines (drop (length (front (b ∷ t)) + 1) (b ∷ t)))
+pub lines-first : (b : ℕ) (t : List ℕ) → (p : Piece) × (pieceForm p ≡ firstForm (b ∷ t)) × (lines (b ∷ t) ≡ p ∷ lines (drop (length (lineBytes (b ∷ t)) + 1) (b ∷ t)))
 unfolding firstForm pieceForm lines
-lines-first b t = go (decLt (length (front (b ∷ t))) (length (b ∷ t)))
+lines-first b t = go (decLt (length (lineBytes (b ∷ t))) (length (b ∷ t)))
   where
-    go : Dec (length (front (b ∷ t)) < length (b ∷ t)) → (p : Piece) × (pieceForm p ≡ firstForm (b ∷ t)) × (lines (b ∷ t) ≡ p ∷ lines (drop (length (front (b ∷ t)) + 1) (b ∷ t)))
-    go (yes h) = (ended (front (b ∷ t)), rw (lt-ltb (length (front (b ∷ t))) (length (b ∷ t)) h), first-ended (b ∷ t) h)
+    go : Dec (length (lineBytes (b ∷ t)) < length (b ∷ t)) → (p : Piece) × (pieceForm p ≡ firstForm (b ∷ t)) × (lines (b ∷ t) ≡ p ∷ lines (drop (length (lineBytes (b ∷ t)) + 1) (b ∷ t)))
+    go (yes h) = (ended (lineBytes (b ∷ t)), rw (lt-ltb (length (lineBytes (b ∷ t))) (length (b ∷ t)) h), first-ended (b ∷ t) h)
     go (no h) =
-        let past : length (b ∷ t) ≤ length (front (b ∷ t)) = omega arith in (
+        let past : length (b ∷ t) ≤ length (lineBytes (b ∷ t)) = omega arith in (
           cut (b ∷ t),
-          rw (le-ltb (length (front (b ∷ t))) (length (b ∷ t)) past),
-          first-cut b t past ∙ ap (λ (l : List ℕ). cut (b ∷ t) ∷ lines l) (sym (drop-of-length-le (b ∷ t) {i = length (front (b ∷ t)) + 1} (omega arith))),
+          rw (le-ltb (length (lineBytes (b ∷ t))) (length (b ∷ t)) past),
+          first-cut b t past ∙ ap (λ (l : List ℕ). cut (b ∷ t) ∷ lines l) (sym (drop-of-length-le (b ∷ t) {i = length (lineBytes (b ∷ t)) + 1} (omega arith))),
         )

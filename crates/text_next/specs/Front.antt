@@ -11,12 +11,12 @@ use Rattle.text_forms.specs.Line.{lineForm}
 use Rattle.text_rules.specs.Text.{isWithin}
 
 -- whether a line goes on: the text begins with a byte other than 10
-abbrev pub goesOn : List ℕ → Bool
-goesOn t = starts isWithin t
+abbrev pub lineGoesOn : List ℕ → Bool
+lineGoesOn t = starts isWithin t
 
-abbrev pub front : List ℕ → List ℕ
-front t = span isWithin t
+abbrev pub lineBytes : List ℕ → List ℕ
+lineBytes t = span isWithin t
 
 -- 7: "a last line without byte 10" has none
 unfoldable pub firstForm : List ℕ → Option Line
-firstForm t = cond (ltb (length (front t)) (length t)) (lineForm (front t)) none
+firstForm t = cond (ltb (length (lineBytes t)) (length t)) (lineForm (lineBytes t)) none

@@ -4,25 +4,25 @@ ghost use Prim.Native.Nat.{_+_, _≤_, _<_};
 ghost use lib.ListN.{length, drop};
 ghost use Rattle.register.specs.Shape.{Limits};
 ghost use Rattle.text_line.specs.LineRead.{lineRead};
-ghost use Rattle.text_next.specs.Front.{goesOn, front, firstForm};
+ghost use Rattle.text_next.specs.Front.{lineGoesOn, lineBytes, firstForm};
 use register::Sizes;
 use text_line::line;
 use text_line::line::LineRead;
 
 // Whether the line goes on at `at`: neither byte 10 nor the end of the text stands there.
 fn goes_on(text: &[u8], at: usize) -> bool
-    ensures { λ r. ⌜ r ≡ goesOn (drop at (now (text .entry))) ⌝ }
+    ensures { λ r. ⌜ r ≡ lineGoesOn (drop at (now (text .entry))) ⌝ }
 {
     if text.len() <= at {
         return false;
     }
-    text[at] != 10
+    text[at] != b'\n'
 }
 
 // Where the line that begins at `at` ends: at its byte 10, or at the end of the text.
 pub fn line_end(text: &[u8], at: usize) -> usize
     requires { ⌜ at ≤ length (now text) ⌝ }
-    ensures { λ r. ⌜ r ≡ at + length (front (drop at (now (text .entry)))) ⌝ }
+    ensures { λ r. ⌜ r ≡ at + length (lineBytes (drop at (now (text .entry)))) ⌝ }
 {
     let mut i = at;
     while goes_on(text, i) {
@@ -33,7 +33,7 @@ pub fn line_end(text: &[u8], at: usize) -> usize
 
 // The line from `at` to `end`; "a last line without byte 10" has no form.
 pub fn read_first(text: &[u8], at: usize, end: usize, sizes: Sizes) -> LineRead
-    requires { ⌜ Limits sizes × (at < length (now text)) × (end ≡ at + length (front (drop at (now text)))) ⌝ }
+    requires { ⌜ Limits sizes × (at < length (now text)) × (end ≡ at + length (lineBytes (drop at (now text)))) ⌝ }
     ensures { λ r. ⌜ r ≡ lineRead sizes (firstForm (drop at (now (text .entry)))) ⌝ }
 {
     if text.len() <= end {

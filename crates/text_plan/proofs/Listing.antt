@@ -15,9 +15,9 @@ use Rattle.plan_theory.specs.Plan.{Fact, read, lineIndex}
 use Rattle.plan_theory.proofs.Places.{place-le, place-append-listed}
 use Rattle.plan_theory.specs.Promise.{Had}
 use Rattle.plan_keys.proofs.Words.{hops-two}
-use Rattle.plan_lines.specs.Held.{settled, found}
+use Rattle.plan_lines.specs.Held.{found}
 use Rattle.plan_lines.specs.declared.Found.the-variants.{At, Nothing}
-use Rattle.plan_lines.proofs.Settled.{settled-none, settled-line, found-old, found-new}
+use Rattle.plan_lines.proofs.Settled.{found-old, found-new}
 use Rattle.program.specs.declared.location.Location.the-variants.{Own, Cell, Line}
 use Rattle.program.specs.declared.location.Location.{Location}
 use Rattle.program.specs.declared.location.Places.{Places}
@@ -56,13 +56,6 @@ module _ (l : List Fact) (f : Fact) where
       (λ (h : lineIndex l f < length l). let z : _≡_ {A = ℕ} 0 1 = cc (found-old l f h) in absurd (omega arith))
       (λ (h : length l ≤ lineIndex l f). omega (arith, place-le l f))
       (lt-or-le (lineIndex l f) (length l))
-
--- a word whose location is listed adds no line
-pub listed-settled : (l : List Fact) (w : List ℕ) → isListed (length l) (locationOf l w) ≡ true → settled l (read w) ≡ true
-unfolding isListed locationOf
-listed-settled l [] h = settled-none l (read []) (omega arith)
-listed-settled l (f ∷ []) h = settled-none l (read (f ∷ [])) (omega arith)
-listed-settled l (f ∷ g ∷ w) h = settled-line l (read (f ∷ g ∷ w)) (omega arith) ∙ h
 
 -- a word that the plan has is listed
 pub had-listed : (l : List Fact) (w : List ℕ) → Had l (read w) → isListed (length l) (locationOf l w) ≡ true

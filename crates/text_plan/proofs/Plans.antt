@@ -1,22 +1,20 @@
 -- A step's plan and the readings behind those that it has.
 use Prim.Native.Nat.{ℕ, _≤_, _<_}
-use mathlib.Core.Path.{_≡_, refl, sym, ap, _∙_}
-use mathlib.Core.Bool.{true, false}
+use mathlib.Core.Path.{_≡_, refl, sym, ap, subst, _∙_}
+use mathlib.Core.Bool.{Bool, true, false}
 use mathlib.Core.List.{List, [], _∷_, _++_, append-nil, append-assoc}
-use mathlib.Core.Logic.{⊎-elim}
 use native.Mathlib.Omega.{arith}
+use borrow.Author.Tests.{ltb-true, lt-ltb, le-ltb}
+use lib.Dec.{ltb}
 use lib.ListN.{length}
-use Rattle.laws.proofs.Bools.{and-both}
-use Rattle.laws.proofs.Cases.{lt-or-le}
+use Rattle.laws.proofs.Bools.{true-false}
 use Rattle.chain.specs.Word.{unpack}
 use Rattle.chain.proofs.Packing.{unpack-none}
 use Rattle.plan_theory.specs.Plan.{Fact, read, add, addReadings, plan}
 use Rattle.plan_theory.proofs.Lines.{add-none, readings-append, plan-more, plan-length}
-use Rattle.plan_lines.specs.Held.{facts, settled, Keyed, AddedTo}
+use Rattle.plan_lines.specs.Held.{facts, Keyed, Added, Extended, ExtendedTo}
 use Rattle.plan_lines.specs.declared.Plan.{Plan}
-use Rattle.plan_lines.specs.declared.Added.{Added}
-use Rattle.plan_lines.proofs.Adding.{holds-facts, extended-holds, extended-more, added-plan}
-use Rattle.plan_lines.proofs.Settled.{settled-adds}
+use Rattle.plan_lines.proofs.Adding.{holds-facts, extended-holds, extended-more, extended-plan}
 use Rattle.program.specs.declared.term.Term.{Term}
 use Rattle.program.specs.declared.term.Term.the-variants.{Chain, Number}
 use Rattle.program.specs.declared.rule.Test.{Test}
@@ -28,55 +26,48 @@ use Rattle.program.specs.declared.location.Pair.{Pair}
 use Rattle.program.specs.declared.location.Readings.{Readings}
 use Rattle.program.specs.Program.{expressionReadings, testReadings, targetReadings, ruleReadings}
 use Rattle.program.specs.Stored.{termIn, testIn, targetIn, expressionIn, ruleIn}
-use Rattle.program.specs.Location.{chainIn, testChains, ruleChains, slotChains, locationOf, placesIn, locationsIn}
-use Rattle.text_plan.specs.Readings.{pairWords, words, Sound, PlannedWith}
-use Rattle.text_plan.specs.Listed.{isListed, areListed, allListed}
-use Rattle.text_plan.proofs.Listing.{listed-settled}
+use Rattle.program.specs.Location.{chainIn, testChains, ruleChains, slotChains}
+use Rattle.text_plan.specs.Readings.{pairWords, words, Sound, PlannedWith, GrownBy}
 
-pub planned-both : {p q r : Added} (vs us : List (List ℕ)) → PlannedWith p vs q → PlannedWith q us r → PlannedWith p (vs ++ us) r
-planned-both vs us h k = record { sound = k .sound; extends = λ ws e. rw (append-assoc ws vs us) at (k .extends (ws ++ vs) (h .extends ws e)) }
+pub grown-both : {p q r : Plan} (vs us : List (List ℕ)) → GrownBy p vs q → GrownBy q us r → GrownBy p (vs ++ us) r
+grown-both vs us h k = record { growing = k .growing; extends = λ ws e. rw (append-assoc ws vs us) at (k .extends (ws ++ vs) (h .extends ws e)) }
+
+-- the readings of a test, and then those of its rule
+pub grown-readings : {p q r : Plan} {x y : Readings} → x ≡ y → GrownBy p (pairWords (x .test)) q → GrownBy q (pairWords (x .rule)) r → GrownBy p (words y) r
+grown-readings {p} {q} {r} {x} e h k = subst (λ (z : Readings). GrownBy p (words z) r) e (grown-both (pairWords (x .test)) (pairWords (x .rule)) h k)
+
+-- one reading more, of a plan that is full, and of any other
+pub grown-full : (p : Plan) (vs : List (List ℕ)) → 64 < p .count → GrownBy p vs p
+grown-full p vs h = record { growing = λ k. absurd (omega arith); extends = λ ws e. extended-more (plan (ws ++ vs)) e (lt-ltb 64 _ h) (plan-length ws vs) }
+
+pub grown-added : {p r : Plan} (w : List ℕ) → p .count ≤ 64 → ExtendedTo (add (facts p) (read w)) r → GrownBy p (w ∷ []) r
+grown-added w h a = record {
+  growing = λ k. holds-facts (extended-holds a (le-ltb 64 _ k));
+  extends = λ ws e. extended-plan ws w (extended-holds e (le-ltb 64 _ h)) a;
+}
 
 -- a full plan stays full
-pub readings-full : (p : Added) → Sound p → (vs : List (List ℕ)) → p .full ≡ true → PlannedWith p vs p
-readings-full p h vs y = record { sound = h; extends = λ ws e. extended-more (plan (ws ++ vs)) e y (plan-length ws vs) }
+pub planned-still : (p : Added) → Sound p → (vs : List (List ℕ)) → p .full ≡ true → PlannedWith p vs p
+planned-still p h vs y = record { sound = h; extends = λ ws e. extended-more (plan (ws ++ vs)) e y (plan-length ws vs) }
 
--- a plan with lines added has its keys, or it is full and as it was
-added-keyed : {p : Plan} {l : List Fact} {r : Added} → Keyed (p .keys) (p .count) → AddedTo p l r → Keyed (r .plan .keys) (r .plan .count)
-added-keyed {l = l} k a =
-    ⊎-elim (λ (f : 64 < length l). rw (a .kept f) k) (λ (f : length l ≤ 64). a .extended .holds f .keyed) (lt-or-le 64 (length l))
+-- a plan that is not full, and what it grows to: a full one, of which nothing is told, or one with more lines
+module _ {p r : Plan} {full : Bool} {vs : List (List ℕ)} (n : full ≡ false) (h : p .count ≤ 64) (g : GrownBy p vs r) where
+  grown : (ws : List (List ℕ)) → Extended (plan ws) (record { plan = p; full = full }) → ExtendedTo (plan (ws ++ vs)) r
+  grown ws e = g .extends ws (record { full-is = le-ltb 64 (p .count) h ∙ sym n ∙ e .full-is; holds = e .holds })
 
--- one reading more, of a plan that has its lines, and of any other
-module _ (p : Added) (h : Sound p) (n : p .full ≡ false) (w : List ℕ) where
-  pub reading-same : settled (facts (p .plan)) (read w) ≡ true → PlannedWith p (w ∷ []) p
-  reading-same y = record {
-    sound = h;
+  pub planned-full : (q : Plan) → Keyed (q .keys) (q .count) → 64 < r .count → PlannedWith (record { plan = p; full = full }) vs (record { plan = q; full = true })
+  planned-full q k f = record {
+    sound = record { keyed = k; holds = λ z. true-false refl z };
     extends = λ ws e.
-        let held = extended-holds e n in
-        let same : plan (ws ++ (w ∷ [])) ≡ plan ws = plan-more ws w
-        ∙ ap (λ (l : List Fact). add l (read w)) (sym (held .facts-are)) ∙ settled-adds (facts (p .plan)) (read w) y ∙ held .facts-are in
-        rw same e;
+        let over : ltb 64 (length (plan (ws ++ vs))) ≡ true = sym (grown ws e .full-is) ∙ lt-ltb 64 (r .count) f in
+        record { full-is = sym over; holds = λ b. absurd (omega (arith, ltb-true 64 (length (plan (ws ++ vs))) over)) };
   }
 
-  pub reading-added : {r : Added} → AddedTo (p .plan) (add (facts (p .plan)) (read w)) r → PlannedWith p (w ∷ []) r
-  reading-added a = record {
-    sound = record { keyed = added-keyed (h .keyed) a; holds = λ k. holds-facts (extended-holds (a .extended) k) };
-    extends = λ ws e. added-plan ws w (extended-holds e n) a .extended;
+  pub planned-more : r .count ≤ 64 → PlannedWith (record { plan = p; full = full }) vs (record { plan = r; full = full })
+  planned-more k = record {
+    sound = record { keyed = g .growing k .keyed; holds = λ z. g .growing k };
+    extends = λ ws e. record { full-is = n ∙ sym (le-ltb 64 (r .count) k) ∙ grown ws e .full-is; holds = grown ws e .holds };
   }
-
--- the readings of a rule whose lines are listed, of a plan that is not full
-module _ (p : Added) (h : Sound p) (n : p .full ≡ false) where
-  word-same : (w : List ℕ) → isListed (length (facts (p .plan))) (locationOf (facts (p .plan)) w) ≡ true → PlannedWith p (w ∷ []) p
-  word-same w y = reading-same p h n w (listed-settled (facts (p .plan)) w y)
-
-  pair-same : (x : Pair) → areListed (length (facts (p .plan))) (placesIn (facts (p .plan)) x) ≡ true → PlannedWith p (pairWords x) p
-  unfolding areListed
-  pair-same x y =
-      let (a, b) = and-both _ _ y in
-      planned-both (unpack (x .first) ∷ []) (unpack (x .second) ∷ []) (word-same (unpack (x .first)) a) (word-same (unpack (x .second)) b)
-
-  pub all-same : (x : Readings) → allListed (length (facts (p .plan))) (locationsIn (facts (p .plan)) x) ≡ true → PlannedWith p (words x) p
-  unfolding allListed
-  all-same x y = let (a, b) = and-both _ _ y in planned-both (pairWords (x .test)) (pairWords (x .rule)) (pair-same (x .test) a) (pair-same (x .rule) b)
 
 -- readings that add the same lines to any others
 abbrev SameLines : List (List ℕ) → List (List ℕ) → Type 0

@@ -1,13 +1,13 @@
 -- The readings of a rule in the array, and a step's plan that grows by them.
 use Prim.Native.Nat.{ℕ, _≤_}
 use mathlib.Core.Path.{_≡_}
-use mathlib.Core.Bool.{false}
+use mathlib.Core.Bool.{Bool, false}
 use mathlib.Core.List.{List, [], _∷_, _++_}
 use lib.ListN.{length}
 use Rattle.chain.specs.Word.{unpack}
 use Rattle.plan_theory.specs.Plan.{plan}
-use Rattle.plan_lines.specs.Held.{facts, Keyed, HoldsLines, Extended}
-use Rattle.plan_lines.specs.declared.Added.{Added}
+use Rattle.plan_lines.specs.Held.{facts, Keyed, HoldsLines, Added, Extended, planOf, ExtendedTo}
+use Rattle.plan_lines.specs.declared.Plan.{Plan}
 use Rattle.program.specs.declared.location.Pair.{Pair}
 use Rattle.program.specs.declared.location.Readings.{Readings}
 use Rattle.laws.specs.Lists.{Each}
@@ -32,3 +32,14 @@ pub record Sound (p : Added) : Type 0 where
 pub record PlannedWith (p : Added) (vs : List (List ℕ)) (r : Added) : Type 0 where
   pub sound : Sound r
   pub extends : (ws : List (List ℕ)) → Extended (plan ws) p → Extended (plan (ws ++ vs)) r
+
+abbrev pub addedOf : List ℕ → List ℕ → List ℕ → List ℕ → ℕ → Bool → Added
+addedOf keys rounds backs reads n full = record { plan = planOf keys rounds backs reads n; full = full }
+
+-- the same of plans whose number of lines is above 64 where they are full
+abbrev pub Growing : Plan → Type 0
+Growing p = p .count ≤ 64 → HoldsLines p (facts p)
+
+pub record GrownBy (p : Plan) (vs : List (List ℕ)) (r : Plan) : Type 0 where
+  pub growing : Growing r
+  pub extends : (ws : List (List ℕ)) → ExtendedTo (plan ws) p → ExtendedTo (plan (ws ++ vs)) r

@@ -1,13 +1,12 @@
 // Where the readings of a rule are found. A plan only grows, so that a line once found stays the line of its reading.
 ghost use mathlib.Core.Path.{_≡_};
-ghost use mathlib.Core.Bool.{not, _&&_};
 ghost use Prim.Native.Nat.{_≤_};
 ghost use lib.ListN.{length};
 ghost use Rattle.chain.specs.Word.{unpack};
 ghost use Rattle.plan_lines.specs.Held.{factsIn, Keyed};
 ghost use Rattle.program.specs.Location.{slotChains, locationOf, placesIn, locationsIn};
 ghost use Rattle.text_plan.specs.Readings.{words, pairWords, Short};
-ghost use Rattle.text_plan.specs.Listed.{isListed, areListed, allListed, withLine, withLines, withWanted};
+ghost use Rattle.text_plan.specs.Listed.{withLine, withLines, withWanted};
 use crate::readings;
 use plan_lines::Found;
 use program::location::Location;
@@ -53,34 +52,6 @@ pub fn locate(keys: &[u64; 64], count: usize, slot: Slot) -> Locations
         test: locate_pair(keys, count, readings.test),
         rule: locate_pair(keys, count, readings.rule),
     }
-}
-
-fn is_listed(count: usize, location: Location) -> bool
-    ensures { λ r. ⌜ r ≡ isListed count location ⌝ }
-{
-    match location {
-        Location::Own => true,
-        Location::Cell(_) => true,
-        Location::Line(line) => (line as usize) < count,
-    }
-}
-
-fn are_listed(count: usize, places: Places) -> bool
-    ensures { λ r. ⌜ r ≡ areListed count places ⌝ }
-{
-    let first = places.first;
-    let second = places.second;
-    is_listed(count, first) & is_listed(count, second)
-}
-
-// Whether a plan of `count` lines, where it is not full, has to grow for readings that are located so.
-pub fn adds_lines(count: usize, full: bool, at: Locations) -> bool
-    ensures { λ r. ⌜ r ≡ (not full && not (allListed count at)) ⌝ }
-{
-    if full {
-        return false;
-    }
-    !(are_listed(count, at.test) & are_listed(count, at.rule))
 }
 
 fn mark_line(wanted: &mut [bool; 64], location: Location)

@@ -1,16 +1,13 @@
 // A step's plan, which grows by the readings of each rule: "in a rule the chains from left to right, C standing for the
 // remote target".
 ghost use mathlib.Core.Path.{_≡_};
-ghost use mathlib.Core.Bool.{false};
 ghost use mathlib.Core.List.{[], _∷_};
 ghost use Prim.Native.Nat.{_≤_};
 ghost use lib.ListN.{length};
 ghost use Rattle.chain.specs.Word.{unpack};
-ghost use Rattle.plan_lines.specs.Held.{HoldsLines};
+ghost use Rattle.plan_lines.specs.Held.{planOf};
 ghost use Rattle.program.specs.Location.{chainIn, testChains, ruleChains, slotChains};
-ghost use Rattle.text_plan.specs.Readings.{Sound, PlannedWith, words, pairWords, Short};
-use plan_lines::Added;
-use plan_lines::Plan;
+ghost use Rattle.text_plan.specs.Readings.{Growing, GrownBy, Sound, PlannedWith, addedOf, words, pairWords, Short};
 use program::location::Pair;
 use program::location::Readings;
 use program::rule::Rule;
@@ -72,43 +69,63 @@ pub fn readings_of(slot: Slot) -> Readings
     }
 }
 
-fn with_reading(step: Added, chain: u64) -> Added
-    requires { ⌜ Sound step × (length (unpack chain) ≤ 16) ⌝ }
-    ensures { λ r. ⌜ PlannedWith step (unpack chain ∷ []) r ⌝ }
+// The plan of a step is lent by its arrays and the number of its lines, so that no call copies it. Where it is full, that
+// number is 65.
+fn with_reading(
+    keys: &mut [u64; 64],
+    rounds: &mut [u8; 64],
+    backs: &mut [u8; 64],
+    reads: &mut [u8; 64],
+    count: usize,
+    chain: u64,
+) -> usize
+    requires { ⌜ Growing (planOf (now keys) (now rounds) (now backs) (now reads) count) × (length (unpack chain) ≤ 16) ⌝ }
+    ensures { λ r. ⌜ GrownBy (planOf (now (keys .entry)) (now (rounds .entry)) (now (backs .entry)) (now (reads .entry)) count) (unpack chain ∷ []) (planOf (now (keys .exit)) (now (rounds .exit)) (now (backs .exit)) (now (reads .exit)) r) ⌝ }
 {
-    if step.full {
-        return step;
+    if 64 < count {
+        return count;
     }
-    let plan = step.plan;
-    let count = plan.count;
-    if plan_lines::is_planned(&plan.keys, count, chain) {
-        return step;
-    }
-    plan_builder::add(plan, chain)
+    plan_builder::add(keys, rounds, backs, reads, count, chain)
 }
 
-fn with_pair(step: Added, pair: Pair) -> Added
-    requires { ⌜ Sound step × Short (pairWords pair) ⌝ }
-    ensures { λ r. ⌜ PlannedWith step (pairWords pair) r ⌝ }
+fn with_pair(
+    keys: &mut [u64; 64],
+    rounds: &mut [u8; 64],
+    backs: &mut [u8; 64],
+    reads: &mut [u8; 64],
+    count: usize,
+    pair: Pair,
+) -> usize
+    requires { ⌜ Growing (planOf (now keys) (now rounds) (now backs) (now reads) count) × Short (pairWords pair) ⌝ }
+    ensures { λ r. ⌜ GrownBy (planOf (now (keys .entry)) (now (rounds .entry)) (now (backs .entry)) (now (reads .entry)) count) (pairWords pair) (planOf (now (keys .exit)) (now (rounds .exit)) (now (backs .exit)) (now (reads .exit)) r) ⌝ }
 {
-    with_reading(with_reading(step, pair.first), pair.second)
+    let first = with_reading(keys, rounds, backs, reads, count, pair.first);
+    with_reading(keys, rounds, backs, reads, first, pair.second)
 }
 
-// The plan of no reading.
-pub fn no_lines() -> Added
-    ensures { λ r. ⌜ (r .full ≡ false) × HoldsLines (r .plan) [] ⌝ }
+// Adds the readings of one more rule of the step, unless the plan is full. A full plan has no use for its lines.
+pub fn add_rule(
+    keys: &mut [u64; 64],
+    rounds: &mut [u8; 64],
+    backs: &mut [u8; 64],
+    reads: &mut [u8; 64],
+    count: &mut usize,
+    full: &mut bool,
+    slot: Slot,
+)
+    requires { ⌜ Sound (addedOf (now keys) (now rounds) (now backs) (now reads) (now count) (now full)) × Short (words (slotChains slot)) ⌝ }
+    ensures { λ _. ⌜ PlannedWith (addedOf (now (keys .entry)) (now (rounds .entry)) (now (backs .entry)) (now (reads .entry)) (now (count .entry)) (now (full .entry))) (words (slotChains slot)) (addedOf (now (keys .exit)) (now (rounds .exit)) (now (backs .exit)) (now (reads .exit)) (now (count .exit)) (now (full .exit))) ⌝ }
 {
-    Added {
-        plan: Plan::empty(),
-        full: false,
+    if *full {
+        return;
     }
-}
-
-// The plan with the readings of one more rule of the step.
-pub fn with_rule(step: Added, slot: Slot) -> Added
-    requires { ⌜ Sound step × Short (words (slotChains slot)) ⌝ }
-    ensures { λ r. ⌜ PlannedWith step (words (slotChains slot)) r ⌝ }
-{
     let readings = readings_of(slot);
-    with_pair(with_pair(step, readings.test), readings.rule)
+    let tested = with_pair(keys, rounds, backs, reads, *count, readings.test);
+    let lines = with_pair(keys, rounds, backs, reads, tested, readings.rule);
+    if 64 < lines {
+        *keys = [0; 64];
+        *full = true;
+        return;
+    }
+    *count = lines;
 }

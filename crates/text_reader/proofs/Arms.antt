@@ -15,8 +15,7 @@ use Rattle.laws.proofs.Bools.{and-both, true-false}
 use Rattle.chain.specs.Word.{unpack}
 use Rattle.chain.proofs.Packing.{unpack-none}
 use Rattle.plan_theory.specs.Plan.{plan}
-use Rattle.plan_lines.specs.Held.{facts, HoldsLines}
-use Rattle.plan_lines.specs.declared.Added.{Added}
+use Rattle.plan_lines.specs.Held.{facts, HoldsLines, Added, planOf}
 use Rattle.plan_lines.proofs.Appending.{holds-count}
 use Rattle.text_forms.specs.Written as W
 use Rattle.text_forms.specs.Written.{Line, step, end, done, loop, rule}
@@ -58,7 +57,7 @@ use Rattle.text_state.specs.declared.state.State as S
 use Rattle.text_plan.proofs.Slots.{rule-of}
 use Rattle.text_state.proofs.Standing.{Stands}
 use Rattle.text_reader.proofs.Keeping.{store-steps, store-located, store-place, store-rule, more-frames, more-located, framed-more, close-frames, framed-close, located-close}
-use Rattle.text_reader.proofs.Opening.{OpenStep, open-none, open-still, open-rule, open-located}
+use Rattle.text_reader.proofs.Opening.{OpenStep, none-held, open-none, open-still, open-rule, open-located}
 
 -- what the arrays hold of the lines so far
 pub record Kept (slots : List Located) (frames : List Frame) (x : S.State) (st : State) : Type 0 where
@@ -276,6 +275,12 @@ module _ (s : Sizes) (lim : Limits s) {slots : List Located} {frames : List Fram
 
     pub end-count : p .plan .count ≡ length (stepPlan (openRules st))
     end-count = sym (holds-count end-holds)
+
+    -- its arrays, for the next step
+    pub end-none : (p .full ≡ false) × HoldsLines (planOf (p .plan .keys) (p .plan .rounds) (p .plan .backs) (p .plan .reads) 0) []
+    end-none =
+        let h = end-holds in
+        (not-full, none-held (h .keyed .places) (h .rounds-are .places) (h .backs-are .places) (h .reads-are .places))
 
     end-frame : FrameOf (frameOf x (p .plan) wanted) (openRules st)
     unfolding frameOf

@@ -1,19 +1,17 @@
 -- The open step: its plan, the lines of it that are wanted, and its rules so far with their readings located in it.
 use Prim.Native.Nat.{ℕ, _≤_}
 use mathlib.Core.Path.{_≡_, refl, sym, ap, subst, _∙_}
-use mathlib.Core.Bool.{Bool, true, false, not, _&&_}
+use mathlib.Core.Bool.{Bool, false}
 use mathlib.Core.List.{List, [], _∷_, _++_, append-nil, append-assoc}
 use native.Mathlib.Omega.{arith}
-use borrow.Author.Tests.{not-false, ltb-false, le-ltb}
+use borrow.Author.Tests.{ltb-false, le-ltb}
 use lib.ListN.{length}
 use Rattle.laws.specs.Lists.{Each}
 use Rattle.laws.proofs.Lists.{each-append}
 use Rattle.plan_theory.specs.Plan.{Fact, addReadings, plan}
 use Rattle.plan_theory.proofs.Lines.{plan-length}
-use Rattle.plan_lines.specs.Held.{facts, HoldsLines, Extended}
-use Rattle.plan_lines.specs.declared.Added.{Added}
+use Rattle.plan_lines.specs.Held.{factsIn, facts, HoldsLines, Added, Extended, planOf}
 use Rattle.plan_lines.proofs.Adding.{holds-facts, extended-holds}
-use Rattle.plan_lines.proofs.Search.{facts-length}
 use Rattle.program.specs.declared.rule.Slot.{Slot}
 use Rattle.program.specs.declared.location.Located.{Located}
 use Rattle.program.specs.declared.location.Locations.{Locations}
@@ -21,8 +19,8 @@ use Rattle.program.specs.Program.{Rule, ruleReadings, readings, stepPlan}
 use Rattle.program.specs.Stored.{ruleIn}
 use Rattle.program.specs.Location.{slotChains, locationsIn, LocatedAmong}
 use Rattle.text_plan.specs.Readings.{words, Sound, PlannedWith}
-use Rattle.text_plan.specs.Listed.{allListed, withWanted}
-use Rattle.text_plan.proofs.Plans.{readings-full, all-same, slot-plan}
+use Rattle.text_plan.specs.Listed.{withWanted}
+use Rattle.text_plan.proofs.Plans.{slot-plan}
 use Rattle.text_plan.proofs.Marking.{wanted-length, wanted-marked}
 use Rattle.text_plan.proofs.Placing.{Placed, placed-old, placed-new}
 
@@ -32,6 +30,19 @@ pub record OpenStep (rs : List Rule) (places : List Located) (p : Added) (wanted
   pub sound : Sound p
   pub marks : length wanted ≡ 64
   pub placed : p .full ≡ false → Each (Placed (stepPlan rs) wanted) places
+
+-- arrays that are lent for a plan hold no line yet
+pub none-held : {keys rounds backs reads : List ℕ} → length keys ≡ 64 → length rounds ≡ 64 → length backs ≡ 64 → length reads ≡ 64
+    → HoldsLines (planOf keys rounds backs reads 0) []
+unfolding factsIn
+none-held k r b d = record {
+  facts-are = refl;
+  keyed = record { places = k; taken≤ = omega arith };
+  ordered = λ i h. absurd (omega arith);
+  rounds-are = record { places = r; entry = λ i h. absurd (omega arith) };
+  backs-are = record { places = b; entry = λ i h. absurd (omega arith) };
+  reads-are = record { places = d; entry = λ i h. absurd (omega arith) };
+}
 
 -- before the first rule
 pub open-none : {p : Added} {wanted : List Bool} → (p .full ≡ false) × HoldsLines (p .plan) [] → length wanted ≡ 64 → OpenStep [] [] p wanted
@@ -66,18 +77,6 @@ each-map P Q f [] h = tt
 each-map P Q f (a ∷ l) h = (f a (h .0), each-map P Q f l (h .1))
 
 module _ {rs : List Rule} {places : List Located} {p : Added} {wanted : List Bool} (o : OpenStep rs places p wanted) where
-  -- a rule for which the plan does not grow: it is full, or it has the lines
-  pub open-same : (x : Slot) → not (p .full) && not (allListed (p .plan .count) (locationsIn (facts (p .plan)) (slotChains x))) ≡ false
-      → PlannedWith p (words (slotChains x)) p
-  open-same x h = go (p .full) refl
-    where
-      count : length (facts (p .plan)) ≡ p .plan .count
-      count = facts-length (p .plan .keys) (p .plan .count) (omega (arith, o .sound .keyed))
-
-      go : (b : Bool) → p .full ≡ b → PlannedWith p (words (slotChains x)) p
-      go true y = readings-full p (o .sound) (words (slotChains x)) y
-      go false n = all-same p (o .sound) n (slotChains x) (rw count (not-false _ (rw n at h)))
-
   -- one rule more, located in the plan that has its readings
   module _ (x : Slot) {r : Added} (k : PlannedWith p (words (slotChains x)) r) {at : Locations} (e : at ≡ locationsIn (facts (r .plan)) (slotChains x)) where
     abbrev y : Located

@@ -14,8 +14,7 @@ use Rattle.register.specs.Shape.{Limits}
 use Rattle.laws.specs.Outcome.{Outcome, refused, unless, after}
 use Rattle.laws.specs.Outcome as O
 use Rattle.register.specs.declared.Sizes.{Sizes}
-use Rattle.plan_lines.specs.Held.{facts, HoldsLines}
-use Rattle.plan_lines.specs.declared.Added.{Added}
+use Rattle.plan_lines.specs.Held.{facts, HoldsLines, Added}
 use Rattle.text_forms.specs.Written as W
 use Rattle.text_forms.specs.Written.{Line, step, end, done, rule}
 use Rattle.text_forms.specs.Line.{lineForm}
@@ -31,14 +30,14 @@ use Rattle.text_rules.specs.Check.{State, isOutside, isOpen, openRules, lineRef
 use Rattle.text_rules.specs.Text.{lines, advance, lineOutcome, closedText, readFrom, start}
 use Rattle.text_rules.proofs.Checked.{Clean, refusal-none, rule-passes}
 use Rattle.text_rules.proofs.Passing.{Reached, start-reached, advance-reached}
-use Rattle.text_next.specs.Front.{front, firstForm}
+use Rattle.text_next.specs.Front.{lineBytes, firstForm}
 use Rattle.program.specs.Stored.{rulesIn}
 use Rattle.program.specs.Kept.{stepsIn, programOf}
 use Rattle.text_reader.specs.Answers.{outcomeOf, Answers}
 use Rattle.program.specs.declared.location.Located.{Located}
 use Rattle.program.specs.declared.location.Locations.{Locations}
 use Rattle.program.specs.Location.{slotChains, locationsIn}
-use Rattle.text_plan.specs.Readings.{words, Short, PlannedWith}
+use Rattle.text_plan.specs.Readings.{words, Short, PlannedWith, addedOf}
 use Rattle.text_plan.specs.Listed.{withWanted}
 use Rattle.text_state.specs.State.{noRules, startState, frameOf, lastFrame, advanceOf}
 use Rattle.text_refusals.specs.Refusal.{refusalOf, lastRefusal}
@@ -46,7 +45,7 @@ use Rattle.program.specs.declared.Program as C
 use Rattle.program.specs.declared.frame.Frame.{Frame}
 use Rattle.text_state.specs.declared.state.State as S
 use Rattle.text_reader.proofs.Opening.{open-none}
-use Rattle.text_reader.proofs.Arms.{Behind, step-line, loop-line, end-line, done-line, rule-line, no-line, at-step, at-loop, at-rule, at-end, at-done, slot-short, rule-is, rule-steps, rule-rules, end-steps, end-count, done-steps}
+use Rattle.text_reader.proofs.Arms.{Behind, step-line, loop-line, end-line, done-line, rule-line, no-line, at-step, at-loop, at-rule, at-end, at-done, slot-short, rule-is, rule-steps, rule-rules, end-steps, end-none, end-count, done-steps}
 use Rattle.text_next.proofs.Fronts.{lines-first}
 use Rattle.text_state.proofs.Standing.{Stands, start-stands, advance-stands}
 use Rattle.text_refusals.proofs.Refusals.{number, refusal-is, last-is}
@@ -82,13 +81,13 @@ begun s t h lw ls lf e = record {
 
 -- the outcome of a text from its first line
 first-line : (s : Sizes) (st : State) (k : ℕ) (t : List ℕ) → 0 < length t
-    → readFrom s st k (lines t) ≡ after (lineOutcome s st k (firstForm t)) (λ st. readFrom s st (suc k) (lines (drop (length (front t) + 1) t)))
+    → readFrom s st k (lines t) ≡ after (lineOutcome s st k (firstForm t)) (λ st. readFrom s st (suc k) (lines (drop (length (lineBytes t) + 1) t)))
 unfolding readFrom
 first-line s st k [] h = absurd (omega arith)
 first-line s st k (b ∷ t) h =
     let p = lines-first b t in
     ap (readFrom s st k) (p .2)
-    ∙ ap (λ (o : Option Line). after (lineOutcome s st k o) (λ st. readFrom s st (suc k) (lines (drop (length (front (b ∷ t)) + 1) (b ∷ t))))) (p .1)
+    ∙ ap (λ (o : Option Line). after (lineOutcome s st k o) (λ st. readFrom s st (suc k) (lines (drop (length (lineBytes (b ∷ t)) + 1) (b ∷ t))))) (p .1)
 
 -- a line that is refused
 pub refuse-none : {A : Type 0} (n k : ℕ) (o : Outcome A) → (n ≡ 0 → ⊥) → unless n k o ≡ refused n k
@@ -113,12 +112,12 @@ unfolding number lineOutcome after unless
 passed-line s st k none f h = absurd (omega arith)
 passed-line s st k (some l) f h = (l, refl, refusal-none s st l h, rw h)
 
-first-some : (t : List ℕ) (l : Line) → firstForm t ≡ some l → length (front t) < length t
+first-some : (t : List ℕ) (l : Line) → firstForm t ≡ some l → length (lineBytes t) < length t
 unfolding firstForm
-first-some t l h = go (ltb (length (front t)) (length t)) refl h
+first-some t l h = go (ltb (length (lineBytes t)) (length t)) refl h
   where
-    go : (b : Bool) → ltb (length (front t)) (length t) ≡ b → cond b (lineForm (front t)) none ≡ some l → length (front t) < length t
-    go true e h = ltb-true (length (front t)) (length t) e
+    go : (b : Bool) → ltb (length (lineBytes t)) (length t) ≡ b → cond b (lineForm (lineBytes t)) none ≡ some l → length (lineBytes t) < length t
+    go true e h = ltb-true (length (lineBytes t)) (length t) e
     go false e h = absurd (let z : _≡_ {A = ℕ} 0 1 = cc in omega arith)
 
 module _ (s : Sizes) (lim : Limits s) {t : List ℕ} {plan : Added} {wanted : List Bool} {slots : List Located}
@@ -128,13 +127,13 @@ module _ (s : Sizes) (lim : Limits s) {t : List ℕ} {plan : Added} {wanted : Li
     pub form : Line
     pub clean : Clean s (q .state) form
     pub is-read : read ≡ lineRead s (some form)
-    pub inside : at + length (front (drop at t)) < length t
-    pub onward : readFrom s start 1 (lines t) ≡ readFrom s (advance (q .state) form) (suc k) (lines (drop (at + length (front (drop at t)) + 1) t))
+    pub inside : at + length (lineBytes (drop at t)) < length t
+    pub onward : readFrom s start 1 (lines t) ≡ readFrom s (advance (q .state) form) (suc k) (lines (drop (at + length (lineBytes (drop at t)) + 1) t))
 
   module _ (read : LineRead) (here : at < length t) (e : read ≡ lineRead s (firstForm (drop at t))) where
     -- what follows it
     abbrev follows : State → Outcome Program
-    follows st = readFrom s st (suc k) (lines (drop (length (front (drop at t)) + 1) (drop at t)))
+    follows st = readFrom s st (suc k) (lines (drop (length (lineBytes (drop at t)) + 1) (drop at t)))
 
     outcome : readFrom s start 1 (lines t) ≡ after (lineOutcome s (q .state) k (firstForm (drop at t))) follows
     outcome = q .rest ∙ first-line s (q .state) k (drop at t) (simp length-drop (omega arith))
@@ -149,7 +148,7 @@ module _ (s : Sizes) (lim : Limits s) {t : List ℕ} {plan : Added} {wanted : Li
     pub passes : refusalOf x (plan .full) read ≡ 0 → Passes read
     passes h =
         let p = passed-line s (q .state) k (firstForm (drop at t)) follows (sym numbered ∙ h) in
-        let behind : at + (length (front (drop at t)) + 1) ≡ at + length (front (drop at t)) + 1 = omega arith in
+        let behind : at + (length (lineBytes (drop at t)) + 1) ≡ at + length (lineBytes (drop at t)) + 1 = omega arith in
         record {
           form = p .0;
           clean = p .2;
@@ -157,7 +156,7 @@ module _ (s : Sizes) (lim : Limits s) {t : List ℕ} {plan : Added} {wanted : Li
           inside = omega (arith, first-some (drop at t) (p .0) (p .1), length-drop at t);
           onward = outcome ∙ p .3
               ∙ ap (λ (u : List ℕ). readFrom s (advance (q .state) (p .0)) (suc k) (lines u))
-              (drop-drop (length (front (drop at t)) + 1) at t ∙ ap (λ (i : ℕ). drop i t) behind);
+              (drop-drop (length (lineBytes (drop at t)) + 1) at t ∙ ap (λ (i : ℕ). drop i t) behind);
         }
 
   rule-stored : (n : ℕ) {l : Line} {z : Slot} (c : W.Condition) (a : W.Action) → l ≡ rule c a → z ≡ record { test = R.packedTest c; rule = packedRule a }
@@ -194,9 +193,12 @@ module _ {s : Sizes} {lim : Limits s} {t : List ℕ} {plan : Added} {wanted : Li
       pub arm-end-steps : x .steps < 32
       arm-end-steps = end-steps s lim (q .reached) (q .stands) (q .behind) n end-clean
 
-      pub arm-end : {o : Added} {marks : List Bool} → (o .full ≡ false) × HoldsLines (o .plan) [] → length marks ≡ 64
-          → Behind slots (set frames (x .steps) (frameOf x (plan .plan) wanted)) o marks (advanceOf x n read) (advance (q .state) (p .form))
-      arm-end h l = rw (e, end-is) (at-end s lim (q .reached) (q .stands) (q .behind) n end-clean h l)
+      pub arm-end : {marks : List Bool} → length marks ≡ 64
+          → let a = plan .plan in
+          Behind slots (set frames (x .steps) (frameOf x a wanted)) (addedOf (a .keys) (a .rounds) (a .backs) (a .reads) 0 (plan .full)) marks
+          (advanceOf x n read) (advance (q .state) (p .form))
+      arm-end l =
+          rw (e, end-is) (at-end s lim (q .reached) (q .stands) (q .behind) n end-clean (end-none s lim (q .reached) (q .stands) (q .behind) n end-clean) l)
 
     module _ (e : read ≡ L.Done) where
       done-is : p .form ≡ done
@@ -243,13 +245,13 @@ module _ {s : Sizes} {lim : Limits s} {t : List ℕ} {plan : Added} {wanted : Li
   -- one line further
   pub again : {read : LineRead} (p : Passes s lim q read) {slots' : List Located} {frames' : List Frame} {plan' : Added} {wanted' : List Bool}
       → Behind slots' frames' plan' wanted' (advanceOf x (plan .plan .count) read) (advance (q .state) (p .form))
-      → Read s t plan' wanted' slots' frames' (advanceOf x (plan .plan .count) read) (at + length (front (drop at t)) + 1) (k + 1)
+      → Read s t plan' wanted' slots' frames' (advanceOf x (plan .plan .count) read) (at + length (lineBytes (drop at t)) + 1) (k + 1)
   again {read} p b = record {
     state = advance (q .state) (p .form);
     reached = advance-reached s lim (q .state) (p .form) (q .reached) (p .clean);
     stands = rw (p .is-read) (advance-stands s lim (q .stands) (plan .plan .count) (p .form) (p .clean) (end-lines p (plan .plan .count)));
     behind = b;
-    rest = p .onward ∙ ap (λ (i : ℕ). readFrom s (advance (q .state) (p .form)) i (lines (drop (at + length (front (drop at t)) + 1) t))) (sym (add-one k));
+    rest = p .onward ∙ ap (λ (i : ℕ). readFrom s (advance (q .state) (p .form)) i (lines (drop (at + length (lineBytes (drop at t)) + 1) t))) (sym (add-one k));
     within = omega (arith, p .inside);
     few = omega (arith, q .few);
   }

@@ -66,7 +66,12 @@ pub fn read_lines(text: &[u8], sizes: Sizes) -> Checked
     let mut slots = [empty_slot(); 1024];
     let mut frames = [empty_frame(); 32];
     let mut state = state::start();
-    let mut planned = readings::no_lines();
+    let mut keys = [0u64; 64];
+    let mut rounds = [0u8; 64];
+    let mut backs = [0u8; 64];
+    let mut reads = [0u8; 64];
+    let mut count = 0;
+    let mut full = false;
     let mut wanted = [false; 64];
     let mut at = 0;
     let mut line = 1;
@@ -74,25 +79,37 @@ pub fn read_lines(text: &[u8], sizes: Sizes) -> Checked
     while at < text.len() {
         let end = text_next::line_end(text, at);
         let read = text_next::read_first(text, at, end, sizes);
-        refusal = text_refusals::refusal(state, planned.full, read);
+        refusal = text_refusals::refusal(state, full, read);
         if refusal != 0 {
             break;
         }
         let steps = state.steps;
-        let count = planned.plan.count;
+        let lines = count;
         match read {
             LineRead::Rule(slot, _) => {
-                let mut found = locate::locate(&planned.plan.keys, count, slot);
-                if locate::adds_lines(count, planned.full, found) {
-                    planned = readings::with_rule(planned, slot);
-                    found = locate::locate(&planned.plan.keys, planned.plan.count, slot);
-                }
+                readings::add_rule(
+                    &mut keys,
+                    &mut rounds,
+                    &mut backs,
+                    &mut reads,
+                    &mut count,
+                    &mut full,
+                    slot,
+                );
+                let found = locate::locate(&keys, count, slot);
                 locate::mark_wanted(&mut wanted, found);
                 slots[state::place(state)] = Located { slot, at: found };
             }
             LineRead::End => {
-                frames[steps] = state::open_frame(state, planned.plan, wanted);
-                planned = readings::no_lines();
+                let plan = Plan {
+                    keys,
+                    rounds,
+                    backs,
+                    reads,
+                    count,
+                };
+                frames[steps] = state::open_frame(state, plan, wanted);
+                count = 0;
                 wanted = [false; 64];
             }
             LineRead::Done => {
@@ -102,7 +119,7 @@ pub fn read_lines(text: &[u8], sizes: Sizes) -> Checked
             LineRead::Loop(_, _) => {}
             LineRead::NoForm => {}
         }
-        state = state::advance(state, count, read);
+        state = state::advance(state, lines, read);
         at = end + 1;
         line += 1;
     }

@@ -14,7 +14,7 @@ use Rattle.chain_text.specs.Text as C
 use Rattle.chain_text.specs.Scan.{startsWith}
 use Rattle.plan_theory.specs.Plan.{back, read, result, round, rounds, plan, addReadings, add, withTree as planLines, listed, lineIndex, sameFact, sameWord, tree, treeWithin, half, doubled, front, rest}
 use Rattle.text_forms.specs.Numeral.{isDigit, digits, decimal, isNumeral, signedForm, numberForm, numberValue, signedValue}
-use Rattle.text_forms.specs.Token.{capital, then, word, or, finished}
+use Rattle.text_forms.specs.Token.{capital, then, literal, or, finished}
 use Rattle.text_forms.specs.Term.{ofNumber, ofChain, termForm}
 use Rattle.text_forms.specs.Line.{assigned, localForm, sentForms, remoteForm, actionForm, ruleLine, compared, testedForm, lineForm}
 use Rattle.text_forms.specs.Parts.{numbersInRange, termInRange, short, termShort, kinded, kindsAgree, actionKinds, areMeasures, conditionKinds, sameKind, isReferenceTerm, termKinded, named, fieldNamed, termNamed, target, everyTerm, terms, actionTerms, conditionTerms}
@@ -31,7 +31,7 @@ sizes = record { records = 3; references = 1; measures = 1 }
 
 -- the program or refusal of some bytes over a register of some sizes, and of a text over that register
 unfoldable pub answerOver : Sizes → List ℕ → Outcome Program
-unfolding textProgram readFrom start closedText lineOutcome advance closeLoop lastOf withStep settingIn programRule writtenTarget writtenExpression writtenTest writtenTerm pieceForm lines onto after unless lineRefusal planFits sortsAgree oneSort someTarget isTotal isLeast hasRoom numbersInRange termInRange short termShort kinded kindsAgree actionKinds areMeasures conditionKinds sameKind isReferenceTerm termKinded named fieldNamed termNamed target everyTerm terms actionTerms conditionTerms inPlace openRules isOpen isUsed isOutside lineForm testedForm compared ruleLine actionForm remoteForm sentForms localForm assigned termForm ofChain ofNumber capital then word or finished isDigit digits decimal isNumeral signedForm numberForm numberValue signedValue inRange startsWith C.isCapital C.closed C.form C.letterField C.isReferenceLetter C.names every C.innerReferences C.wordOf stepPlan readings ruleReadings targetReadings testReadings expressionReadings plan addReadings add planLines listed lineIndex sameFact sameWord tree treeWithin half doubled front rest
+unfolding textProgram readFrom start closedText lineOutcome advance closeLoop lastOf withStep settingIn programRule writtenTarget writtenExpression writtenTest writtenTerm pieceForm lines onto after unless lineRefusal planFits sortsAgree oneSort someTarget isTotal isLeast hasRoom numbersInRange termInRange short termShort kinded kindsAgree actionKinds areMeasures conditionKinds sameKind isReferenceTerm termKinded named fieldNamed termNamed target everyTerm terms actionTerms conditionTerms inPlace openRules isOpen isUsed isOutside lineForm testedForm compared ruleLine actionForm remoteForm sentForms localForm assigned termForm ofChain ofNumber capital then literal or finished isDigit digits decimal isNumeral signedForm numberForm numberValue signedValue inRange startsWith C.isCapital C.closed C.form C.letterField C.isReferenceLetter C.names every C.innerReferences C.wordOf stepPlan readings ruleReadings targetReadings testReadings expressionReadings plan addReadings add planLines listed lineIndex sameFact sameWord tree treeWithin half doubled front rest
 answerOver s t = textProgram s t
 
 unfoldable pub answer : String → Outcome Program

@@ -49,7 +49,7 @@ pub fn chain_parts(letters: Letters, first: u8) -> TermParts
     };
     TermParts {
         term: Term::Chain(letters.packed),
-        reference: (first < 77) | (90 < first),
+        reference: (first < b'M') | (b'Z' < first),
         checks,
     }
 }

@@ -10,7 +10,7 @@ use chain_text::text;
 fn is_digit(b: u8) -> bool
     ensures { λ r. ⌜ r ≡ isDigit b ⌝ }
 {
-    (48 <= b) & (b <= 57)
+    (b'0' <= b) & (b <= b'9')
 }
 
 // Whether a digit stands at `at`.
@@ -28,7 +28,7 @@ fn with_digit(n: u64, b: u8) -> u64
     requires { ⌜ (n ≤ 2147483649) × (isDigit b ≡ true) ⌝ }
     ensures { λ r. ⌜ r ≡ capped (10 * n + (b - 48)) ⌝ }
 {
-    let next = 10 * n + (b - 48) as u64;
+    let next = 10 * n + (b - b'0') as u64;
     if next < 2147483649 { next } else { 2147483649 }
 }
 
@@ -79,7 +79,7 @@ fn signed_digits(line: &[u8], at: usize, negative: bool) -> NumberRead
     if end == at {
         return NumberRead::NoForm;
     }
-    if (line[at] == 48) & (negative | (1 < end - at)) {
+    if (line[at] == b'0') & (negative | (1 < end - at)) {
         return NumberRead::NoForm;
     }
     NumberRead::Number(signed_value(negative, digits.value), end)
@@ -90,7 +90,7 @@ pub fn read_number(line: &[u8], at: usize) -> NumberRead
     requires { ⌜ at ≤ length (now line) ⌝ }
     ensures { λ r. ⌜ r ≡ numberRead at (numberForm (drop at (now (line .entry)))) ⌝ }
 {
-    if text::starts_with(line, at, 45) {
+    if text::starts_with(line, at, b'-') {
         return signed_digits(line, at + 1, true);
     }
     signed_digits(line, at, false)

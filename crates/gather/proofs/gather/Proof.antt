@@ -1,6 +1,6 @@
 -- `gather::gather` meets its contract: by following, or by the exchanges of all rounds.
 -- Assumes nothing.
-use mathlib.Core.Path.{_≡_, refl, sym, subst}
+use mathlib.Core.Path.{_≡_, refl}
 use native.Mathlib.Omega.{arith}
 use borrow.Author.Needs.{needs}
 use denote.Ref.{now}
@@ -8,17 +8,10 @@ use Rattle.register.specs.File.{cellsOfFile}
 use Rattle.register.proofs.Loading.{file-parts}
 use Rattle.plan_theory.specs.Plan.{lastRound}
 use Rattle.plan_lines.specs.Held.{factsIn}
-use Rattle.program.specs.Program.{stepPlan}
-use Rattle.gather_follow.specs.Filled.{FollowLines}
-use Rattle.gather_follow.proofs.Readings.{lines-follow}
 use Rattle.gather_exchanges.proofs.Planned.{planned-lines, planned-followable, planned-count, planned-rounds}
-use Rattle.gather.proofs.Gathering.{told-gathered}
+use Rattle.gather.proofs.Gathering.{planned-fills, told-gathered}
 use Rattle.gather.proofs.gather.Statement.{statement}
 use Rattle.gather.proofs.gather.Tie as tie
-
--- the lines are the step's plan
-facts-are : (c : tie.Start) → factsIn (now (c .args .keys)) (c .args .count) ≡ stepPlan (c .pre .1 .rules)
-facts-are c = c .pre .1 .holds .facts-are
 
 values-part-requires : tie.Need-values-part-requires
 values-part-requires c κs = search needs
@@ -33,11 +26,18 @@ fill-requires : tie.Need-fill-requires
 unfolding cellsOfFile
 fill-requires c κs =
     let b = c .before .before .before .before .before .before .before .before in
-    let follows = subst (FollowLines (b .args .sizes)) (sym (facts-are b)) (lines-follow (b .args .sizes) (b .pre .1 .passes)) in
+    let planned = b .pre .1 in
     rw (c .before .before .before .before .before .values-part .ensures, c .before .before .before .before .marks-part .ensures) (
       file-parts (now (b .args .file)) (b .args .sizes) (b .pre .0 .valid .limits) (b .pre .0 .whole),
       b .pre .0 .valid,
-      record { keyed = b .pre .1 .holds .keyed; wanted-length = b .pre .2; follow = follows; values-room = b .pre .3; marks-room = b .pre .4 },
+      record {
+        keys-length = planned .keys-length;
+        count≤ = planned .promised .count≤;
+        wanted-length = b .pre .2;
+        follow = planned-fills planned;
+        values-room = b .pre .3;
+        marks-room = b .pre .4;
+      },
     )
 
 enum-told-2 : tie.Need-enum-told-2
@@ -46,7 +46,7 @@ enum-told-2 c = search needs
 last-round-requires : tie.Need-last-round-requires
 last-round-requires c κs =
     let b = c .before .before .before .before .before .before in
-    (b .pre .1 .holds .rounds-are .places, b .pre .1 .holds .keyed .taken≤)
+    (b .pre .1 .rounds-length, b .pre .1 .promised .count≤)
 
 cast-t21 : tie.Need-cast-t21
 cast-t21 c = search needs
@@ -101,7 +101,7 @@ returns-2 c =
     let s = m .before .before .before .before in
     let done = rw (m .before .values-part .ensures, m .marks-part .ensures) at (c .before .before .before .exchange-to .ensures) in
     rw (r .before .enum-told2 .given .1)
-    (told-gathered (s .pre .0 .valid) (s .pre .1 .passes) (facts-are s) (last-is r) (omega (arith, r .last-round .ok)) done)
+    (told-gathered (s .pre .1) (s .pre .0 .valid) (last-is r) (omega (arith, r .last-round .ok)) done)
 
 pub gather-spec : {M : Type 1} → statement M
 gather-spec =

@@ -34,15 +34,15 @@ loop-holds c = (omega arith, round-none _ _ _ _ _ _)
 abbrev start : tie.In-loop Inv-loop μ-loop → tie.Start Inv-loop μ-loop
 start c = c .before .before .before .before .before
 
-abbrev lentPlan : tie.Start Inv-loop μ-loop → Plan
-lentPlan c = let a = c .args in planOf (now (a .keys)) (now (a .rounds)) (now (a .backs)) (now (a .reads)) (a .count)
+abbrev givenPlan : tie.Start Inv-loop μ-loop → Plan
+givenPlan c = let a = c .args in planOf (now (a .keys)) (now (a .rounds)) (now (a .backs)) (now (a .reads)) (a .count)
 
 -- the line of a turn
 listed : (c : tie.In-loop Inv-loop μ-loop) → c .before .loop .i < start c .args .count
 listed c = omega arith
 
 inside : (c : tie.In-loop Inv-loop μ-loop) → c .before .loop .i < 64
-inside c = omega (arith, listed c, start c .pre .2 .lines .keyed .taken≤)
+inside c = omega (arith, listed c, start c .pre .2 .lines .count≤)
 
 element-copy-out-if1 : tie.Need-element-copy-out-if1 Inv-loop μ-loop
 element-copy-out-if1 c = inside c
@@ -53,7 +53,7 @@ element-copy-out-exchange c = inside (c .before .before .before .before)
 cast-exchange : tie.Need-cast-exchange Inv-loop μ-loop
 cast-exchange c =
     let k = c .before .before .before .before .before in
-    record { fits = omega (arith, back-le {p = lentPlan (start k)} (start k .pre .2 .lines) (k .before .loop .i) (listed k)) }
+    record { fits = omega (arith, back-le {p = givenPlan (start k)} (start k .pre .2 .lines) (k .before .loop .i) (listed k)) }
 
 element-copy-out-exchange-2 : tie.Need-element-copy-out-exchange-2 Inv-loop μ-loop
 element-copy-out-exchange-2 c = inside (c .before .before .before .before .before)
@@ -61,7 +61,7 @@ element-copy-out-exchange-2 c = inside (c .before .before .before .before .befor
 cast-exchange-2 : tie.Need-cast-exchange-2 Inv-loop μ-loop
 cast-exchange-2 c =
     let k = c .before .before .before .before .before .before in
-    record { fits = omega (arith, read-le {p = lentPlan (start k)} (start k .pre .2 .lines) (k .before .loop .i) (listed k)) }
+    record { fits = omega (arith, read-le {p = givenPlan (start k)} (start k .pre .2 .lines) (k .before .loop .i) (listed k)) }
 
 mul-field-of : tie.Need-mul-field-of Inv-loop μ-loop
 mul-field-of c = record { fits = omega (arith, inside (c .before .before .before .before .before .before)) }
@@ -74,7 +74,7 @@ field-of-requires c κs =
     let k = c .before .before .before .before .before .before .before in
     let pre = start k .pre in
     let i = k .before .loop .i in
-    let p = lentPlan (start k) in
+    let p = givenPlan (start k) in
     let short = pre .2 .follow .short i (omega (arith, plan-count {p = p} (pre .2 .lines), listed k)) in
     (pre .2 .lines .each i (listed k) .has-line, rw (plan-line {p = p} (pre .2 .lines) i (listed k)) at short)
 
@@ -85,8 +85,8 @@ this-round k e = omega (arith, start k .pre .3)
 
 -- or of another
 other-round : (k : tie.In-loop Inv-loop μ-loop) → getD (now (start k .args .rounds)) (k .before .loop .i) 0 ≢ start k .args .t
-    → round (line (facts (lentPlan (start k))) (k .before .loop .i)) ≢ suc (start k .args .t - 1)
-other-round k n e = n (omega (arith, start k .pre .3, plan-round {p = lentPlan (start k)} (start k .pre .2 .lines) (k .before .loop .i) (listed k)))
+    → round (line (facts (givenPlan (start k))) (k .before .loop .i)) ≢ suc (start k .args .t - 1)
+other-round k n e = n (omega (arith, start k .pre .3, plan-round {p = givenPlan (start k)} (start k .pre .2 .lines) (k .before .loop .i) (listed k)))
 
 exchange-requires : tie.Need-exchange-requires Inv-loop μ-loop
 exchange-requires c κs =
@@ -118,7 +118,7 @@ loop-again c =
     let pre = start k .pre in
     let inv = k .before .loop .inv .1 in
     let b = listed k in
-    let h : k .before .loop .i < length (facts (lentPlan (start k))) = omega (arith, plan-count {p = lentPlan (start k)} (pre .2 .lines)) in
+    let h : k .before .loop .i < length (facts (givenPlan (start k))) = omega (arith, plan-count {p = givenPlan (start k)} (pre .2 .lines)) in
     ⊎-elim
     (λ w.
     let e = this-round k (w .0 .taken) in
@@ -137,7 +137,7 @@ returns : tie.Need-returns Inv-loop μ-loop
 returns c =
     let l = c .before .loop in
     let s = c .before .before .before .before .before in
-    let lines = plan-count {p = lentPlan s} (s .pre .2 .lines) in
+    let lines = plan-count {p = givenPlan s} (s .pre .2 .lines) in
     let e : suc (s .args .t - 1) ≡ s .args .t = omega (arith, s .pre .3) in
     rw e at (round-done _ _ _ _ (s .pre .4) (l .i) (omega arith) (l .inv .1))
 

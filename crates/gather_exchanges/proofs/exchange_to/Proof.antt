@@ -50,7 +50,7 @@ add-sent c =
     let x = c .before .before .before in
     let s = x .before .before .before .before .before .before .before .before in
     let n = s .args .sizes .records in
-    let few : length (factsIn (now (s .args .keys)) (s .args .count)) ≤ 64 = omega (arith, plan-count (s .pre .2 .lines), s .pre .2 .lines .keyed .taken≤) in
+    let few : length (factsIn (now (s .args .keys)) (s .args .count)) ≤ 64 = omega (arith, plan-count (s .pre .2 .lines), s .pre .2 .lines .count≤) in
     record { fits = omega (arith, plan-below _ _ n _ (done x .messages), mul-le-mul-right n few, s .pre .0 .limits .records≤) }
 
 add-t : tie.Need-add-t Inv-loop μ-loop

@@ -10,7 +10,6 @@ use borrow.Author.Needs.{needs}
 use lib.ListN.{length, getD}
 use denote.Ref.{now}
 use Rattle.register.specs.Cells.{cellsOf}
-use Rattle.chain.proofs.Packing.{packed-some}
 use Rattle.plan_theory.specs.Plan.{word, line}
 use Rattle.plan_keys.specs.Keys.{factOf, kind}
 use Rattle.plan_lines.specs.Held.{factsIn}
@@ -62,7 +61,7 @@ chain-of-requires c κs = search needs
 -- the line that is looked at, by its kind and word
 this-line : (c : tie.In-loop Inv-loop μ-loop) {k : Kind} {w : List ℕ} → let fact = factOf (getD (now (start c .args .keys)) (at c) 0) in
     k ≡ kind fact → w ≡ word fact → line (factsIn (now (start c .args .keys)) (start c .args .count)) (at c) ≡ kindFact k w
-this-line c e q = line-by-key _ _ (at c) (start c .pre .2 .keyed) (omega arith) e q
+this-line c e q = line-by-key _ _ (at c) (let r = start c .pre .2 in omega (arith, r .keys-length, r .count≤)) (omega arith) e q
 
 fill-line-requires : tie.Need-fill-line-requires Inv-loop μ-loop
 fill-line-requires c κs =
@@ -79,7 +78,7 @@ fill-line-requires c κs =
       pre .0,
       pre .1,
       ready .follow .each (at b) _ inside this,
-      packed-some _ (omega (arith, ready .follow .two (at b) _ inside this)),
+      ready .follow .two (at b) _ inside this,
       omega (arith, room, inv .values-length),
       omega (arith, room, inv .marks-length),
     )

@@ -1,7 +1,7 @@
 -- `integers::word` meets its contract.
 -- Assumes nothing.
 use borrow.Author.Needs.{needs}
-use Rattle.integers.specs.Bytes.{word as wordOf}
+use Rattle.integers.specs.Bytes.{fourBytes}
 use Rattle.integers.proofs.word.Statement.{statement}
 use Rattle.integers.proofs.word.Tie as tie
 
@@ -24,7 +24,7 @@ add-result-3 : tie.Need-add-result-3
 add-result-3 c = search needs
 
 returns : tie.Need-returns
-unfolding wordOf
+unfolding fourBytes
 returns c = search needs
 
 pub word-spec : {M : Type 1} → statement M

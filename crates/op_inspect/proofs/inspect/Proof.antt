@@ -16,8 +16,9 @@ use Rattle.register.proofs.Roundtrip.{Bytes, Loads, cells-valid}
 use Rattle.plan_theory.specs.Plan.{Fact}
 use Rattle.plan_lines.specs.Held.{HoldsLines}
 use Rattle.plan_lines.proofs.Appending.{holds-count}
-use Rattle.program.specs.Program.{mostLines, stepPlan}
+use Rattle.program.specs.Program.{mostLines, readings, stepPlan}
 use Rattle.machine.specs.Run.{scratch, isShort}
+use Rattle.machine.proofs.Readings.{readings-pass, step-promised}
 use Rattle.op_check.specs.StepPlan.{StepFound}
 use Rattle.op_check.specs.declared.step.StepPlan.{StepPlan}
 use Rattle.op_check.proofs.Checks.{refused-answer}
@@ -119,7 +120,13 @@ show-requires c κs =
     rw (p .before .sizes-of .ensures) (
       cells-valid s (file x) (bytes x) (loads x),
       loads x .whole,
-      record { rules = found x .rules; passes = passes x .passes; holds = holds x },
+      record {
+        readings = readings (found x .rules);
+        passes = readings-pass s (found x .rules) (passes x .passes .each);
+        promised = step-promised (found x .rules) (holds x);
+        keys-length = holds x .keyed .places;
+        rounds-length = holds x .rounds-are .places;
+      },
       room .0,
       room .1,
     )

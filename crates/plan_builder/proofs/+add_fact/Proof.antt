@@ -164,7 +164,7 @@ module _ (t : ℕ) where
       let h = both-held (c .before .before) in
       let n = needs-at (back-at (c .before .before .before)) in
       let new = new-both (n .before) in
-      (h .keyed, holds-facts h .rounds-are, record { next = both-next new h; needs-are = n .needs-of .ensures; two = new .two; short = start (n .before) .pre .1 .1 })
+      (h .keyed, holds-facts h .ordered, holds-facts h .rounds-are, record { next = both-next new h; needs-are = n .needs-of .ensures; two = new .two; short = start (n .before) .pre .1 .1 })
 
   append-requires-2 : add-fact-lts.Need-append-requires-2 (called t) (add-fact-at t) add-fact.Post
   append-requires-2 c κs = (holds-facts (both-held (c .before .before .before .before .before .before .before)), c .before .before .before .before .line-after .ensures .1)

@@ -14,8 +14,8 @@ use Rattle.register.specs.declared.cells.Cell.{Cell}
 use Rattle.register.proofs.Arrays.{cellsOf-at}
 use Rattle.register.proofs.Bounds.{cellIndex-below}
 use Rattle.laws.specs.Bytes.{bytes}
-use Rattle.print_page.specs.Decimal.{decimal, cellText}
-use Rattle.print_page.specs.Put.{Room, Put}
+use Rattle.print_page.specs.Decimal.{decimalText, cellText}
+use Rattle.print_page.specs.Put.{PageRoom, PagePut}
 use Rattle.print_page.proofs.Putting.{room-first, room-next, put-nothing, put-more}
 use Rattle.print_listing.specs.Listing.{inARow, fieldText, recordLine}
 use Rattle.print_listing.proofs.Rows.{row-more, row-room}
@@ -24,7 +24,7 @@ use Rattle.print_listing.proofs.put_record.Tie as tie
 
 abbrev Inv-loop : tie.InvT-loop
 Inv-loop page₀ at cells filled sizes u next₀ f₀ f-end page next f =
-    (length page ≡ length page₀) × (f ≤ f-end) × Put next₀ (inARow f (fieldText sizes (cellsOf cells filled) u)) page₀ page next
+    (length page ≡ length page₀) × (f ≤ f-end) × PagePut next₀ (inARow f (fieldText sizes (cellsOf cells filled) u)) page₀ page next
 
 abbrev μ-loop : tie.MeasureT-loop
 μ-loop page₀ at cells filled sizes u next₀ f₀ f-end page next f = f-end - f
@@ -68,7 +68,7 @@ field c =
 
 -- and room for it
 room : (c : tie.After-cell-at Inv-loop μ-loop) → let top = c .before .before .before in
-    Room (top .loop .next) (bytes " " ++ cellText (c .cell-at .result)) (top .loop .page)
+    PageRoom (top .loop .next) (bytes " " ++ cellText (c .cell-at .result)) (top .loop .page)
 unfolding recordLine width
 room c =
     let top = c .before .before .before in
@@ -99,7 +99,7 @@ loop-again c =
 -- the number and all fields stand on the page
 fields : (c : tie.After-loop Inv-loop μ-loop) → let a = c .before .before .before .before .before .before .before .before .before .before .args in
     let row = inARow (width (a .sizes)) (fieldText (a .sizes) (cellsOf (now (a .cells)) (now (a .filled))) (a .u)) in
-    Put (a .at) (decimal (a .u) ++ row) (now (a .page)) (c .before .loop .page) (c .before .loop .next)
+    PagePut (a .at) (decimalText (a .u) ++ row) (now (a .page)) (c .before .loop .page) (c .before .loop .next)
 unfolding width
 fields c =
     let all : c .before .loop .f ≡ width (c .before .before .before .before .before .before .before .before .before .before .args .sizes) = omega arith in

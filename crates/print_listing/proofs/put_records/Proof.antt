@@ -7,7 +7,7 @@ use native.Mathlib.Omega.{arith}
 use borrow.Author.Needs.{needs}
 use lib.ListN.{length}
 use Rattle.register.specs.Cells.{cellsOf}
-use Rattle.print_page.specs.Put.{Put}
+use Rattle.print_page.specs.Put.{PagePut}
 use Rattle.print_page.proofs.Putting.{put-nothing, put-more}
 use Rattle.print_listing.specs.Listing.{inARow, recordLine}
 use Rattle.print_listing.proofs.Rows.{row-more, row-room}
@@ -16,7 +16,7 @@ use Rattle.print_listing.proofs.put_records.Tie as tie
 
 abbrev Inv-loop : tie.InvT-loop
 Inv-loop page₀ at cells filled sizes next₀ u₀ u-end page next u =
-    (length page ≡ length page₀) × (u ≤ u-end) × Put at (inARow u (recordLine sizes (cellsOf cells filled))) page₀ page next
+    (length page ≡ length page₀) × (u ≤ u-end) × PagePut at (inARow u (recordLine sizes (cellsOf cells filled))) page₀ page next
 
 abbrev μ-loop : tie.MeasureT-loop
 μ-loop page₀ at cells filled sizes next₀ u₀ u-end page next u = u-end - u

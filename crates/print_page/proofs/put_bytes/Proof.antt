@@ -8,13 +8,13 @@ use native.Mathlib.Omega.{arith}
 use denote.Ref.{now}
 use lib.ListN.{length, take, getD, length-set}
 use lib.Seq.{take-suc, take-length}
-use Rattle.print_page.specs.Put.{Put}
+use Rattle.print_page.specs.Put.{PagePut}
 use Rattle.print_page.proofs.Putting.{put-nothing, put-more, put-one}
 use Rattle.print_page.proofs.put_bytes.Statement.{statement}
 use Rattle.print_page.proofs.put_bytes.Tie as tie
 
 abbrev Inv-loop : tie.InvT-loop
-Inv-loop page₀ at bytes i₀ i-end page i = (length page ≡ length page₀) × (i ≤ i-end) × Put at (take i bytes) page₀ page (at + i)
+Inv-loop page₀ at bytes i₀ i-end page i = (length page ≡ length page₀) × (i ≤ i-end) × PagePut at (take i bytes) page₀ page (at + i)
 
 abbrev μ-loop : tie.MeasureT-loop
 μ-loop page₀ at bytes i₀ i-end page i = i-end - i

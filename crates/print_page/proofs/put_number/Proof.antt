@@ -3,12 +3,12 @@
 use mathlib.Core.Path.{_≡_, _∙_}
 use borrow.Author.Needs.{needs}
 use lib.ListN.{take}
-use Rattle.print_page.specs.Decimal.{decimal}
+use Rattle.print_page.specs.Decimal.{decimalText}
 use Rattle.print_page.proofs.Digits.{fewest-decimal}
 use Rattle.print_page.proofs.put_number.Statement.{statement}
 use Rattle.print_page.proofs.put_number.Tie as tie
 
-spelled : (c : tie.After-decimal) → take (c .decimal .result) (c .decimal .last .1 .0) ≡ decimal (c .before .before .before .args .number)
+spelled : (c : tie.After-decimal) → take (c .decimal .result) (c .decimal .last .1 .0) ≡ decimalText (c .before .before .before .args .number)
 spelled c = let e = c .decimal .ensures in e .1 .1 ∙ fewest-decimal (c .decimal .result) (c .before .before .before .args .number) (e .1 .0)
 
 decimal-requires : tie.Need-decimal-requires

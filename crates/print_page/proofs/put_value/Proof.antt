@@ -6,17 +6,17 @@ use borrow.Author.Needs.{needs}
 use lib.IntN.{natAbs}
 use mir.Facts.{toZ-ofZ}
 use Rattle.laws.specs.Bytes.{bytes}
-use Rattle.print_page.specs.Decimal.{decimal, valueText}
+use Rattle.print_page.specs.Decimal.{decimalText, valueText}
 use Rattle.print_page.proofs.Putting.{room-first, room-next, put-more}
 use Rattle.print_page.proofs.Signs.{from-bits, negative-text, other-text}
 use Rattle.print_page.proofs.put_value.Statement.{statement}
 use Rattle.print_page.proofs.put_value.Tie as tie
 
 -- either way, the text of the value
-negative : (c : tie.Then1) → let z = c .before .before .args .value in valueText z ≡ bytes "-" ++ decimal (natAbs z)
+negative : (c : tie.Then1) → let z = c .before .before .args .value in valueText z ≡ bytes "-" ++ decimalText (natAbs z)
 negative c = let s = c .before .before in negative-text (s .args .value) (from-bits (s .fits .value) (c .if1 .taken))
 
-other : (c : tie.Else1) → let z = c .before .before .args .value in valueText z ≡ decimal (natAbs z)
+other : (c : tie.Else1) → let z = c .before .before .args .value in valueText z ≡ decimalText (natAbs z)
 other c = let s = c .before .before in other-text (s .args .value) (from-bits (s .fits .value) (c .if1 .left))
 
 size : (c : tie.After-magnitude) → c .magnitude .result ≡ natAbs (c .before .before .before .before .before .before .before .before .args .value)

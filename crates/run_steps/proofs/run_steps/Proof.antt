@@ -1,534 +1,557 @@
--- `run_steps::run_steps` meets its contract. The loop's invariant: where the run of the definition stands. The inner loop's:
--- the rules passed are taken out. Then, for each record, each rule in order.
+-- `run_steps::run_steps` meets its contract. The loop over the steps keeps where the run of the definition stands; a step's rules are
+-- taken out of the slots, and then done for each record, each rule in order.
 -- Assumes nothing.
-use Prim.Native.Nat.{ℕ, _+_, _*_, _-_, _≤_, _<_}
+use Prim.Native.Nat.{ℕ, _*_, _-_, _≤_}
 use mathlib.Core.Path.{_≡_, refl, sym, _∙_}
+use mathlib.Core.List.{List}
 use mathlib.Core.Logic.{⊎-elim}
 use native.Mathlib.Omega.{arith}
 use borrow.Author.Needs.{needs}
 use denote.Ref.{now}
-use lib.ListN.{length, getD, take, drop, length-set}
+use lib.IntN.{ℤ}
+use lib.ListN.{length, take}
 use Rattle.register.specs.File.{cellsOfFile}
 use Rattle.program.specs.Kept.{stepsIn, programOf}
-use Rattle.program.specs.Stored.{ruleIn, rulesIn}
-use Rattle.scratch.specs.Places.{Kept}
 use Rattle.step_cells.specs.Work.{Same}
-use Rattle.step_rules.specs.Stepped.{GoesThrough}
-use Rattle.step_rules.specs.Ready.{LocalDone, LocalAnswer}
-use Rattle.step_rules.specs.Delivered.{Delivered}
 use Rattle.step_cells.specs.declared.stop.Stop.{Stop}
 use Rattle.step_cells.specs.declared.stop.Stop.the-variants.{Nowhere}
-use Rattle.step_cells.proofs.Working.{same-refl, same-then, room-same, small-held}
-use Rattle.step_rules.proofs.Locals.{RecordDone, ready-at, record-start, record-more, record-stops, records-start, records-more, records-all}
-use Rattle.step_rules.proofs.Remotes.{silent-step}
-use Rattle.machine.specs.Run.{direct}
-use Rattle.run_loop.specs.Column.{HasPass, Entered}
-use Rattle.run_steps.proofs.Arrays.{noFrame}
-use Rattle.run_steps.proofs.Standing.{Behind, lines-end, scratch-behind, Stands, here, stands-start, stands-complete, stands-exhausted, stands-offended, stands-next, passed-column}
-use Rattle.run_steps.proofs.Turn.{Turn, inside, at-step, setting-passes, planned, lines-room, slot-taken, Prepared, step-room, step-working, step-ready, step-sends, lines-few, writes-turn, local-turn, turn-same, turn-through, turn-stops, column-kept, behind-turn, counts-turn, few-turn}
+use Rattle.step_cells.proofs.Working.{same-refl, same-then}
+use Rattle.run_steps.proofs.Loops.{nearer, Taken, RulesDone, RecordsDone, rules-first, rules-next, records-first, records-next, left-behind}
+use Rattle.run_steps.proofs.Loops.{left-within}
+use Rattle.run_steps.proofs.Standing.{lines-end, scratch-behind, Stands, stands-start, stands-complete, stands-exhausted}
+use Rattle.run_steps.proofs.Turn.{Turn, base, limits, out-whole, out-length, at-step, few-steps, few-rules, setting-passes}
+use Rattle.run_steps.proofs.Turn.{taken-first, taken-more, column-space, planned, lines-values, lines-marks, Prepared, prepares, rules-fit}
+use Rattle.run_steps.proofs.Turn.{values-length, marks-length, Applied, room-still, ready-still, rule-ready, small-still}
+use Rattle.run_steps.proofs.Done.{ends-local, Done, done-remote, done-local, ends-total, Went, went, counts-small, next-whole, next-space}
+use Rattle.run_steps.proofs.Done.{next-pass, next-stands}
 use Rattle.run_steps.proofs.run_steps.Statement.{statement}
 use Rattle.run_steps.proofs.run_steps.Tie as tie
 
+-- What the four loops keep, and how far they are from their end.
+
+-- the first k rules of the step are taken out
 abbrev Inv-loop2 : tie.InvT-loop2
 Inv-loop2 out values marks sizes machine budget slots frames steps at base rules₀ step first finished counts frame setting used k₀ rules k =
-    (take k rules ≡ take k (take 32 (drop (32 * step) slots))) × (length rules ≡ 32) × (k ≤ used)
+    Taken slots step used rules k
 
 abbrev μ-loop2 : tie.MeasureT-loop2
 μ-loop2 out values marks sizes machine budget slots frames steps at base rules₀ step first finished counts frame setting used k₀ rules k = used - k
 
--- the rules passed are done at record u
+-- the first k rules are done at record u
 abbrev Inv-loop3 : tie.InvT-loop3
-Inv-loop3 out values₀ marks₀ sizes machine budget slots frames steps at base rules step first finished counts frame setting used gathered stop₀ u k₀ u-end values marks stop k =
-    RecordDone sizes (cellsOfFile sizes out) base rules u k values₀ marks₀ values marks × (stop ≡ Nowhere) × (k ≤ used)
+Inv-loop3 out values₀ marks₀ sizes machine budget slots frames steps at base rules step first finished counts frame setting used gathered stop₀ u k₀ u-end
+    values marks stop k = RulesDone sizes (cellsOfFile sizes out) base rules used u values₀ marks₀ values marks stop k
 
 abbrev μ-loop3 : tie.MeasureT-loop3
-μ-loop3 out values₀ marks₀ sizes machine budget slots frames steps at base rules step first finished counts frame setting used gathered stop₀ u k₀ u-end values marks stop k = used - k
+μ-loop3 out values₀ marks₀ sizes machine budget slots frames steps at base rules step first finished counts frame setting used gathered stop₀ u k₀ u-end
+    values marks stop k = used - k
 
--- all rules are done at the records passed
+-- all rules are done at the records below u
 abbrev Inv-records : tie.InvT-records
-Inv-records out values₀ marks₀ sizes machine budget slots frames steps at base rules step first finished counts frame setting used gathered stop₀ u₀ u-end values marks stop u =
-    Same base values₀ marks₀ values marks × LocalDone sizes (cellsOfFile sizes out) base (rulesIn used rules) u values₀ marks₀ values marks × (stop ≡ Nowhere) × (u ≤ sizes .records)
+Inv-records out values₀ marks₀ sizes machine budget slots frames steps at base rules step first finished counts frame setting used gathered stop₀ u₀ u-end
+    values marks stop u = RecordsDone sizes (cellsOfFile sizes out) base rules used values₀ marks₀ values marks stop u
 
 abbrev μ-records : tie.MeasureT-records
-μ-records out values₀ marks₀ sizes machine budget slots frames steps at base rules step first finished counts frame setting used gathered stop₀ u₀ u-end values marks stop u = sizes .records - u
+μ-records out values₀ marks₀ sizes machine budget slots frames steps at base rules step first finished counts frame setting used gathered stop₀ u₀ u-end
+    values marks stop u = sizes .records - u
 
+-- the run stands before step `step`, and the arrays have the lengths that they had
 abbrev Inv-loop : tie.InvT-loop
-Inv-loop out₀ values₀ marks₀ sizes machine budget slots frames steps at base rules₀ step₀ first₀ finished₀ counts₀ out values marks rules step first finished counts =
-    Stands machine sizes (stepsIn slots (take steps frames)) at budget out₀ step first finished counts out values marks × (length rules ≡ 32) × (length values ≡ length values₀) × (length marks ≡ length marks₀)
+Inv-loop out₀ values₀ marks₀ sizes machine budget slots frames steps at base rules₀ step₀ first₀ finished₀ counts₀
+    out values marks rules step first finished counts =
+    Stands machine sizes (stepsIn slots (take steps frames)) at budget out₀ step first finished counts out values marks
+    × (length rules ≡ 32) × (length values ≡ length values₀) × (length marks ≡ length marks₀)
 
 abbrev μ-loop : tie.MeasureT-loop
-μ-loop out₀ values₀ marks₀ sizes machine budget slots frames steps at base rules₀ step₀ first₀ finished₀ counts₀ out values marks rules step first finished counts = budget - finished
+μ-loop out₀ values₀ marks₀ sizes machine budget slots frames steps at base rules₀ step₀ first₀ finished₀ counts₀
+    out values marks rules step first finished counts = budget - finished
 
--- back to the states that the answers speak of
-abbrev starts : tie.At-loop Inv-loop2 μ-loop2 Inv-loop3 μ-loop3 Inv-records μ-records Inv-loop μ-loop → tie.Start Inv-loop2 μ-loop2 Inv-loop3 μ-loop3 Inv-records μ-records Inv-loop μ-loop
-starts c = c .before .before .before .before .before .before .before .before .before
+-- a state of the function, or a need, with these invariants and measures
+abbrev Of : (tie.InvT-loop2 → tie.MeasureT-loop2 → tie.InvT-loop3 → tie.MeasureT-loop3 → tie.InvT-records → tie.MeasureT-records
+    → tie.InvT-loop → tie.MeasureT-loop → Type 0) → Type 0
+Of X = X Inv-loop2 μ-loop2 Inv-loop3 μ-loop3 Inv-records μ-records Inv-loop μ-loop
 
-abbrev tops : tie.Else1 Inv-loop2 μ-loop2 Inv-loop3 μ-loop3 Inv-records μ-records Inv-loop μ-loop → tie.At-loop Inv-loop2 μ-loop2 Inv-loop3 μ-loop3 Inv-records μ-records Inv-loop μ-loop
-tops c = c .before .before
+-- The states that the answers speak of, and the ways back to them.
 
-abbrev takes : tie.At-loop2 Inv-loop2 μ-loop2 Inv-loop3 μ-loop3 Inv-records μ-records Inv-loop μ-loop → tie.Else1 Inv-loop2 μ-loop2 Inv-loop3 μ-loop3 Inv-records μ-records Inv-loop μ-loop
-takes c = c .before .before
+-- the entry
+abbrev Entry : Type 0
+Entry = Of tie.Start
 
-abbrev locates : tie.After-enter Inv-loop2 μ-loop2 Inv-loop3 μ-loop3 Inv-records μ-records Inv-loop μ-loop → tie.At-loop2 Inv-loop2 μ-loop2 Inv-loop3 μ-loop3 Inv-records μ-records Inv-loop μ-loop
-locates c = c .before .before .before .before .before
+abbrev entry : Of tie.After-struct-known2 → Entry
+entry c = c .before .before .before .before .before .before
 
-abbrev enters : tie.After-gather Inv-loop2 μ-loop2 Inv-loop3 μ-loop3 Inv-records μ-records Inv-loop μ-loop → tie.After-enter Inv-loop2 μ-loop2 Inv-loop3 μ-loop3 Inv-records μ-records Inv-loop μ-loop
-enters c = c .before .before .before .before .before .before .before .before .before .before .before .before .before
+-- the head of the loop over the steps
+abbrev Top : Type 0
+Top = Of tie.At-loop
 
-abbrev turns : tie.After-gather Inv-loop2 μ-loop2 Inv-loop3 μ-loop3 Inv-records μ-records Inv-loop μ-loop → tie.Else1 Inv-loop2 μ-loop2 Inv-loop3 μ-loop3 Inv-records μ-records Inv-loop μ-loop
-turns c = c .before .before .before .before .before .before .before .before .before .before .before .before .before .before .before .before .before .before .before .before
+abbrev entryOfTop : Top → Entry
+entryOfTop c = entry (c .before .before .before)
 
-abbrev leaves : tie.Left-records Inv-loop2 μ-loop2 Inv-loop3 μ-loop3 Inv-records μ-records Inv-loop μ-loop → tie.After-gather Inv-loop2 μ-loop2 Inv-loop3 μ-loop3 Inv-records μ-records Inv-loop μ-loop
-leaves c = c .before .before .before .before .before
+abbrev spent : Of tie.After-ended → Top
+spent c = c .before .before .before
 
-abbrev readies : tie.Joined2 Inv-loop2 μ-loop2 Inv-loop3 μ-loop3 Inv-records μ-records Inv-loop μ-loop → tie.After-gather Inv-loop2 μ-loop2 Inv-loop3 μ-loop3 Inv-records μ-records Inv-loop μ-loop
-readies c = c .before .before .before .before .before .before .before .before
+-- a turn of it: the budget is not spent
+abbrev Turning : Type 0
+Turning = Of tie.Else1
 
-abbrev commits : tie.After-enum-told4 Inv-loop2 μ-loop2 Inv-loop3 μ-loop3 Inv-records μ-records Inv-loop μ-loop → tie.Joined2 Inv-loop2 μ-loop2 Inv-loop3 μ-loop3 Inv-records μ-records Inv-loop μ-loop
-commits c = c .before .before .before .before .before .before .before .before .before
+abbrev top : Turning → Top
+top c = c .before .before
 
--- the entry: at most 32 steps and 64 lines
-module _ (c : tie.Start Inv-loop2 μ-loop2 Inv-loop3 μ-loop3 Inv-records μ-records Inv-loop μ-loop) where
-  abbrev at : ℕ
-  at = c .args .program .lines * c .args .sizes .records
+abbrev entryOfTurning : Turning → Entry
+entryOfTurning c = entryOfTop (top c)
 
-  few-steps : c .args .program .steps ≤ 32
-  few-steps = omega (arith, c .pre .3 .few, c .pre .2 .steps-are)
+-- the head of the loop that takes the rules out
+abbrev Taking : Type 0
+Taking = Of tie.At-loop2
 
-  at≤ : at ≤ 262144
-  at≤ = lines-end (c .args .sizes) (c .pre .1 .lines≤) (c .pre .0 .valid .limits .records≤)
+abbrev turning : Taking → Turning
+turning c = c .before .before
 
-mul-at : tie.Need-mul-at Inv-loop2 μ-loop2 Inv-loop3 μ-loop3 Inv-records μ-records Inv-loop μ-loop
-mul-at c = record { fits = omega (arith, at≤ (c .before .before .before .before .before .before)) }
+abbrev allTaken : Of tie.After-enter-arg3 → Of tie.After-loop2
+allTaken c = c .before .before .before
 
-add-base : tie.Need-add-base Inv-loop2 μ-loop2 Inv-loop3 μ-loop3 Inv-records μ-records Inv-loop μ-loop
-add-base c =
-    let b = c .before .before .before .before .before .before .before in
-    record { fits = omega (arith, at≤ b, b .pre .0 .valid .limits .records≤) }
+abbrev taken : Of tie.After-enter-arg3 → Taking
+taken c = allTaken c .before
 
-array-copy-out-rules : tie.Need-array-copy-out-rules Inv-loop2 μ-loop2 Inv-loop3 μ-loop3 Inv-records μ-records Inv-loop μ-loop
+-- the pass is entered and the readings are gathered
+abbrev Gathered : Type 0
+Gathered = Of tie.After-gather
+
+abbrev entered : Of tie.After-gather-arg8 → Of tie.After-enter
+entered c = c .before .before .before .before .before .before .before .before .before .before .before .before
+
+abbrev taking : Gathered → Taking
+taking c = taken (entered (c .before) .before)
+
+abbrev turningOfGathered : Gathered → Turning
+turningOfGathered c = turning (taking c)
+
+-- the head of the loop over the records
+abbrev Records : Type 0
+Records = Of tie.At-records
+
+abbrev gathered : Records → Gathered
+gathered c = c .before .before .before .before
+
+-- a rule is at hand, at a record
+abbrev Ruling : Type 0
+Ruling = Of tie.In-loop3
+
+abbrev records : Ruling → Records
+records c = c .before .before .before
+
+abbrev turningOfRuling : Ruling → Turning
+turningOfRuling c = turningOfGathered (gathered (records c))
+
+abbrev ruling : Of tie.After-apply-rule-arg3 → Ruling
+ruling c = c .before .before .before
+
+abbrev ruled : Of tie.After-enum-told2 → Of tie.After-apply-rule
+ruled c = c .before .before .before .before .before
+
+abbrev rulingOfRuled : Of tie.After-enum-told2 → Ruling
+rulingOfRuled c = ruling (ruled c .before .before)
+
+-- the loops over records and rules are left
+abbrev Left : Type 0
+Left = Of tie.Left-records
+
+abbrev gatheredOfLeft : Left → Gathered
+gatheredOfLeft c = gathered (c .before)
+
+abbrev turningOfLeft : Left → Turning
+turningOfLeft c = turningOfGathered (gatheredOfLeft c)
+
+abbrev left : Of tie.After-out-of-range → Left
+left c = c .before .before .before .before
+
+-- no local sum is out of range
+abbrev Local : Type 0
+Local = Of tie.After-enum-told3
+
+abbrev leftOfLocal : Local → Left
+leftOfLocal c = c .before .before
+
+abbrev local : Of tie.After-apply-arg3 → Local
+local c = c .before .before .before .before
+
+-- the remote writes are done, where there are any
+abbrev Joined : Type 0
+Joined = Of tie.Joined2
+
+abbrev gatheredOfJoined : Joined → Gathered
+gatheredOfJoined c = gatheredOfLeft (leftOfLocal (c .before))
+
+abbrev turningOfJoined : Joined → Turning
+turningOfJoined c = turningOfLeft (leftOfLocal (c .before))
+
+abbrev joined : Of tie.After-commit-arg3 → Joined
+joined c = c .before .before .before .before
+
+abbrev stopped : Of tie.After-out-of-range2 → Of tie.After-commit
+stopped c = c .before .before .before .before .before .before
+
+-- no total is out of range
+abbrev Through : Type 0
+Through = Of tie.After-enum-told4
+
+abbrev committed : Through → Of tie.After-commit
+committed c = c .before .before .before .before
+
+abbrev joinedOfThrough : Through → Joined
+joinedOfThrough c = joined (committed c .before)
+
+abbrev turningOfThrough : Through → Turning
+turningOfThrough c = turningOfJoined (joinedOfThrough c)
+
+abbrev counted : Of tie.After-next-arg3 → Of tie.After-count
+counted c = c .before .before .before
+
+abbrev through : Of tie.After-next-arg3 → Through
+through c = counted c .before
+
+-- Up to the loop: the lines and the column stand below 2^64.
+
+at≤ : (c : Entry) → c .args .program .lines * c .args .sizes .records ≤ 262144
+at≤ c = lines-end (c .args .sizes) (c .pre .1 .lines≤) (c .pre .0 .valid .limits .records≤)
+
+mul-at : Of tie.Need-mul-at
+mul-at c = record { fits = omega (arith, at≤ (entry c)) }
+
+add-base : Of tie.Need-add-base
+add-base c = let e = entry (c .before) in record { fits = omega (arith, at≤ e, e .pre .0 .valid .limits .records≤) }
+
+array-copy-out-rules : Of tie.Need-array-copy-out-rules
 array-copy-out-rules c = omega arith
 
-loop-holds : tie.Need-loop-holds Inv-loop2 μ-loop2 Inv-loop3 μ-loop3 Inv-records μ-records Inv-loop μ-loop
+loop-holds : Of tie.Need-loop-holds
 unfolding programOf
 loop-holds c =
-    let b = c .before .before .before .before .before .before .before .before in
-    (stands-start (b .pre .0) (b .pre .4) (scratch-behind (b .pre .1)) (b .pre .3) (b .pre .2 .steps-are), refl, refl, refl)
+    let e = entry (c .before .before) in
+    (stands-start (e .pre .0) (e .pre .4) (scratch-behind (e .pre .1)) (e .pre .3) (e .pre .2 .steps-are), refl, refl, refl)
 
-ended-requires : tie.Need-ended-requires Inv-loop2 μ-loop2 Inv-loop3 μ-loop3 Inv-records μ-records Inv-loop μ-loop
+-- The budget is spent.
+
+ended-requires : Of tie.Need-ended-requires
 ended-requires c κs = tt
 
-same-length : tie.Need-same-length Inv-loop2 μ-loop2 Inv-loop3 μ-loop3 Inv-records μ-records Inv-loop μ-loop
-same-length c =
-    let b = c .before .before .before in
-    b .loop .inv .0 .register .whole ∙ sym (starts b .pre .0 .whole)
+same-length : Of tie.Need-same-length
+same-length c = let t = spent c in t .loop .inv .0 .register .whole ∙ sym (entryOfTop t .pre .0 .whole)
 
-same-length-2 : tie.Need-same-length-2 Inv-loop2 μ-loop2 Inv-loop3 μ-loop3 Inv-records μ-records Inv-loop μ-loop
-same-length-2 c = c .before .before .before .loop .inv .2
+same-length-2 : Of tie.Need-same-length-2
+same-length-2 c = spent c .loop .inv .2
 
-same-length-3 : tie.Need-same-length-3 Inv-loop2 μ-loop2 Inv-loop3 μ-loop3 Inv-records μ-records Inv-loop μ-loop
-same-length-3 c = c .before .before .before .loop .inv .3
+same-length-3 : Of tie.Need-same-length-3
+same-length-3 c = spent c .loop .inv .3
 
-returns : tie.Need-returns Inv-loop2 μ-loop2 Inv-loop3 μ-loop3 Inv-records μ-records Inv-loop μ-loop
+returns : Of tie.Need-returns
 unfolding programOf
 returns c =
-    let b = c .before .before .before in
-    rw (c .ended .ensures) (stands-exhausted (b .loop .inv .0) (omega (arith, c .before .before .loop-test .taken, starts b .pre .2 .steps-are)) (c .before .if1 .taken))
+    let more = c .before .before in
+    let t = spent c in
+    rw (c .ended .ensures) (stands-exhausted (t .loop .inv .0) (omega (arith, more .loop-test .taken, entryOfTop t .pre .2 .steps-are)) (c .before .if1 .taken))
 
-mul-frame : tie.Need-mul-frame Inv-loop2 μ-loop2 Inv-loop3 μ-loop3 Inv-records μ-records Inv-loop μ-loop
-mul-frame c = record { fits = omega (arith, few-steps (starts (tops c)), c .before .loop-test .taken) }
+-- A turn of the loop: the frame of the step.
 
-array-copy-out-frame : tie.Need-array-copy-out-frame Inv-loop2 μ-loop2 Inv-loop3 μ-loop3 Inv-records μ-records Inv-loop μ-loop
-array-copy-out-frame c = omega (arith, few-steps (starts (tops c)), c .before .loop-test .taken)
+module _ (c : Turning) where
+  abbrev e : Entry
+  e = entryOfTurning c
 
--- a turn of the loop
-module _ (c : tie.Else1 Inv-loop2 μ-loop2 Inv-loop3 μ-loop3 Inv-records μ-records Inv-loop μ-loop) where
-  turn : Turn (starts (tops c) .args .machine) (starts (tops c) .args .sizes) (starts (tops c) .args .program) (starts (tops c) .args .budget) (now (starts (tops c) .args .out)) (tops c .loop .step) (tops c .loop .first) (tops c .loop .finished) (tops c .loop .counts) (tops c .loop .out) (tops c .loop .values) (tops c .loop .marks)
+  turn : Turn (e .args .machine) (e .args .sizes) (e .args .program) (e .args .budget) (now (e .args .out)) (top c .loop .step) (top c .loop .first)
+      (top c .loop .finished) (top c .loop .counts) (top c .loop .out) (top c .loop .values) (top c .loop .marks)
   unfolding programOf
-  turn = record { complete = starts (tops c) .pre .2; passes = starts (tops c) .pre .3; few-lines = starts (tops c) .pre .1 .lines≤; stands = tops c .loop .inv .0; more = c .before .loop-test .taken }
+  turn =
+      let stands = top c .loop .inv .0 in
+      record {
+        complete = e .pre .2;
+        passes = e .pre .3;
+        few-lines = e .pre .1 .lines≤;
+        whole = e .pre .0 .whole;
+        stands = stands;
+        more = c .before .loop-test .taken;
+        later = omega (arith, stands .running .within, c .if1 .left);
+      }
 
-  later : tops c .loop .finished < starts (tops c) .args .budget
-  later = omega (arith, tops c .loop .inv .0 .running .within, c .if1 .left)
+mul-frame : Of tie.Need-mul-frame
+mul-frame c = record { fits = omega (arith, few-steps (turn c)) }
 
-  few-rules : getD (starts (tops c) .args .program .frames) (tops c .loop .step) noFrame .rules ≤ 32
-  few-rules = at-step turn .frame .few
+array-copy-out-frame : Of tie.Need-array-copy-out-frame
+array-copy-out-frame c = omega (arith, few-steps (turn c))
 
-loop2-holds : tie.Need-loop2-holds Inv-loop2 μ-loop2 Inv-loop3 μ-loop3 Inv-records μ-records Inv-loop μ-loop
-loop2-holds c = (refl, tops (c .before) .loop .inv .1, omega arith)
+-- Its rules are taken out.
 
-mul-rules : tie.Need-mul-rules Inv-loop2 μ-loop2 Inv-loop3 μ-loop3 Inv-records μ-records Inv-loop μ-loop
-mul-rules c = record { fits = omega (arith, few-steps (starts (tops (takes (c .before)))), takes (c .before) .before .loop-test .taken) }
+loop2-holds : Of tie.Need-loop2-holds
+loop2-holds c = taken-first (turn (c .before)) _ (top (c .before) .loop .inv .1)
 
-add-rules : tie.Need-add-rules Inv-loop2 μ-loop2 Inv-loop3 μ-loop3 Inv-records μ-records Inv-loop μ-loop
-add-rules c = record { fits = omega (arith, few-steps (starts (tops (takes (c .before)))), takes (c .before) .before .loop-test .taken, few-rules (takes (c .before)), c .loop2-test .taken) }
+mul-rules : Of tie.Need-mul-rules
+mul-rules c = record { fits = omega (arith, few-steps (turn (turning (c .before)))) }
 
-mul-rules-2 : tie.Need-mul-rules-2 Inv-loop2 μ-loop2 Inv-loop3 μ-loop3 Inv-records μ-records Inv-loop μ-loop
-mul-rules-2 c = record { fits = omega (arith, few-steps (starts (tops (takes (c .before)))), takes (c .before) .before .loop-test .taken, few-rules (takes (c .before)), c .loop2-test .taken) }
+add-rules : Of tie.Need-add-rules
+add-rules c = let t = turn (turning (c .before)) in record { fits = omega (arith, few-steps t, few-rules t, c .loop2-test .taken) }
 
-array-copy-out-rules-2 : tie.Need-array-copy-out-rules-2 Inv-loop2 μ-loop2 Inv-loop3 μ-loop3 Inv-records μ-records Inv-loop μ-loop
-array-copy-out-rules-2 c = omega (arith, few-steps (starts (tops (takes (c .before)))), takes (c .before) .before .loop-test .taken, few-rules (takes (c .before)), c .loop2-test .taken)
+mul-rules-2 : Of tie.Need-mul-rules-2
+mul-rules-2 c = let t = turn (turning (c .before)) in record { fits = omega (arith, few-steps t, few-rules t, c .loop2-test .taken) }
 
-mul-rules-3 : tie.Need-mul-rules-3 Inv-loop2 μ-loop2 Inv-loop3 μ-loop3 Inv-records μ-records Inv-loop μ-loop
-mul-rules-3 c = record { fits = omega (arith, few-rules (takes (c .before .before)), c .before .loop2-test .taken) }
+array-copy-out-rules-2 : Of tie.Need-array-copy-out-rules-2
+array-copy-out-rules-2 c = let t = turn (turning (c .before)) in omega (arith, few-steps t, few-rules t, c .loop2-test .taken)
 
-array-set-from-rules : tie.Need-array-set-from-rules Inv-loop2 μ-loop2 Inv-loop3 μ-loop3 Inv-records μ-records Inv-loop μ-loop
-array-set-from-rules c = omega (arith, few-rules (takes (c .before .before)), c .before .loop2-test .taken)
+mul-rules-3 : Of tie.Need-mul-rules-3
+mul-rules-3 c = let t = turn (turning (c .before .before)) in record { fits = omega (arith, few-rules t, c .before .loop2-test .taken) }
 
-add-k : tie.Need-add-k Inv-loop2 μ-loop2 Inv-loop3 μ-loop3 Inv-records μ-records Inv-loop μ-loop
-add-k c = record { fits = omega (arith, few-rules (takes (c .before .before)), c .before .loop2-test .taken) }
+array-set-from-rules : Of tie.Need-array-set-from-rules
+array-set-from-rules c = let t = turn (turning (c .before .before)) in omega (arith, few-rules t, c .before .loop2-test .taken)
 
-loop2-less : tie.Need-loop2-less Inv-loop2 μ-loop2 Inv-loop3 μ-loop3 Inv-records μ-records Inv-loop μ-loop
-loop2-less c = omega (arith, c .before .loop2-test .taken)
+add-k : Of tie.Need-add-k
+add-k c = let t = turn (turning (c .before .before)) in record { fits = omega (arith, few-rules t, c .before .loop2-test .taken) }
 
-loop2-again : tie.Need-loop2-again Inv-loop2 μ-loop2 Inv-loop3 μ-loop3 Inv-records μ-records Inv-loop μ-loop
-loop2-again c =
-    let i = (c .before .before) .loop2 in (
-      slot-taken (turn (takes (c .before .before))) (i .rules) (i .k) _ (c .before .loop2-test .taken) (i .inv .1) refl (i .inv .0),
-      length-set (i .rules) (i .k) _ ∙ i .inv .1,
-      omega (arith, c .before .loop2-test .taken),
-    )
+loop2-less : Of tie.Need-loop2-less
+loop2-less c = nearer (c .before .loop2-test .taken)
 
-enter-requires : tie.Need-enter-requires Inv-loop2 μ-loop2 Inv-loop3 μ-loop3 Inv-records μ-records Inv-loop μ-loop
-enter-requires c κs =
-    let b = c .before .before .before .before in
-    let room = tops (takes b) .loop .inv .0 .room in
-    (starts (tops (takes b)) .pre .0 .valid .limits, tops (takes b) .loop .inv .0 .register .whole, setting-passes (turn (takes b)), record { values-room = omega (arith, room .values-room); marks-room = omega (arith, room .marks-room) })
+loop2-again : Of tie.Need-loop2-again
+loop2-again c = let l = c .before .before in taken-more (turn (turning l)) (l .loop2 .inv) (c .before .loop2-test .taken) _
 
--- the pass is entered
-entered : (c : tie.After-enter Inv-loop2 μ-loop2 Inv-loop3 μ-loop3 Inv-records μ-records Inv-loop μ-loop) → Entered (starts (tops (takes (locates c))) .args .sizes) (getD (starts (tops (takes (locates c))) .args .program .frames) (tops (takes (locates c)) .loop .step) noFrame .setting) (cellsOfFile (starts (tops (takes (locates c))) .args .sizes) (tops (takes (locates c)) .loop .out)) (at (starts (tops (takes (locates c))))) (tops (takes (locates c)) .loop .values) (tops (takes (locates c)) .loop .marks) (c .enter .last .1 .0) (c .enter .last .1 .1 .0)
-entered c = c .enter .ensures .1
+-- The pass is entered and the readings are gathered.
 
-gather-requires : tie.Need-gather-requires Inv-loop2 μ-loop2 Inv-loop3 μ-loop3 Inv-records μ-records Inv-loop μ-loop
+enter-requires : Of tie.Need-enter-requires
+enter-requires c κs = let t = turn (turning (taken c)) in (limits t, out-whole t, setting-passes t, column-space t)
+
+gather-requires : Of tie.Need-gather-requires
 gather-requires c κs =
-    let b = c .before .before .before .before .before .before .before .before .before .before .before .before in
-    let t = turn (takes (locates b)) in
-    let kept = entered b .behind in
-    let room = tops (takes (locates b)) .loop .inv .0 .room in
-    (t .stands .register, planned t, at-step t .frame .wanted-length, omega (arith, lines-room t, room .values-room, kept .values-length), omega (arith, lines-room t, room .marks-room, kept .marks-length))
+    let t = turn (turning (taken (entered c .before))) in
+    let pass = entered c .enter .ensures .1 in
+    (t .stands .register, planned t, at-step t .frame .wanted-length, lines-values t pass, lines-marks t pass)
 
 -- the step can be run
-prepared : (c : tie.After-gather Inv-loop2 μ-loop2 Inv-loop3 μ-loop3 Inv-records μ-records Inv-loop μ-loop) → Prepared (turn (turns c)) (locates (enters c) .loop2 .rules) (enters c .enter .last .1 .0) (enters c .enter .last .1 .1 .0) (c .gather .last .1 .0) (c .gather .last .1 .1 .0) (c .gather .result)
-prepared c =
-    let b = c .before .before .before .before .before .before .before .before .before .before .before .before .before .before .before .before .before .before in
-    let all : b .loop2 .k ≡ getD (c .before .before .before .before .before .before .before .before .before .before .before .before .before .before .before .before .before .before .before .before .before .before .before .before .before .before .before .before .before .before .before .args .program .frames) (c .before .before .before .before .before .before .before .before .before .before .before .before .before .before .before .before .before .before .before .before .before .before .loop .step) noFrame .rules = omega (arith, c .before .before .before .before .before .before .before .before .before .before .before .before .before .before .before .before .before .loop2-test .left, b .loop2 .inv .2) in
-    record { is-taken = rw all at (b .loop2 .inv .0); entered = entered (c .before .before .before .before .before .before .before .before .before .before .before .before .before); gathered = c .gather .ensures }
+module _ (c : Gathered) where
+  abbrev here : Turning
+  here = turningOfGathered c
 
--- the buffers keep their lengths
-gathered-lengths : (c : tie.After-gather Inv-loop2 μ-loop2 Inv-loop3 μ-loop3 Inv-records μ-records Inv-loop μ-loop) → (length (c .gather .last .1 .0) ≡ length (now (starts (tops (turns c)) .args .values))) × (length (c .gather .last .1 .1 .0) ≡ length (now (starts (tops (turns c)) .args .marks)))
-gathered-lengths c = (c .gather .kept .1 .0 ∙ enters c .enter .kept .1 .0 ∙ tops (turns c) .loop .inv .2, c .gather .kept .1 .1 .0 ∙ enters c .enter .kept .1 .1 .0 ∙ tops (turns c) .loop .inv .3)
+  prepared : Prepared (turn here) (taking c .loop2 .rules) (entered (c .before) .enter .last .1 .0) (entered (c .before) .enter .last .1 .1 .0)
+      (c .gather .last .1 .0) (c .gather .last .1 .1 .0) (c .gather .result)
+  prepared =
+      let pass = entered (c .before) in
+      prepares (turn here) (taking c .loop2 .inv) (allTaken (pass .before) .loop2-test .left) (pass .enter .ensures .1) (c .gather .ensures)
 
-records-holds : tie.Need-records-holds Inv-loop2 μ-loop2 Inv-loop3 μ-loop3 Inv-records μ-records Inv-loop μ-loop
-records-holds c = (same-refl, records-start, refl, omega arith)
+  -- whoever keeps what stands below the working cells keeps the lengths of the buffers
+  module _ {values : List ℤ} {marks : List ℕ} (same : Same (base (turn here)) (c .gather .last .1 .0) (c .gather .last .1 .1 .0) values marks) where
+    values-still : length values ≡ length (now (entryOfTurning here .args .values))
+    values-still = same .values-length ∙ values-length prepared ∙ top here .loop .inv .2
 
-loop3-holds : tie.Need-loop3-holds Inv-loop2 μ-loop2 Inv-loop3 μ-loop3 Inv-records μ-records Inv-loop μ-loop
-loop3-holds c = (record-start, c .before .records .inv .2, omega arith)
+    marks-still : length marks ≡ length (now (entryOfTurning here .args .marks))
+    marks-still = same .marks-length ∙ marks-length prepared ∙ top here .loop .inv .3
 
-mul-apply-rule : tie.Need-mul-apply-rule Inv-loop2 μ-loop2 Inv-loop3 μ-loop3 Inv-records μ-records Inv-loop μ-loop
-mul-apply-rule c = record { fits = omega (arith, few-rules (turns (c .before .before .before .before .before .before .before .before .before .before)), c .before .before .before .loop3-test .taken) }
+-- The local rules, record by record and rule by rule.
 
-array-copy-out-apply-rule : tie.Need-array-copy-out-apply-rule Inv-loop2 μ-loop2 Inv-loop3 μ-loop3 Inv-records μ-records Inv-loop μ-loop
-array-copy-out-apply-rule c = omega (arith, few-rules (turns (c .before .before .before .before .before .before .before .before .before .before)), c .before .before .before .loop3-test .taken)
+records-holds : Of tie.Need-records-holds
+records-holds c = records-first
 
-apply-rule-requires : tie.Need-apply-rule-requires Inv-loop2 μ-loop2 Inv-loop3 μ-loop3 Inv-records μ-records Inv-loop μ-loop
+loop3-holds : Of tie.Need-loop3-holds
+loop3-holds c = rules-first (c .before .records .inv .nowhere)
+
+mul-apply-rule : Of tie.Need-mul-apply-rule
+mul-apply-rule c =
+    let r = ruling c in
+    record { fits = omega (arith, few-rules (turn (turningOfRuling r)), r .loop3-test .taken) }
+
+array-copy-out-apply-rule : Of tie.Need-array-copy-out-apply-rule
+array-copy-out-apply-rule c = let r = ruling c in omega (arith, few-rules (turn (turningOfRuling r)), r .loop3-test .taken)
+
+apply-rule-requires : Of tie.Need-apply-rule-requires
 apply-rule-requires c κs =
-    let b = c .before .before .before .before .before .before .before .before .before .before .before in
-    let d = c .before .before .before .before in
-    let p = prepared b in
-    let t = turn (turns b) in
-    let same = same-then (c .before .before .before .before .before .before .before .records .inv .0) (c .before .before .before .before .before .loop3 .inv .0 .same) in
-    let ready = ready-at (locates (enters b) .loop2 .rules) _ _ (omega (arith, few-rules (turns b), locates (enters b) .loop2 .inv .1, d .loop3-test .taken)) (d .loop3-test .taken) (step-ready t p) in
-    ((starts (tops (turns b)) .pre .0 .valid .limits, tops (turns b) .loop .inv .0 .register .whole, c .before .before .before .before .before .before .records-test .taken, room-same same (step-room t p)), rw (same .values-same, same .marks-same) ready)
+    let r = ruling (c .before) in
+    let g = gathered (records r) in
+    let t = turn (turningOfRuling r) in
+    let same = same-then (records r .records .inv .same) (r .before .loop3 .inv .done .same) in
+    ((limits t, out-whole t, r .before .before .records-test .taken, room-still (prepared g) same), rule-ready (prepared g) same _ _ (r .loop3-test .taken))
 
-enum-told : tie.Need-enum-told Inv-loop2 μ-loop2 Inv-loop3 μ-loop3 Inv-records μ-records Inv-loop μ-loop
+enum-told : Of tie.Need-enum-told
 enum-told c = search needs
 
-enum-told-2 : tie.Need-enum-told-2 Inv-loop2 μ-loop2 Inv-loop3 μ-loop3 Inv-records μ-records Inv-loop μ-loop
+enum-told-2 : Of tie.Need-enum-told-2
 enum-told-2 c = search needs
 
-add-k-2 : tie.Need-add-k-2 Inv-loop2 μ-loop2 Inv-loop3 μ-loop3 Inv-records μ-records Inv-loop μ-loop
-add-k-2 c = record { fits = omega (arith, few-rules (turns (c .before .before .before .before .before .before .before .before .before .before .before .before .before .before .before .before .before)), c .before .before .before .before .before .before .before .before .before .before .loop3-test .taken) }
+add-k-2 : Of tie.Need-add-k-2
+add-k-2 c =
+    let r = rulingOfRuled c in
+    record { fits = omega (arith, few-rules (turn (turningOfRuling r)), r .loop3-test .taken) }
 
-loop3-less : tie.Need-loop3-less Inv-loop2 μ-loop2 Inv-loop3 μ-loop3 Inv-records μ-records Inv-loop μ-loop
-loop3-less c = omega (arith, c .before .before .before .before .before .before .before .before .before .before .loop3-test .taken)
+loop3-less : Of tie.Need-loop3-less
+loop3-less c = nearer (rulingOfRuled c .loop3-test .taken)
 
-loop3-again : tie.Need-loop3-again Inv-loop2 μ-loop2 Inv-loop3 μ-loop3 Inv-records μ-records Inv-loop μ-loop
+loop3-again : Of tie.Need-loop3-again
 loop3-again c =
-    let b = c .before .before .before .before .before .before .before .before .before .before .before .before .before .before .before .before .before in
-    let d = c .before .before .before .before .before .before .before .before .before .before in
-    let done = rw (c .enum-told2 .given .1) at (c .before .before .before .before .before .apply-rule .ensures) in
-    (record-more (c .before .before .before .before .before .before .before .before .before .before .before .loop3 .inv .0) _ (omega (arith, few-rules (turns b), locates (enters b) .loop2 .inv .1, d .loop3-test .taken)) done (omega arith), c .enum-told2 .given .1, omega (arith, d .loop3-test .taken))
+    let r = rulingOfRuled c in
+    rules-next (r .before .loop3 .inv) (r .loop3-test .taken) (rules-fit (prepared (gathered (records r)))) (c .enum-told2 .given .1) _
+    (ruled c .apply-rule .ensures) (omega arith)
 
-add-u : tie.Need-add-u Inv-loop2 μ-loop2 Inv-loop3 μ-loop3 Inv-records μ-records Inv-loop μ-loop
-add-u c = record { fits = omega (arith, starts (tops (turns (c .before .before .before .before .before .before .before))) .pre .0 .valid .limits .records≤, c .before .before .records-test .taken) }
+add-u : Of tie.Need-add-u
+add-u c =
+    let i = c .before .before in
+    record { fits = omega (arith, limits (turn (turningOfGathered (gathered (i .before)))) .records≤, i .records-test .taken) }
 
-records-less : tie.Need-records-less Inv-loop2 μ-loop2 Inv-loop3 μ-loop3 Inv-records μ-records Inv-loop μ-loop
-records-less c = omega (arith, c .before .before .records-test .taken)
+records-less : Of tie.Need-records-less
+records-less c = nearer (c .before .before .records-test .taken)
 
-records-again : tie.Need-records-again Inv-loop2 μ-loop2 Inv-loop3 μ-loop3 Inv-records μ-records Inv-loop μ-loop
+records-again : Of tie.Need-records-again
 records-again c =
-    let l = c .before .loop3 .inv in
-    let r = c .before .before .before .records .inv in
-    (same-then (r .0) (l .0 .same), records-more (r .1) (omega (arith, l .2, c .loop3-test .left)) (l .0) (omega arith), l .1, omega (arith, c .before .before .records-test .taken))
+    let i = c .before .before in
+    records-next (i .before .records .inv) (i .records-test .taken) (c .before .loop3 .inv) (c .loop3-test .left) (omega arith)
 
--- what the local rules did: all are done, or the loops were left at a sum out of range
-applied : (c : tie.Left-records Inv-loop2 μ-loop2 Inv-loop3 μ-loop3 Inv-records μ-records Inv-loop μ-loop) {r : Stop} → c .records-test .stop ≡ r → LocalAnswer (c .before .before .before .before .before .before .before .before .before .before .before .before .before .before .before .before .before .before .before .before .before .before .before .before .before .before .before .before .before .before .before .before .before .before .before .before .args .sizes) (cellsOfFile (c .before .before .before .before .before .before .before .before .before .before .before .before .before .before .before .before .before .before .before .before .before .before .before .before .before .before .before .before .before .before .before .before .before .before .before .before .args .sizes) (c .before .before .before .before .before .before .before .before .before .before .before .before .before .before .before .before .before .before .before .before .before .before .before .before .before .before .before .loop .out)) (at (c .before .before .before .before .before .before .before .before .before .before .before .before .before .before .before .before .before .before .before .before .before .before .before .before .before .before .before .before .before .before .before .before .before .before .before .before) + c .before .before .before .before .before .before .before .before .before .before .before .before .before .before .before .before .before .before .before .before .before .before .before .before .before .before .before .before .before .before .before .before .before .before .before .before .args .sizes .records) (rulesIn (getD (c .before .before .before .before .before .before .before .before .before .before .before .before .before .before .before .before .before .before .before .before .before .before .before .before .before .before .before .before .before .before .before .before .before .before .before .before .args .program .frames) (c .before .before .before .before .before .before .before .before .before .before .before .before .before .before .before .before .before .before .before .before .before .before .before .before .before .before .before .loop .step) noFrame .rules) (c .before .before .before .before .before .before .before .before .before .before .before .before .before .before .before .before .before .before .before .before .before .before .before .loop2 .rules)) (c .before .before .before .before .before .gather .last .1 .0) (c .before .before .before .before .before .gather .last .1 .1 .0) (c .records-test .values) (c .records-test .marks) r
-unfolding ruleIn
-applied c e =
-    let b = c .before .before .before .before .before .before .before .before .before .before .before .before .before .before .before .before .before .before .before .before .before .before .before in
-    let d = c .before .before .before .before .before .before .before .before .before .before .before .before .before .before .before .before .before .before .before .before .before .before .before .before .before in
-    let p = prepared (c .before .before .before .before .before) in
-    let t = turn d in
+-- What the rules did: the loop over the records ran out, and all are done; or both loops were left at a rule whose sum is out of range.
+-- `w` has what is known on either way out, from the head of the loop over the records on.
+applied : (c : Left) {r : Stop} → c .records-test .stop ≡ r → Applied (prepared (gatheredOfLeft c)) (c .records-test .values) (c .records-test .marks) r
+applied c stop =
+    let b = prepared (gatheredOfLeft c) in
     let i = c .before .records .inv in
     ⊎-elim
-    (λ w. rw (sym e ∙ w .3 ∙ i .2, w .1, w .2) (i .0, records-all (omega (arith, i .3, w .0 .left)) (i .1)))
+    (λ w. left-behind i stop (w .0 .left) (w .1) (w .2) (w .3))
     (λ w.
-    let stop = rw (w .12 .given .1) at (w .7 .ensures) in
-    let inside-rules : w .1 .k < length (b .loop2 .rules) = omega (arith, few-rules d, b .loop2 .inv .1, w .2 .taken) in
-    let ready = ready-at (b .loop2 .rules) _ _ inside-rules (w .2 .taken) (step-ready t p) in
-    rw (sym e ∙ w .15 ∙ w .12 .given .1, w .13, w .14)
-    (same-then (same-then (i .0) (w .1 .inv .0 .same)) (stop .0), record-stops (b .loop2 .rules) (w .1 .k) _ inside-rules (w .2 .taken) (c .before .before .before .before .before .before .before .before .before .before .before .before .before .before .before .before .before .before .before .before .before .before .before .before .before .before .before .before .before .before .before .before .before .before .before .before .pre .0 .valid .limits) (w .0 .taken) (ready .field) (stop .1)))
+    left-within i stop (limits (turn (turningOfLeft c))) (w .0 .taken) (w .1 .inv) (w .2 .taken) (rules-fit b)
+    (w .12 .given .1) (w .13) (w .14) (w .15) _ (w .7 .ensures) (rule-ready b same-refl (w .1 .k) _ (w .2 .taken)))
     (c .records-test .came)
 
-enum-known-stop : tie.Need-enum-known-stop Inv-loop2 μ-loop2 Inv-loop3 μ-loop3 Inv-records μ-records Inv-loop μ-loop
+enum-known-stop : Of tie.Need-enum-known-stop
 enum-known-stop c = search needs
 
-out-of-range-requires : tie.Need-out-of-range-requires Inv-loop2 μ-loop2 Inv-loop3 μ-loop3 Inv-records μ-records Inv-loop μ-loop
+-- A local sum is out of range.
+
+out-of-range-requires : Of tie.Need-out-of-range-requires
 out-of-range-requires c κs = tt
 
-same-length-4 : tie.Need-same-length-4 Inv-loop2 μ-loop2 Inv-loop3 μ-loop3 Inv-records μ-records Inv-loop μ-loop
-same-length-4 c =
-    let b = c .before .before .before .before in
-    tops (turns (leaves b)) .loop .inv .0 .register .whole ∙ sym (starts (tops (turns (leaves b))) .pre .0 .whole)
+same-length-4 : Of tie.Need-same-length-4
+same-length-4 c = out-length (turn (turningOfLeft (left c)))
 
-same-length-5 : tie.Need-same-length-5 Inv-loop2 μ-loop2 Inv-loop3 μ-loop3 Inv-records μ-records Inv-loop μ-loop
-same-length-5 c =
-    let b = c .before .before .before .before in
-    applied b (c .before .before .stop .given .1) .0 .values-length ∙ gathered-lengths (leaves b) .0
+same-length-5 : Of tie.Need-same-length-5
+same-length-5 c = values-still (gatheredOfLeft (left c)) (applied (left c) (c .before .before .stop .given .1) .0)
 
-same-length-6 : tie.Need-same-length-6 Inv-loop2 μ-loop2 Inv-loop3 μ-loop3 Inv-records μ-records Inv-loop μ-loop
-same-length-6 c =
-    let b = c .before .before .before .before in
-    applied b (c .before .before .stop .given .1) .0 .marks-length ∙ gathered-lengths (leaves b) .1
+same-length-6 : Of tie.Need-same-length-6
+same-length-6 c = marks-still (gatheredOfLeft (left c)) (applied (left c) (c .before .before .stop .given .1) .0)
 
-returns-2 : tie.Need-returns-2 Inv-loop2 μ-loop2 Inv-loop3 μ-loop3 Inv-records μ-records Inv-loop μ-loop
-unfolding programOf
-returns-2 c =
-    let b = c .before .before .before .before in
-    let t = turn (turns (leaves b)) in
-    rw (c .out-of-range .ensures)
-    (stands-offended (t .stands) (inside t) (later (turns (leaves b))) (local-turn t (prepared (leaves b)) (applied b (c .before .before .stop .given .1) .1)))
+returns-2 : Of tie.Need-returns-2
+returns-2 c = rw (c .out-of-range .ensures) (ends-local (prepared (gatheredOfLeft (left c))) (applied (left c) (c .before .before .stop .given .1)))
 
-enum-told-3 : tie.Need-enum-told-3 Inv-loop2 μ-loop2 Inv-loop3 μ-loop3 Inv-records μ-records Inv-loop μ-loop
+enum-told-3 : Of tie.Need-enum-told-3
 enum-told-3 c = search needs
 
--- all local sums are in range
-locals : (c : tie.After-enum-told3 Inv-loop2 μ-loop2 Inv-loop3 μ-loop3 Inv-records μ-records Inv-loop μ-loop) → Same (at (starts (tops (turns (leaves (c .before .before))))) + starts (tops (turns (leaves (c .before .before)))) .args .sizes .records) (leaves (c .before .before) .gather .last .1 .0) (leaves (c .before .before) .gather .last .1 .1 .0) (c .before .before .records-test .values) (c .before .before .records-test .marks) × LocalDone (starts (tops (turns (leaves (c .before .before)))) .args .sizes) (cellsOfFile (starts (tops (turns (leaves (c .before .before)))) .args .sizes) (tops (turns (leaves (c .before .before))) .loop .out)) (at (starts (tops (turns (leaves (c .before .before))))) + starts (tops (turns (leaves (c .before .before)))) .args .sizes .records) (rulesIn (getD (starts (tops (turns (leaves (c .before .before)))) .args .program .frames) (tops (turns (leaves (c .before .before))) .loop .step) noFrame .rules) (locates (enters (leaves (c .before .before))) .loop2 .rules)) (starts (tops (turns (leaves (c .before .before)))) .args .sizes .records) (leaves (c .before .before) .gather .last .1 .0) (leaves (c .before .before) .gather .last .1 .1 .0) (c .before .before .records-test .values) (c .before .before .records-test .marks)
-locals c = applied (c .before .before) (c .enum-told3 .given .1)
+-- The remote writes, where there are any.
 
-apply-requires : tie.Need-apply-requires Inv-loop2 μ-loop2 Inv-loop3 μ-loop3 Inv-records μ-records Inv-loop μ-loop
+-- the local ones are done
+locals : (c : Local) → Applied (prepared (gatheredOfLeft (leftOfLocal c))) (leftOfLocal c .records-test .values) (leftOfLocal c .records-test .marks) Nowhere
+locals c = applied (leftOfLocal c) (c .enum-told3 .given .1)
+
+apply-requires : Of tie.Need-apply-requires
 apply-requires c κs =
-    let b = c .before .before .before .before .before .before in
-    let p = prepared (leaves b) in
-    let t = turn (turns (leaves b)) in
-    let l = locals (c .before .before .before .before) in
-    let valid = t .stands .register .valid in (
-      (starts (tops (turns (leaves b))) .pre .0 .valid .limits, tops (turns (leaves b)) .loop .inv .0 .register .whole, room-same (l .0) (step-room t p), few-rules (turns (leaves b)), locates (enters (leaves b)) .loop2 .inv .1),
-      (rw (l .0 .values-same, l .0 .marks-same) (step-ready t p), l .1 .small (small-held (valid .count) (valid .values) (step-working t p))),
-    )
+    let t = turn (turningOfLeft (leftOfLocal (local c))) in
+    let b = prepared (gatheredOfLeft (leftOfLocal (local c))) in
+    let l = locals (local c) in
+    ((limits t, out-whole t, room-still b (l .0), few-rules t, b .taken .length-is), (ready-still b (l .0), small-still b (l .0) (l .1)))
 
--- the remote writes are delivered, where there are any
-delivered : (c : tie.Joined2 Inv-loop2 μ-loop2 Inv-loop3 μ-loop3 Inv-records μ-records Inv-loop μ-loop) → Delivered (c .before .before .before .before .before .before .before .before .before .before .before .before .before .before .before .before .before .before .before .before .before .before .before .before .before .before .before .before .before .before .before .before .before .before .before .before .before .before .before .args .sizes) (cellsOfFile (c .before .before .before .before .before .before .before .before .before .before .before .before .before .before .before .before .before .before .before .before .before .before .before .before .before .before .before .before .before .before .before .before .before .before .before .before .before .before .before .args .sizes) (c .before .before .before .before .before .before .before .before .before .before .before .before .before .before .before .before .before .before .before .before .before .before .before .before .before .before .before .before .before .before .loop .out)) (at (c .before .before .before .before .before .before .before .before .before .before .before .before .before .before .before .before .before .before .before .before .before .before .before .before .before .before .before .before .before .before .before .before .before .before .before .before .before .before .before) + c .before .before .before .before .before .before .before .before .before .before .before .before .before .before .before .before .before .before .before .before .before .before .before .before .before .before .before .before .before .before .before .before .before .before .before .before .before .before .before .args .sizes .records) (rulesIn (getD (c .before .before .before .before .before .before .before .before .before .before .before .before .before .before .before .before .before .before .before .before .before .before .before .before .before .before .before .before .before .before .before .before .before .before .before .before .before .before .before .args .program .frames) (c .before .before .before .before .before .before .before .before .before .before .before .before .before .before .before .before .before .before .before .before .before .before .before .before .before .before .before .before .before .before .loop .step) noFrame .rules) (c .before .before .before .before .before .before .before .before .before .before .before .before .before .before .before .before .before .before .before .before .before .before .before .before .before .before .loop2 .rules)) (c .before .before .before .records-test .values) (c .before .before .before .records-test .marks) (c .if2 .values) (c .if2 .marks) (c .if2 .sent)
-delivered c =
-    let b = c .before .before .before .before .before .before .before .before .before .before .before .before .before .before .before .before .before .before .before .before .before .before .before .before .before .before .before .before .before .before .before .before .before .before .before .before .before .before .before in
+-- all rules are done, remote ones too: `w` has what is known behind the call, or that there are none
+done : (c : Joined) → Done (prepared (gatheredOfJoined c)) (c .if2 .values) (c .if2 .marks) (c .if2 .sent)
+done c =
+    let l = locals (c .before) in
     ⊎-elim
-    (λ w. rw (w .8, w .9, w .10) (w .4 .ensures))
-    (λ w. rw (w .1, w .2, w .3) (silent-step (b .args .sizes) (cellsOfFile (b .args .sizes) (c .before .before .before .before .before .before .before .before .before .before .before .before .before .before .before .before .before .before .before .before .before .before .before .before .before .before .before .before .before .before .loop .out)) _ (sym (step-sends (turn (c .before .before .before .before .before .before .before .before .before .before .before .before .before .before .before .before .before .before .before .before .before .before .before .before .before .before .before .before)) (prepared (c .before .before .before .before .before .before .before .before))) ∙ w .0 .left)))
+    (λ w. done-remote l (w .4 .ensures) (w .8) (w .9) (w .10))
+    (λ w. done-local l (w .0 .left) (w .1) (w .2) (w .3))
     (c .if2 .came)
 
-done-same : (c : tie.Joined2 Inv-loop2 μ-loop2 Inv-loop3 μ-loop3 Inv-records μ-records Inv-loop μ-loop) → Same (at (starts (tops (turns (readies c)))) + starts (tops (turns (readies c))) .args .sizes .records) (readies c .gather .last .1 .0) (readies c .gather .last .1 .1 .0) (c .if2 .values) (c .if2 .marks)
-done-same c = turn-same (turn (turns (readies c))) (prepared (readies c)) (locals (c .before)) (delivered c)
+-- The cells are committed to the file.
 
-commit-requires : tie.Need-commit-requires Inv-loop2 μ-loop2 Inv-loop3 μ-loop3 Inv-records μ-records Inv-loop μ-loop
+commit-requires : Of tie.Need-commit-requires
 commit-requires c κs =
-    let b = c .before .before .before .before in
-    (starts (tops (turns (readies b))) .pre .0 .valid .limits, tops (turns (readies b)) .loop .inv .0 .register .whole, room-same (done-same b) (step-room (turn (turns (readies b))) (prepared (readies b))))
+    let j = joined c in
+    let t = turn (turningOfJoined j) in
+    (limits t, out-whole t, room-still (prepared (gatheredOfJoined j)) (done j .same))
 
-enum-known-total : tie.Need-enum-known-total Inv-loop2 μ-loop2 Inv-loop3 μ-loop3 Inv-records μ-records Inv-loop μ-loop
+enum-known-total : Of tie.Need-enum-known-total
 enum-known-total c = search needs
 
-out-of-range-requires-2 : tie.Need-out-of-range-requires-2 Inv-loop2 μ-loop2 Inv-loop3 μ-loop3 Inv-records μ-records Inv-loop μ-loop
+-- A total is out of range.
+
+out-of-range-requires-2 : Of tie.Need-out-of-range-requires-2
 out-of-range-requires-2 c κs = tt
 
-same-length-7 : tie.Need-same-length-7 Inv-loop2 μ-loop2 Inv-loop3 μ-loop3 Inv-records μ-records Inv-loop μ-loop
-same-length-7 c =
-    let b = c .before .before .before .before .before .before .before .before .before .before .before in
-    c .before .before .before .before .before .before .commit .kept .0 ∙ tops (turns (readies b)) .loop .inv .0 .register .whole ∙ sym (starts (tops (turns (readies b))) .pre .0 .whole)
+same-length-7 : Of tie.Need-same-length-7
+same-length-7 c = stopped c .commit .kept .0 ∙ out-length (turn (turningOfJoined (joined (stopped c .before))))
 
-same-length-8 : tie.Need-same-length-8 Inv-loop2 μ-loop2 Inv-loop3 μ-loop3 Inv-records μ-records Inv-loop μ-loop
-same-length-8 c =
-    let b = c .before .before .before .before .before .before .before .before .before .before .before in
-    done-same b .values-length ∙ gathered-lengths (readies b) .0
+same-length-8 : Of tie.Need-same-length-8
+same-length-8 c = let j = joined (stopped c .before) in values-still (gatheredOfJoined j) (done j .same)
 
-same-length-9 : tie.Need-same-length-9 Inv-loop2 μ-loop2 Inv-loop3 μ-loop3 Inv-records μ-records Inv-loop μ-loop
-same-length-9 c =
-    let b = c .before .before .before .before .before .before .before .before .before .before .before in
-    done-same b .marks-length ∙ gathered-lengths (readies b) .1
+same-length-9 : Of tie.Need-same-length-9
+same-length-9 c = let j = joined (stopped c .before) in marks-still (gatheredOfJoined j) (done j .same)
 
-returns-3 : tie.Need-returns-3 Inv-loop2 μ-loop2 Inv-loop3 μ-loop3 Inv-records μ-records Inv-loop μ-loop
-unfolding programOf
+returns-3 : Of tie.Need-returns-3
 returns-3 c =
-    let b = c .before .before .before .before .before .before .before .before .before .before .before in
-    let t = turn (turns (readies b)) in
-    rw (c .out-of-range2 .ensures)
-    (stands-offended (t .stands) (inside t) (later (turns (readies b)))
-    (turn-stops t (prepared (readies b)) (locals (c .before .before .before .before .before .before .before .before .before .before .before .before)) (delivered b) (rw (c .before .before .total .given .1) at (c .before .before .before .before .before .before .commit .ensures))))
+    rw (c .out-of-range2 .ensures) (ends-total (done (joined (stopped c .before))) (stopped c .commit .ensures) (c .before .before .total .given .1))
 
-enum-told-4 : tie.Need-enum-told-4 Inv-loop2 μ-loop2 Inv-loop3 μ-loop3 Inv-records μ-records Inv-loop μ-loop
+enum-told-4 : Of tie.Need-enum-told-4
 enum-told-4 c = search needs
 
--- a step that went through, and where the run stands once the next step is found
-module _ (c : tie.After-enum-told4 Inv-loop2 μ-loop2 Inv-loop3 μ-loop3 Inv-records μ-records Inv-loop μ-loop) where
-  through : GoesThrough (starts (tops (turns (readies (commits c)))) .args .sizes) (direct (starts (tops (turns (readies (commits c)))) .args .sizes) (here (turn (turns (readies (commits c))) .stands) (inside (turn (turns (readies (commits c))))) .rules) (cellsOfFile (starts (tops (turns (readies (commits c)))) .args .sizes) (tops (turns (readies (commits c))) .loop .out))) (here (turn (turns (readies (commits c))) .stands) (inside (turn (turns (readies (commits c))))) .rules) (tops (turns (readies (commits c))) .loop .out) (c .before .before .before .before .commit .last .0) (at (starts (tops (turns (readies (commits c))))) + starts (tops (turns (readies (commits c)))) .args .sizes .records) (commits c .if2 .values) (commits c .if2 .marks) (commits c .if2 .sent)
-  through = turn-through (turn (turns (readies (commits c)))) (prepared (readies (commits c))) (locals (commits c .before)) (delivered (commits c)) (rw (c .enum-told4 .given .1) at (c .before .before .before .before .commit .ensures))
+-- The step went through: it is counted, and the next one found.
 
-  kept : (u : ℕ) → u < starts (tops (turns (readies (commits c)))) .args .sizes .records → Kept (at (starts (tops (turns (readies (commits c))))) + u) (enters (readies (commits c)) .enter .last .1 .0) (enters (readies (commits c)) .enter .last .1 .1 .0) (commits c .if2 .values) (commits c .if2 .marks)
-  kept = column-kept (turn (turns (readies (commits c)))) (prepared (readies (commits c))) (locals (commits c .before)) (delivered (commits c))
+-- the file holds the cells behind the step
+stepped : (c : Through) → Went (prepared (gatheredOfJoined (joinedOfThrough c))) (committed c .commit .last .0)
+    (joinedOfThrough c .if2 .values) (joinedOfThrough c .if2 .marks) (joinedOfThrough c .if2 .sent)
+stepped c = went (done (joinedOfThrough c)) (committed c .commit .ensures) (c .enum-told4 .given .1) (committed c .commit .kept .0)
 
-  room : Behind (starts (tops (turns (readies (commits c)))) .args .sizes) (at (starts (tops (turns (readies (commits c)))))) (commits c .if2 .values) (commits c .if2 .marks)
-  room = behind-turn (turn (turns (readies (commits c)))) (prepared (readies (commits c))) (locals (commits c .before)) (delivered (commits c))
+count-requires : Of tie.Need-count-requires
+count-requires c κs = counts-small (stepped c) (entryOfTurning (turningOfThrough c) .fits .budget .fits)
 
-  in-pass : HasPass (starts (tops (turns (readies (commits c)))) .args .sizes) (getD (starts (tops (turns (readies (commits c)))) .args .program .frames) (tops (turns (readies (commits c))) .loop .step) noFrame .setting) (at (starts (tops (turns (readies (commits c)))))) (commits c .if2 .values)
-  in-pass = passed-column (turn (turns (readies (commits c))) .stands) (inside (turn (turns (readies (commits c))))) (at-step (turn (turns (readies (commits c)))) .setting-is) (entered (enters (readies (commits c)))) kept through
+add-finished : Of tie.Need-add-finished
+add-finished c =
+    let t = turningOfThrough (c .before) in
+    record { fits = omega (arith, turn t .later, entryOfTurning t .fits .budget .fits) }
 
-count-requires : tie.Need-count-requires Inv-loop2 μ-loop2 Inv-loop3 μ-loop3 Inv-records μ-records Inv-loop μ-loop
-count-requires c κs =
-    let t = turn (turns (readies (commits c))) in
-    let p = prepared (readies (commits c)) in
-    let few = t .stands .few in
-    let budget = starts (tops (turns (readies (commits c)))) .fits .budget .fits in
-    (omega (arith, few .exchanges≤, later (turns (readies (commits c)))), omega (arith, few .messages≤, later (turns (readies (commits c)))), omega (arith, p .gathered .few-exchanges), omega (arith, lines-few t p), omega (arith, writes-turn t p _ (through c .sent-is)))
-
-add-finished : tie.Need-add-finished Inv-loop2 μ-loop2 Inv-loop3 μ-loop3 Inv-records μ-records Inv-loop μ-loop
-add-finished c = record { fits = omega (arith, later (turns (readies (commits (c .before)))), starts (tops (turns (readies (commits (c .before))))) .fits .budget .fits) }
-
-next-requires : tie.Need-next-requires Inv-loop2 μ-loop2 Inv-loop3 μ-loop3 Inv-records μ-records Inv-loop μ-loop
+next-requires : Of tie.Need-next-requires
 next-requires c κs =
-    let b = c .before .before .before .before in
-    let r = room b in (
-      starts (tops (turns (readies (commits b)))) .pre .0 .valid .limits,
-      c .before .before .before .before .before .before .before .before .commit .kept .0 ∙ tops (turns (readies (commits b))) .loop .inv .0 .register .whole,
-      setting-passes (turn (turns (readies (commits b)))),
-      record { values-room = omega (arith, r .values-room); marks-room = omega (arith, r .marks-room) },
-      in-pass b,
-      omega (arith, few-steps (starts (tops (turns (readies (commits b))))), turns (readies (commits b)) .before .loop-test .taken),
-    )
+    let t = turn (turningOfThrough (through c)) in
+    let w = stepped (through c) in
+    (limits t, next-whole w, setting-passes t, next-space w, next-pass w, few-steps t)
 
-loop-less : tie.Need-loop-less Inv-loop2 μ-loop2 Inv-loop3 μ-loop3 Inv-records μ-records Inv-loop μ-loop
-loop-less c = omega (arith, later (turns (readies (commits (c .before .before .before .before .before)))))
+loop-less : Of tie.Need-loop-less
+loop-less c = nearer (turn (turningOfThrough (through (c .before))) .later)
 
-loop-again : tie.Need-loop-again Inv-loop2 μ-loop2 Inv-loop3 μ-loop3 Inv-records μ-records Inv-loop μ-loop
+loop-again : Of tie.Need-loop-again
 unfolding programOf
 loop-again c =
-    let b = c .before .before .before .before .before in
-    let d = c .before .before .before .before in
-    let t = turn (turns (readies (commits b))) in
-    let p = prepared (readies (commits b)) in
-    let e = b in
-    let went = through e in (
-      stands-next (t .stands) (inside t) (at-step t .setting-is) (entered (enters (readies (commits b)))) (kept e) went (later (turns (readies (commits b)))) (starts (tops (turns (readies (commits b)))) .pre .3)
-          (c .before .before .before .before .before .before .before .before .before .commit .kept .0) (room e) (enters (readies (commits b)) .enter .ensures .0) (c .next .ensures) (omega arith) (counts-turn t p (went .sent-is) (d .count .ensures)) (few-turn t p (went .sent-is) (d .count .ensures)),
-      locates (enters (readies (commits b))) .loop2 .inv .1,
-      done-same (commits b) .values-length ∙ gathered-lengths (readies (commits b)) .0,
-      done-same (commits b) .marks-length ∙ gathered-lengths (readies (commits b)) .1,
+    let b = through (c .before) in
+    let g = gatheredOfJoined (joinedOfThrough b) in
+    let same = done (joinedOfThrough b) .same in (
+      next-stands (stepped b) (entered (g .before) .enter .ensures .0) (c .next .ensures) (omega arith) (counted (c .before) .count .ensures),
+      taking g .loop2 .inv .length-is,
+      values-still g same,
+      marks-still g same,
     )
 
-ended-requires-2 : tie.Need-ended-requires-2 Inv-loop2 μ-loop2 Inv-loop3 μ-loop3 Inv-records μ-records Inv-loop μ-loop
+-- No step is left.
+
+ended-requires-2 : Of tie.Need-ended-requires-2
 ended-requires-2 c κs = tt
 
-same-length-10 : tie.Need-same-length-10 Inv-loop2 μ-loop2 Inv-loop3 μ-loop3 Inv-records μ-records Inv-loop μ-loop
-same-length-10 c = c .before .before .loop .inv .0 .register .whole ∙ sym (starts (c .before .before) .pre .0 .whole)
+same-length-10 : Of tie.Need-same-length-10
+same-length-10 c = let t = c .before .before in t .loop .inv .0 .register .whole ∙ sym (entryOfTop t .pre .0 .whole)
 
-same-length-11 : tie.Need-same-length-11 Inv-loop2 μ-loop2 Inv-loop3 μ-loop3 Inv-records μ-records Inv-loop μ-loop
+same-length-11 : Of tie.Need-same-length-11
 same-length-11 c = c .before .before .loop .inv .2
 
-same-length-12 : tie.Need-same-length-12 Inv-loop2 μ-loop2 Inv-loop3 μ-loop3 Inv-records μ-records Inv-loop μ-loop
+same-length-12 : Of tie.Need-same-length-12
 same-length-12 c = c .before .before .loop .inv .3
 
-returns-4 : tie.Need-returns-4 Inv-loop2 μ-loop2 Inv-loop3 μ-loop3 Inv-records μ-records Inv-loop μ-loop
+returns-4 : Of tie.Need-returns-4
 unfolding programOf
-returns-4 c = rw (c .ended2 .ensures) (stands-complete (c .before .before .loop .inv .0) (omega (arith, c .before .loop-test .left, starts (c .before .before) .pre .2 .steps-are)))
+returns-4 c =
+    let t = c .before .before in
+    rw (c .ended2 .ensures) (stands-complete (t .loop .inv .0) (omega (arith, c .before .loop-test .left, entryOfTop t .pre .2 .steps-are)))
 
 pub run-steps-spec : {M : Type 1} → statement M
 run-steps-spec =
     tie.close
     (tie.spec
-    Inv-loop2
-    μ-loop2
-    Inv-loop3
-    μ-loop3
-    Inv-records
-    μ-records
-    Inv-loop
-    μ-loop
-    mul-at
-    add-base
-    array-copy-out-rules
-    loop-holds
-    ended-requires
-    same-length
-    same-length-2
-    same-length-3
-    returns
-    mul-frame
-    array-copy-out-frame
-    loop2-holds
-    mul-rules
-    add-rules
-    mul-rules-2
-    array-copy-out-rules-2
-    mul-rules-3
-    array-set-from-rules
-    add-k
-    loop2-less
-    loop2-again
-    enter-requires
-    gather-requires
-    records-holds
-    loop3-holds
-    mul-apply-rule
-    array-copy-out-apply-rule
-    apply-rule-requires
-    enum-told
-    enum-told-2
-    add-k-2
-    loop3-less
-    loop3-again
-    add-u
-    records-less
-    records-again
-    enum-known-stop
-    out-of-range-requires
-    same-length-4
-    same-length-5
-    same-length-6
-    returns-2
-    enum-told-3
-    apply-requires
-    commit-requires
-    enum-known-total
-    out-of-range-requires-2
-    same-length-7
-    same-length-8
-    same-length-9
-    returns-3
-    enum-told-4
-    count-requires
-    add-finished
-    next-requires
-    loop-less
-    loop-again
-    ended-requires-2
-    same-length-10
-    same-length-11
-    same-length-12
-    returns-4)
+    Inv-loop2 μ-loop2 Inv-loop3 μ-loop3 Inv-records μ-records Inv-loop μ-loop mul-at add-base array-copy-out-rules loop-holds
+    ended-requires same-length same-length-2 same-length-3 returns mul-frame array-copy-out-frame loop2-holds mul-rules add-rules
+    mul-rules-2 array-copy-out-rules-2 mul-rules-3 array-set-from-rules add-k loop2-less loop2-again enter-requires
+    gather-requires records-holds loop3-holds mul-apply-rule array-copy-out-apply-rule apply-rule-requires enum-told enum-told-2
+    add-k-2 loop3-less loop3-again add-u records-less records-again enum-known-stop out-of-range-requires same-length-4
+    same-length-5 same-length-6 returns-2 enum-told-3 apply-requires commit-requires enum-known-total out-of-range-requires-2
+    same-length-7 same-length-8 same-length-9 returns-3 enum-told-4 count-requires add-finished next-requires loop-less loop-again
+    ended-requires-2 same-length-10 same-length-11 same-length-12 returns-4)

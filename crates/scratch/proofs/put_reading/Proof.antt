@@ -16,8 +16,8 @@ use Rattle.scratch.proofs.put_reading.Tie as tie
 enum-told : tie.Need-enum-told
 enum-told c = search needs
 
-put-requires : tie.Need-put-requires
-put-requires c κs = search needs
+clear-requires : tie.Need-clear-requires
+clear-requires c κs = search needs
 
 enum-known-reading : tie.Need-enum-known-reading
 enum-known-reading c = search needs
@@ -25,8 +25,8 @@ enum-known-reading c = search needs
 widen-requires : tie.Need-widen-requires
 widen-requires c κs = search needs
 
-put-requires-2 : tie.Need-put-requires-2
-put-requires-2 c κs = search needs
+put-requires : tie.Need-put-requires
+put-requires c κs = search needs
 
 same-length : tie.Need-same-length
 same-length c = search needs
@@ -38,7 +38,7 @@ returns : tie.Need-returns
 unfolding readingValue readingMark
 returns c =
     let p = c .before .before .before in
-    rw (p .before .before .before .enum-told .given .1) (p .put .ensures .0, p .put .ensures .1, record { sfits = omega arith })
+    rw (p .before .before .before .enum-told .given .1) (p .clear .ensures .0, p .clear .ensures .1, record { sfits = omega arith })
 
 same-length-3 : tie.Need-same-length-3
 same-length-3 c = search needs
@@ -53,17 +53,17 @@ returns-2 c =
     let v = p .before .before .before .before in
     let a = v .before .before .before .before .args in
     let z = toZ-ofZ {w = w64} (record { sfits = p .before .widen .ok }) ∙ p .before .widen .ensures ∙ kept (v .before .reading .given .0 .0) (v .known-told .given .0 .1) in
-    rw (v .before .reading .given .1) (p .put2 .ensures .0 ∙ ap (set (now (a .values)) (a .j)) z, p .put2 .ensures .1, record { sfits = v .known-told .given .0 .1 })
+    rw (v .before .reading .given .1) (p .put .ensures .0 ∙ ap (set (now (a .values)) (a .j)) z, p .put .ensures .1, record { sfits = v .known-told .given .0 .1 })
 
 pub put-reading-spec : {M : Type 1} → statement M
 put-reading-spec =
     tie.close
     (tie.spec
     enum-told
-    put-requires
+    clear-requires
     enum-known-reading
     widen-requires
-    put-requires-2
+    put-requires
     same-length
     same-length-2
     returns

@@ -10,12 +10,13 @@ use lib.ListN.{getD}
 use lib.Signed.{ltZ}
 use mir.Syntax.{w32, w64}
 use mir.Facts.{toZ-ofZ}
-use Rattle.register.specs.Cells.{valueOf}
 use Rattle.register.specs.declared.cells.Cell.the-variants.{Value}
 use Rattle.machine.specs.Remote.{merged}
 use Rattle.program.specs.declared.rule.Sort.the-variants.{Least}
+use Rattle.chain.specs.declared.reading.Reading.the-variants as Reading
 use Rattle.scratch.specs.Places.{storedAt}
-use Rattle.step_cells.proofs.Working.{put-stored}
+use Rattle.machine.specs.Local.{storedCell}
+use Rattle.step_cells.proofs.Working.{put-read}
 use Rattle.step_cells.proofs.Merging.{least-missing, least-smaller, least-kept}
 use Rattle.step_cells.proofs.keep_least.Statement.{statement}
 use Rattle.step_cells.proofs.keep_least.Tie as tie
@@ -55,8 +56,8 @@ is-below-requires c κs = search needs
 returns : tie.Need-returns
 returns c = least-kept _ _ _ _ (c .before .before .before .if1 .taken) (sym (compared (c .before)) ∙ not-true _ (c .if2 .taken))
 
-put-cell-requires : tie.Need-put-cell-requires
-put-cell-requires c κs = search needs
+put-reading-requires : tie.Need-put-reading-requires
+put-reading-requires c κs = search needs
 
 same-length : tie.Need-same-length
 same-length c = search needs
@@ -65,12 +66,12 @@ same-length-2 : tie.Need-same-length-2
 same-length-2 c = search needs
 
 returns-2 : tie.Need-returns-2
-unfolding valueOf
+unfolding storedCell
 returns-2 c =
     let p = c .before .before .before in
     let j = p .before .before .before in
-    let e = p .put-cell .ensures in
-    rw (stored j, ← toZ-ofZ {w = w32} (j .before .before .before .fits .amount)) (put-stored (e .0) (e .1))
+    let e = p .put-reading .ensures in
+    rw (stored j, ← toZ-ofZ {w = w32} (j .before .before .before .fits .amount)) (put-read (Reading.Value _) (e .0) (e .1))
 
 pub keep-least-spec : {M : Type 1} → statement M
 keep-least-spec =
@@ -81,7 +82,7 @@ keep-least-spec =
     slice-copy-out-is-below
     is-below-requires
     returns
-    put-cell-requires
+    put-reading-requires
     same-length
     same-length-2
     returns-2)

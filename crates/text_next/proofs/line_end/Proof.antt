@@ -6,7 +6,7 @@ use mathlib.Core.Bool.{true}
 use native.Mathlib.Omega.{arith}
 use lib.ListN.{length, drop}
 use denote.Ref.{now}
-use Rattle.text_next.specs.Front.{goesOn}
+use Rattle.text_next.specs.Front.{lineGoesOn}
 use Rattle.text_forms.proofs.Spans.{Onward, onward-more, onward-end, starts-inside}
 use Rattle.text_rules.specs.Text.{isWithin}
 use Rattle.text_next.proofs.line_end.Statement.{statement}
@@ -19,7 +19,7 @@ abbrev μ-loop : tie.MeasureT-loop
 μ-loop text at i₀ i = length text - i
 
 -- the loop's test, and that it looks inside the text
-on : (c : tie.Then1 Inv-loop μ-loop) → goesOn (drop (c .before .before .loop .i) (now (c .before .before .before .before .args .text))) ≡ true
+on : (c : tie.Then1 Inv-loop μ-loop) → lineGoesOn (drop (c .before .before .loop .i) (now (c .before .before .before .before .args .text))) ≡ true
 on c = sym (c .before .goes-on .ensures) ∙ c .if1 .taken
 
 inside : (c : tie.Then1 Inv-loop μ-loop) → c .before .before .loop .i < length (now (c .before .before .before .before .args .text))

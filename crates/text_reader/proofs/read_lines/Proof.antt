@@ -10,12 +10,10 @@ use Rattle.register.specs.Shape.{Limits}
 use Rattle.register.specs.declared.Sizes.{Sizes}
 use Rattle.laws.specs.Outcome.{refused}
 use Rattle.text_rules.specs.Text.{advance}
-use Rattle.plan_lines.specs.Held.{facts}
-use Rattle.program.specs.declared.rule.Slot.{Slot}
-use Rattle.program.specs.Location.{slotChains, locationsIn}
-use Rattle.text_plan.specs.Readings.{words, Short, PlannedWith}
+use Rattle.program.specs.Location.{slotChains}
+use Rattle.text_plan.specs.Readings.{words, Short, addedOf}
 use Rattle.text_state.specs.State.{advanceOf}
-use Rattle.text_reader.proofs.Opening.{open-same}
+use Rattle.text_reader.proofs.Opening.{none-held}
 use Rattle.text_reader.proofs.Arms.{Behind}
 use Rattle.text_reader.proofs.Reading.{Read, Passes, passes, stopped, small, again, arm-step, arm-loop, arm-none, arm-end-steps, arm-end, arm-done-steps, arm-done, arm-steps, arm-rules, arm-short, arm-rule, answer-refused, answer-read, begun}
 use Rattle.text_refusals.proofs.Refusals.{or-first, or-none}
@@ -24,11 +22,11 @@ use Rattle.text_reader.proofs.read_lines.Statement.{statement}
 use Rattle.text_reader.proofs.read_lines.Tie as tie
 
 abbrev Inv-loop : tie.InvT-loop
-Inv-loop text sizes slots₀ frames₀ state₀ planned₀ wanted₀ at₀ line₀ refusal₀ slots frames state planned wanted at line refusal =
-    Read sizes text planned wanted slots frames state at line × (refusal ≡ 0)
+Inv-loop text sizes slots₀ frames₀ state₀ keys₀ rounds₀ backs₀ reads₀ count₀ full₀ wanted₀ at₀ line₀ refusal₀ slots frames state keys rounds backs reads count full wanted at line refusal =
+    Read sizes text (addedOf keys rounds backs reads count full) wanted slots frames state at line × (refusal ≡ 0)
 
 abbrev μ-loop : tie.MeasureT-loop
-μ-loop text sizes slots₀ frames₀ state₀ planned₀ wanted₀ at₀ line₀ refusal₀ slots frames state planned wanted at line refusal =
+μ-loop text sizes slots₀ frames₀ state₀ keys₀ rounds₀ backs₀ reads₀ count₀ full₀ wanted₀ at₀ line₀ refusal₀ slots frames state keys rounds backs reads count full wanted at line refusal =
     length text - at
 
 -- a line that has passed: the loop's state, what it begins with, and its arms' laws
@@ -36,7 +34,7 @@ abbrev so-far : (c : tie.Else1 Inv-loop μ-loop) → tie.At-loop Inv-loop μ-loo
 so-far c = c .before .before .before .before .before
 
 abbrev entry : (c : tie.Else1 Inv-loop μ-loop) → tie.Start Inv-loop μ-loop
-entry c = so-far c .before .before .before .before .before .before
+entry c = so-far c .before .before .before .before .before
 
 abbrev sizes : (c : tie.Else1 Inv-loop μ-loop) → Sizes
 sizes c = entry c .args .sizes
@@ -49,31 +47,15 @@ passed c =
     passes (sizes c) (limits c) (so-far c .loop .inv .0) (c .before .before .read-first .result)
     (c .before .before .before .before .loop-test .taken) (c .before .before .read-first .ensures) (sym (c .before .refusal .ensures) ∙ c .if1 .left)
 
--- a rule's line, from where it was located first
-abbrev rule-line : (c : tie.After-locate-arg Inv-loop μ-loop) → tie.After-read Inv-loop μ-loop
-rule-line c = c .before .before .before
+-- a rule's line, from where its readings are added
+abbrev rule-line : (c : tie.After-full Inv-loop μ-loop) → tie.After-read Inv-loop μ-loop
+rule-line c = c .before .before .before .before .before .before .before
 
-abbrev rule-from : (c : tie.After-locate-arg Inv-loop μ-loop) → tie.Else1 Inv-loop μ-loop
+abbrev rule-from : (c : tie.After-full Inv-loop μ-loop) → tie.Else1 Inv-loop μ-loop
 rule-from c = rule-line c .before .before
 
-abbrev slot : (c : tie.After-locate-arg Inv-loop μ-loop) → Slot
-slot c = rule-line c .read .given .0 .0
-
-rule-short : (c : tie.After-locate-arg Inv-loop μ-loop) → Short (words (slotChains (slot c)))
+rule-short : (c : tie.After-full Inv-loop μ-loop) → Short (words (slotChains (rule-line c .read .given .0 .0)))
 rule-short c = arm-short (passed (rule-from c)) 0 (rule-line c .read .given .1)
-
--- the plan has its readings, and it is located there, whether the plan has grown or not
-rule-located : (c : tie.Joined2 Inv-loop μ-loop)
-    → let l = c .before .before .before in
-    PlannedWith (so-far (rule-from l) .loop .planned) (words (slotChains (slot l))) (c .if2 .planned)
-    × (c .if2 .found ≡ locationsIn (facts (c .if2 .planned .plan)) (slotChains (slot l)))
-rule-located c =
-    let l = c .before .before .before in
-    let q = so-far (rule-from l) .loop .inv .0 in
-    let first = c .before .before .locate .ensures in
-    ⊎-elim (λ w. rw (w .5, w .6) (w .1 .ensures, w .4 .ensures))
-    (λ w. rw (w .1, w .2) (open-same (q .behind .opened) (slot l) (rw first at (sym (c .before .adds-lines .ensures) ∙ w .0 .left)), first))
-    (c .if2 .came)
 
 -- where a rule goes
 place-below : (c : tie.After-place Inv-loop μ-loop) → c .place .result < 1024
@@ -96,31 +78,27 @@ done-below c = let d = c .before .before in small (so-far d .loop .inv .0) .0
 -- the arrays and the open step where the arms meet
 joined : (c : tie.At-match-came Inv-loop μ-loop)
     → let d = c .before in
-    Behind (c .match .slots) (c .match .frames) (c .match .planned) (c .match .wanted)
-    (advanceOf (so-far d .loop .state) (so-far d .loop .planned .plan .count) (d .before .before .read-first .result))
+    let m = c .match in
+    Behind (m .slots) (m .frames) (addedOf (m .keys) (m .rounds) (m .backs) (m .reads) (m .count) (m .full)) (m .wanted)
+    (advanceOf (so-far d .loop .state) (so-far d .loop .count) (d .before .before .read-first .result))
     (advance (so-far d .loop .inv .0 .state) (passed d .form))
 joined c =
     let d = c .before in
-    let n = so-far d .loop .planned .plan .count in
-    ⊎-elim (λ w.
-    let told : tie.After-known-told Inv-loop μ-loop =
-    record { before = record { before = record { before = d; match = w .0 }; read = w .1 }; known-told = w .2 } in
-    let first : tie.After-locate Inv-loop μ-loop =
-    record { before = record { before = record { before = told; planned = w .3 }; locate-arg = w .4 }; locate = w .5 } in
-    let (planned, located) = rule-located (record { before = record { before = first; adds-lines = w .6 }; if2 = w .7 }) in
-    rw (w .11, w .12, w .13, w .14, w .10 .ensures, w .9 .ensures) (arm-rule (passed d) n (w .1 .given .1) planned located))
-    (⊎-elim (λ w. rw (w .5, w .6, w .7, w .8, w .3 .ensures) (arm-end (passed d) n (w .1 .given .1) (w .4 .ensures) refl))
-    (⊎-elim (λ w. rw (w .4, w .5, w .6, w .7, w .3 .ensures) (arm-done (passed d) n (w .1 .given .1) _))
-    (⊎-elim (λ w. rw (w .2, w .3, w .4, w .5) (arm-step (passed d) n (w .1 .given .1)))
-    (⊎-elim (λ w. rw (w .2, w .3, w .4, w .5) (arm-loop (passed d) n (w .1 .given .1)))
+    let n = so-far d .loop .count in
+    ⊎-elim (λ w. rw (w .15, w .16, w .17, w .18, w .19, w .20, w .21, w .22, w .23, w .14 .ensures, w .13 .ensures)
+    (arm-rule (passed d) n (w .1 .given .1) (w .9 .ensures) (w .11 .ensures)))
+    (⊎-elim (λ w. rw (w .3, w .4, w .5, w .6, w .7, w .8, w .9, w .10, w .11, w .2 .ensures) (arm-end (passed d) n (w .1 .given .1) refl))
+    (⊎-elim (λ w. rw (w .4, w .5, w .6, w .7, w .8, w .9, w .10, w .11, w .12, w .3 .ensures) (arm-done (passed d) n (w .1 .given .1) _))
+    (⊎-elim (λ w. rw (w .2, w .3, w .4, w .5, w .6, w .7, w .8, w .9, w .10) (arm-step (passed d) n (w .1 .given .1)))
+    (⊎-elim (λ w. rw (w .2, w .3, w .4, w .5, w .6, w .7, w .8, w .9, w .10) (arm-loop (passed d) n (w .1 .given .1)))
     (λ w. arm-none (passed d) n (w .1 .given .1))))))
     (c .match .came)
 
 -- and the line is still what was read
 read-same : (c : tie.At-match-came Inv-loop μ-loop) → c .match .read ≡ c .before .before .before .read-first .result
 read-same c =
-    ⊎-elim (λ w. w .15 ∙ sym (w .1 .given .1))
-    (⊎-elim (λ w. w .9) (⊎-elim (λ w. w .8) (⊎-elim (λ w. w .6) (⊎-elim (λ w. w .6) (λ w. w .6)))))
+    ⊎-elim (λ w. w .24 ∙ sym (w .1 .given .1))
+    (⊎-elim (λ w. w .12) (⊎-elim (λ w. w .13) (⊎-elim (λ w. w .11) (⊎-elim (λ w. w .11) (λ w. w .11)))))
     (c .match .came)
 
 empty-slot-requires : tie.Need-empty-slot-requires Inv-loop μ-loop
@@ -132,17 +110,14 @@ empty-frame-requires c κs = tt
 start-requires : tie.Need-start-requires Inv-loop μ-loop
 start-requires c κs = tt
 
-no-lines-requires : tie.Need-no-lines-requires Inv-loop μ-loop
-no-lines-requires c κs = tt
-
 loop-holds : tie.Need-loop-holds Inv-loop μ-loop
-loop-holds c = (begun _ _ (c .no-lines .ensures) refl refl refl (c .before .start .ensures), refl)
+loop-holds c = (begun _ _ (refl, none-held refl refl refl refl) refl refl refl (c .start .ensures), refl)
 
 line-end-requires : tie.Need-line-end-requires Inv-loop μ-loop
 line-end-requires c κs = c .before .loop .inv .0 .within
 
 read-first-requires : tie.Need-read-first-requires Inv-loop μ-loop
-read-first-requires c κs = (c .before .before .before .before .before .before .before .before .pre .0, c .before .loop-test .taken, c .line-end .ensures)
+read-first-requires c κs = (c .before .before .before .before .before .before .before .pre .0, c .before .loop-test .taken, c .line-end .ensures)
 
 refusal-requires : tie.Need-refusal-requires Inv-loop μ-loop
 refusal-requires c κs = tt
@@ -150,23 +125,14 @@ refusal-requires c κs = tt
 enum-known-read : tie.Need-enum-known-read Inv-loop μ-loop
 enum-known-read c = search needs
 
+add-rule-requires : tie.Need-add-rule-requires Inv-loop μ-loop
+add-rule-requires c κs = (so-far (rule-from c) .loop .inv .0 .behind .opened .sound, rule-short c)
+
 locate-requires : tie.Need-locate-requires Inv-loop μ-loop
-locate-requires c κs = let q = so-far (rule-from c) .loop .inv .0 in (q .behind .opened .sound .keyed, rule-short c)
-
-adds-lines-requires : tie.Need-adds-lines-requires Inv-loop μ-loop
-adds-lines-requires c κs = tt
-
-with-rule-requires : tie.Need-with-rule-requires Inv-loop μ-loop
-with-rule-requires c κs =
-    let l = c .before .before .before in
-    let q = so-far (rule-from l) .loop .inv .0 in
-    (q .behind .opened .sound, rule-short l)
-
-locate-requires-2 : tie.Need-locate-requires-2 Inv-loop μ-loop
-locate-requires-2 c κs = (c .before .before .with-rule .ensures .sound .keyed, rule-short (c .before .before .before .before .before .before))
+locate-requires c κs = (c .before .add-rule .ensures .sound .keyed, rule-short (c .before .before))
 
 mark-wanted-requires : tie.Need-mark-wanted-requires Inv-loop μ-loop
-mark-wanted-requires c κs = let q = so-far (rule-from (c .before .before .before .before)) .loop .inv .0 in q .behind .opened .marks
+mark-wanted-requires c κs = so-far (rule-from (c .before .before .before .before)) .loop .inv .0 .behind .opened .marks
 
 place-requires : tie.Need-place-requires Inv-loop μ-loop
 place-requires c κs = small (so-far (rule-from (c .before .before .before .before .before)) .loop .inv .0)
@@ -184,13 +150,10 @@ open-frame-requires : tie.Need-open-frame-requires Inv-loop μ-loop
 open-frame-requires c κs = tt
 
 mul-frames : tie.Need-mul-frames Inv-loop μ-loop
-mul-frames c = record { fits = omega (arith, end-below (c .before .before)) }
+mul-frames c = record { fits = omega (arith, end-below (c .before)) }
 
 array-set-from-frames : tie.Need-array-set-from-frames Inv-loop μ-loop
-array-set-from-frames c = end-below (c .before .before)
-
-no-lines-requires-2 : tie.Need-no-lines-requires-2 Inv-loop μ-loop
-no-lines-requires-2 c κs = tt
+array-set-from-frames c = end-below (c .before)
 
 enum-told-2 : tie.Need-enum-told-2 Inv-loop μ-loop
 enum-told-2 c = search needs
@@ -248,8 +211,8 @@ refusal-or-last-requires c κs = tt
 returns : tie.Need-returns Inv-loop μ-loop
 returns c =
     let l = c .before .before in
-    let s = l .before .before .before .before .before .before .args .sizes in
-    let lim = l .before .before .before .before .before .before .pre .0 in
+    let s = l .before .before .before .before .before .args .sizes in
+    let lim = l .before .before .before .before .before .pre .0 in
     ⊎-elim (λ w. rw (c .refusal-or-last .ensures, w .1, l .loop .inv .1, or-none 0 _ refl) (answer-read (l .loop .inv .0) (w .0 .left)))
     (λ w.
     let stop = stopped s lim (l .loop .inv .0) (w .2 .result) (w .0 .taken) (w .2 .ensures) (λ z. w .4 .taken (w .3 .ensures ∙ z)) in
@@ -266,16 +229,13 @@ read-lines-spec =
     empty-slot-requires
     empty-frame-requires
     start-requires
-    no-lines-requires
     loop-holds
     line-end-requires
     read-first-requires
     refusal-requires
     enum-known-read
+    add-rule-requires
     locate-requires
-    adds-lines-requires
-    with-rule-requires
-    locate-requires-2
     mark-wanted-requires
     place-requires
     mul-slots
@@ -284,7 +244,6 @@ read-lines-spec =
     open-frame-requires
     mul-frames
     array-set-from-frames
-    no-lines-requires-2
     enum-told-2
     sub-last-frame
     mul-last-frame

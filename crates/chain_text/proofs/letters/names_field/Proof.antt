@@ -6,8 +6,14 @@ use Rattle.chain_text.specs.Text.{isReferenceLetter, names}
 use Rattle.chain_text.proofs.letters.names_field.Statement.{statement}
 use Rattle.chain_text.proofs.letters.names_field.Tie as tie
 
+cast-result : tie.Need-cast-result
+cast-result c = search needs
+
 add-result : tie.Need-add-result
 add-result c = search needs
+
+cast-result-2 : tie.Need-cast-result-2
+cast-result-2 c = search needs
 
 add-result-2 : tie.Need-add-result-2
 add-result-2 c = search needs
@@ -21,4 +27,5 @@ unfolding names isReferenceLetter
 returns-2 c = simp (le-ltb _ 77 (c .before .if1 .left))
 
 pub names-field-spec : {M : Type 1} → statement M
-names-field-spec = tie.close (tie.spec add-result add-result-2 returns returns-2)
+names-field-spec =
+    tie.close (tie.spec cast-result add-result cast-result-2 add-result-2 returns returns-2)

@@ -15,12 +15,12 @@ index-of-requires-2 c κs = search needs
 round-after-requires : tie.Need-round-after-requires
 round-after-requires c κs =
     let q = c .before .before .pre in
-    (q .1 .places, rw (c .before .index-of .ensures) (back-round< (q .1) (q .2)), rw (c .index-of2 .ensures) (read-round< (q .1) (q .2)))
+    (q .2 .places, rw (c .before .index-of .ensures) (back-round< (q .2) (q .3)), rw (c .index-of2 .ensures) (read-round< (q .2) (q .3)))
 
 returns : tie.Need-returns
 returns c =
     let q = c .before .before .before .pre in
-    (refl, line-both (q .1) (q .2) (c .before .before .index-of .ensures) (c .before .index-of2 .ensures) (c .round-after .ensures))
+    (refl, line-both (q .2) (q .3) (c .before .before .index-of .ensures) (c .before .index-of2 .ensures) (c .round-after .ensures))
 
 pub line-after-spec : {M : Type 1} → statement M
 line-after-spec =

@@ -26,7 +26,7 @@ enum-known-rule c = search needs
 term-value-requires : tie.Need-term-value-requires
 term-value-requires c κs =
     let r = c .before in
-    let p = r .before .before .before .before .before .before .before .before .before .before .before .pre in
+    let p = r .before .before .before .before .before .before .before .before .before .before .before .before .pre in
     (p .0, p .1, rw (r .rule .given .1) at (p .2 .rule))
 
 write-reading-requires : tie.Need-write-reading-requires
@@ -38,7 +38,7 @@ enum-known-rule-2 c = search needs
 combine-requires : tie.Need-combine-requires
 combine-requires c κs =
     let r = c .before in
-    let p = r .before .before .before .before .before .before .before .before .before .before .before .pre in
+    let p = r .before .before .before .before .before .before .before .before .before .before .before .before .pre in
     (p .0, p .1, rw (r .rule2 .given .1) at (p .2 .rule))
 
 enum-told : tie.Need-enum-told

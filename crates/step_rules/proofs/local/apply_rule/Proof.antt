@@ -7,21 +7,20 @@ use Prim.Native.Nat.{ℕ}
 use native.Mathlib.Omega.{arith}
 use denote.Ref.{now}
 use lib.Seq.{length-take-le}
-use mir.Syntax.{w64}
-use mir.Facts.{toZ-ofZ}
 use Rattle.integers.proofs.Complement.{kept}
-use Rattle.register.specs.Cells.{valueOf, cellOf}
+use Rattle.register.specs.Cells.{valueOf}
 use Rattle.register.specs.File.{cellsOfFile}
 use Rattle.register.specs.declared.cells.Cell.{Cell}
 use Rattle.register.specs.declared.cells.Cell.the-variants.{Missing, Value}
 use Rattle.register.proofs.Loading.{file-parts}
 use Rattle.chain.specs.declared.reading.Reading.{Reading}
-use Rattle.chain.specs.Word.{hasField}
+use Rattle.chain.specs.Word.{column, hasField}
 use Rattle.chain.proofs.Fields.{field-below}
 use Rattle.program.specs.Program.{Rule, targetField}
 use Rattle.program.specs.Stored.{ruleIn}
 use Rattle.step_terms.specs.Found.{followed}
 use Rattle.step_effects.specs.Answers.{cellWrite, writeOf}
+use Rattle.machine.specs.Local.{storedCell}
 use Rattle.step_rules.proofs.Locals.{rule-idles, rule-offends, rule-stores, stores-field, offends-field}
 use borrow.Author.Needs.{needs}
 use Rattle.step_rules.proofs.local.apply_rule.Statement.{statement}
@@ -96,13 +95,10 @@ store-requires c κs =
 enum-known-field-2 : tie.Need-enum-known-field-2
 enum-known-field-2 c = search needs
 
-widen-requires : tie.Need-widen-requires
-widen-requires c κs = search needs
-
 store-requires-2 : tie.Need-store-requires-2
 unfolding cellWrite
 store-requires-2 c κs =
-    let f = c .before .before .before .before in
+    let f = c .before .before .before in
     let w = f .before .before in
     let s = start w in
     (s .pre .0 .0, s .pre .0 .2, stores-field _ _ _ _ (field s) _ (Value _) (wrote w ∙ f .field2 .given .1), s .pre .0 .3)
@@ -136,7 +132,7 @@ same-length-4 : tie.Need-same-length-4
 same-length-4 c = search needs
 
 returns-2 : tie.Need-returns-2
-unfolding ruleIn cellWrite cellOf valueOf
+unfolding ruleIn cellWrite valueOf column storedCell
 returns-2 c =
     let stored = c .before .before .before in
     let f = stored .before .before .before .before in
@@ -152,19 +148,17 @@ same-length-6 : tie.Need-same-length-6
 same-length-6 c = search needs
 
 returns-3 : tie.Need-returns-3
-unfolding ruleIn cellWrite cellOf valueOf
+unfolding ruleIn cellWrite valueOf storedCell
 returns-3 c =
     let stored = c .before .before .before in
-    let widened = stored .before .before .before in
-    let f = widened .before .before in
+    let f = stored .before .before .before .before in
     let w = f .before .before in
     let s = start w in
     let p = s .pre .0 in
     let z = f .field2 .given .0 .1 .0 in
-    let fits = widened .before .known-told2 .given .1 .0 .1 in
-    let wide = toZ-ofZ {w = w64} (record { sfits = widened .widen .ok }) ∙ widened .widen .ensures ∙ kept z fits in
+    let fits = stored .before .before .before .known-told2 .given .1 .0 .1 in
     rule-stores _ _ _ _ _ _ _ _ (Value z) (wrote w ∙ f .field2 .given .1) (p .0) (p .2) (field s) (p .3)
-    (rw wide at (stored .store2 .ensures)) (record { sfits = fits })
+    (rw (kept z fits) at (stored .store2 .ensures)) (record { sfits = fits })
 
 same-length-7 : tie.Need-same-length-7
 same-length-7 c = search needs
@@ -193,7 +187,6 @@ apply-rule-spec =
     enum-known-field
     store-requires
     enum-known-field-2
-    widen-requires
     store-requires-2
     enum-known-field-3
     column-requires

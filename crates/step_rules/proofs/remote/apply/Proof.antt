@@ -66,14 +66,8 @@ apply-rule-requires c κs =
     let ready = ready-at (s .args .t6) _ _ (omega (arith, q .3, q .4)) (c .before .before .before .loop2-test .taken) (s .pre .1 .0) in
     rw (part .before .values-part .ensures, part .marks-part .ensures) (
       (p, i .before .loop-test .taken, rw (p .marks-length) (room-same same (q .2))),
-      (rw (same .values-same, same .marks-same) ready, rw (p .marks-length) small),
+      (rw (same .values-same, same .marks-same) ready, (rw (p .marks-length) small, omega (arith, i .loop2 .inv .2, q .0 .records≤, q .3))),
     )
-
-add-sent : tie.Need-add-sent Inv-loop2 μ-loop2 Inv-loop μ-loop
-add-sent c =
-    let i = c .before .before .before .before .before .before .before .before in
-    let q = i .before .before .before .before .before .before .before .pre .0 in
-    record { fits = omega (arith, c .before .before .before .apply-rule .ensures .sent≤, i .loop2 .inv .2, q .0 .records≤, q .3) }
 
 add-k : tie.Need-add-k Inv-loop2 μ-loop2 Inv-loop μ-loop
 add-k c = record { fits = omega arith }
@@ -142,7 +136,6 @@ apply-spec =
     mul-apply-rule
     array-copy-out-apply-rule
     apply-rule-requires
-    add-sent
     add-k
     loop2-less
     loop2-again

@@ -86,8 +86,15 @@ deliver-requires c κs =
     let r = room s in (
       omega (arith, e, p .below, r .values-room),
       omega (arith, e, p .below, r .marks-room),
-      rw e (s .pre .1 .1 .below _ (rw (s .pre .0 .0 .marks-length) (p .below))),
+      rw e (s .pre .1 .1 .0 .below _ (rw (s .pre .0 .0 .marks-length) (p .below))),
     )
+
+-- the entry, from where the message is delivered
+abbrev entry : tie.After-deliver → tie.Start
+entry c = start (c .before .before .before .before .before .before .before .before)
+
+add-result : tie.Need-add-result
+add-result c = record { fits = omega (arith, entry (c .before .before .before) .pre .1 .1 .1) }
 
 same-length : tie.Need-same-length
 same-length c = search needs
@@ -131,6 +138,7 @@ apply-rule-spec =
     enum-known-message
     place-requires
     deliver-requires
+    add-result
     same-length
     same-length-2
     returns

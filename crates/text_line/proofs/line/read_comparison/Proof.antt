@@ -1,44 +1,41 @@
 -- `text_line::line::read_comparison` meets its contract.
 -- Assumes nothing.
-use mathlib.Core.Path.{sym, _∙_}
 use borrow.Author.Needs.{needs}
-use Rattle.text_tokens.proofs.Words.{literal-taken, literal-refused}
-use Rattle.text_line.proofs.Reading.{less-none, less-some}
+use Rattle.text_line.proofs.Reading.{comparison-is}
 use Rattle.text_line.proofs.line.read_comparison.Statement.{statement}
 use Rattle.text_line.proofs.line.read_comparison.Tie as tie
 
-slice-aggregate-literal : tie.Need-slice-aggregate-literal
-slice-aggregate-literal c = search needs
+slice-aggregate-read-symbol : tie.Need-slice-aggregate-read-symbol
+slice-aggregate-read-symbol c = search needs
 
-literal-requires : tie.Need-literal-requires
-literal-requires c κs = search needs
+read-symbol-requires : tie.Need-read-symbol-requires
+read-symbol-requires c κs = search needs
 
-enum-known-end : tie.Need-enum-known-end
-enum-known-end c = search needs
+slice-aggregate-read-symbol-2 : tie.Need-slice-aggregate-read-symbol-2
+slice-aggregate-read-symbol-2 c = search needs
 
-enum-told : tie.Need-enum-told
-enum-told c = search needs
+read-symbol-requires-2 : tie.Need-read-symbol-requires-2
+read-symbol-requires-2 c κs = search needs
 
-read-equal-requires : tie.Need-read-equal-requires
-read-equal-requires c κs = search needs
+slice-aggregate-read-symbol-3 : tie.Need-slice-aggregate-read-symbol-3
+slice-aggregate-read-symbol-3 c = search needs
+
+read-symbol-requires-3 : tie.Need-read-symbol-requires-3
+read-symbol-requires-3 c κs = search needs
 
 returns : tie.Need-returns
 returns c =
-    let refused = literal-refused _ _ _ (sym (c .before .before .before .literal .ensures) ∙ c .before .enum-told .given .1) in
-    c .read-equal .ensures ∙ sym (less-none _ _ refused)
-
-returns-2 : tie.Need-returns-2
-returns-2 c =
-    less-some _ _ _ (literal-taken _ _ _ (c .before .before .before .before .before .before .pre) (sym (c .before .before .before .literal .ensures) ∙ c .before .end .given .1))
+    let equal = c .before .before in
+    comparison-is _ _ (equal .before .before .read-symbol .ensures) (equal .read-symbol2 .ensures) (c .read-symbol3 .ensures)
 
 pub read-comparison-spec : {M : Type 1} → statement M
 read-comparison-spec =
     tie.close
     (tie.spec
-    slice-aggregate-literal
-    literal-requires
-    enum-known-end
-    enum-told
-    read-equal-requires
-    returns
-    returns-2)
+    slice-aggregate-read-symbol
+    read-symbol-requires
+    slice-aggregate-read-symbol-2
+    read-symbol-requires-2
+    slice-aggregate-read-symbol-3
+    read-symbol-requires-3
+    returns)

@@ -1,0 +1,93 @@
+-- What the loops within a step keep: rules taken out of the slots, rules done at one record, records done.
+use Prim.Native.Nat.{ℕ, suc, _-_, _+_, _≤_, _<_}
+use mathlib.Core.Path.{_≡_, refl, sym, _∙_}
+use mathlib.Core.List.{List}
+use native.Mathlib.Omega.{arith}
+use lib.IntN.{ℤ}
+use lib.ListN.{length, getD, take}
+use Rattle.register.specs.Shape.{Limits}
+use Rattle.register.specs.declared.Sizes.{Sizes}
+use Rattle.register.specs.declared.cells.Cell.{Cell}
+use Rattle.program.specs.declared.location.Located.{Located}
+use Rattle.program.specs.Stored.{ruleIn, rulesIn}
+use Rattle.step_cells.specs.Work.{Same}
+use Rattle.step_cells.specs.declared.stop.Stop.{Stop}
+use Rattle.step_cells.specs.declared.stop.Stop.the-variants.{Nowhere, At}
+use Rattle.step_cells.proofs.Working.{same-refl, same-then}
+use Rattle.step_rules.specs.Ready.{RuleReady, LocalRule, LocalDone, LocalAnswer}
+use Rattle.step_rules.proofs.Locals.{RecordDone, ruleAt, record-start, record-more, record-stops, records-start, records-more, records-all}
+use Rattle.run_steps.proofs.Arrays.{placesOf}
+
+-- a loop that counts up to n comes to its end
+pub nearer : {i n : ℕ} → i < n → n - (i + 1) < n - i
+nearer h = omega arith
+
+-- the first k rules of a step are taken out
+pub record Taken (slots : List Located) (step used : ℕ) (rules : List Located) (k : ℕ) : Type 0 where
+  pub so-far : take k rules ≡ take k (placesOf slots step)
+  pub length-is : length rules ≡ 32
+  pub k≤ : k ≤ used
+
+-- the first k rules are done at record u, and no sum was out of range
+pub record RulesDone (s : Sizes) (cells : List Cell) (base : ℕ) (rules : List Located) (used u : ℕ)
+    (values : List ℤ) (marks : List ℕ) (values′ : List ℤ) (marks′ : List ℕ) (stop : Stop) (k : ℕ) : Type 0 where
+  pub done : RecordDone s cells base rules u k values marks values′ marks′
+  pub nowhere : stop ≡ Nowhere
+  pub k≤ : k ≤ used
+
+-- all rules are done at the records below u, and no sum was out of range
+pub record RecordsDone (s : Sizes) (cells : List Cell) (base : ℕ) (rules : List Located) (used : ℕ)
+    (values : List ℤ) (marks : List ℕ) (values′ : List ℤ) (marks′ : List ℕ) (stop : Stop) (u : ℕ) : Type 0 where
+  pub same : Same base values marks values′ marks′
+  pub done : LocalDone s cells base (rulesIn used rules) u values marks values′ marks′
+  pub nowhere : stop ≡ Nowhere
+  pub u≤ : u ≤ s .records
+
+module _ {s : Sizes} {cells : List Cell} {base : ℕ} {rules : List Located} {used : ℕ} {values : List ℤ} {marks : List ℕ} where
+  pub rules-first : {u : ℕ} {stop : Stop} → stop ≡ Nowhere → RulesDone s cells base rules used u values marks values marks stop 0
+  rules-first e = record { done = record-start; nowhere = e; k≤ = omega arith }
+
+  pub records-first : RecordsDone s cells base rules used values marks values marks Nowhere 0
+  records-first = record { same = same-refl; done = records-start; nowhere = refl; u≤ = omega arith }
+
+  module _ {values′ values″ : List ℤ} {marks′ marks″ : List ℕ} {stop : Stop} {u : ℕ} where
+    -- one rule more at record u
+    pub rules-next : {k : ℕ} → RulesDone s cells base rules used u values marks values′ marks′ stop k → k < used → used ≤ length rules
+        → {stop′ : Stop} → stop′ ≡ Nowhere → (x : Located) → LocalRule s cells base u (ruleAt (getD rules k x)) values′ marks′ values″ marks″ stop′
+        → {k′ : ℕ} → k′ ≡ suc k → RulesDone s cells base rules used u values marks values″ marks″ stop′ k′
+    rules-next a h fits e x rule q =
+        record { done = record-more (a .done) x (omega arith) (rw e at rule) q; nowhere = e; k≤ = omega arith }
+
+    -- one record more
+    pub records-next : RecordsDone s cells base rules used values marks values′ marks′ stop u → u < s .records
+        → {stop′ : Stop} {k : ℕ} → RulesDone s cells base rules used u values′ marks′ values″ marks″ stop′ k → used ≤ k
+        → {u′ : ℕ} → u′ ≡ suc u → RecordsDone s cells base rules used values marks values″ marks″ stop′ u′
+    records-next a h b all q =
+        record {
+          same = same-then (a .same) (b .done .same);
+          done = records-more (a .done) (omega (arith, b .k≤)) (b .done) q;
+          nowhere = b .nowhere;
+          u≤ = omega arith;
+        }
+
+  -- what the loops leave: all records are done, or one rule's sum is out of range
+  module _ {values′ : List ℤ} {marks′ : List ℕ} {stop : Stop} {u : ℕ} (a : RecordsDone s cells base rules used values marks values′ marks′ stop u)
+      {valuesₑ : List ℤ} {marksₑ : List ℕ} {stopₑ r : Stop} (e : stopₑ ≡ r) where
+    pub left-behind : s .records ≤ u → valuesₑ ≡ values′ → marksₑ ≡ marks′ → stopₑ ≡ stop
+        → LocalAnswer s cells base (rulesIn used rules) values marks valuesₑ marksₑ r
+    left-behind h v m t = rw (sym e ∙ t ∙ a .nowhere, v, m) (a .same, records-all (omega (arith, a .u≤)) (a .done))
+
+    pub left-within : {values″ values‴ : List ℤ} {marks″ marks‴ : List ℕ} {stop′ stop″ : Stop} {k v c : ℕ} → Limits s → u < s .records
+        → RulesDone s cells base rules used u values′ marks′ values″ marks″ stop′ k → k < used → used ≤ length rules
+        → stop″ ≡ At v c → valuesₑ ≡ values‴ → marksₑ ≡ marks‴ → stopₑ ≡ stop″
+        → (x : Located) → LocalRule s cells base u (ruleAt (getD rules k x)) values″ marks″ values‴ marks‴ stop″
+        → {valuesᵣ : List ℤ} {marksᵣ : List ℕ} → RuleReady s cells valuesᵣ marksᵣ (getD rules k x)
+        → LocalAnswer s cells base (rulesIn used rules) values marks valuesₑ marksₑ r
+    unfolding ruleIn
+    left-within {k = k} limits row b h fits o vₑ mₑ t x rule ready =
+        let inside : k < length rules = omega arith in
+        let stops = rw o at rule in
+        rw (sym e ∙ t ∙ o, vₑ, mₑ) (
+          same-then (same-then (a .same) (b .done .same)) (stops .0),
+          record-stops rules k x inside h limits row (ready .field) (stops .1),
+        )
