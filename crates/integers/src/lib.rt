@@ -2,7 +2,7 @@
 ghost use mathlib.Core.Path.{_≡_};
 ghost use Prim.Native.Nat.{_+_, _≤_, _<_};
 ghost use lib.Dec.{T};
-ghost use lib.IntN.{ℤ, pos, natAbs, _+ℤ_, _-ℤ_};
+ghost use lib.IntN.{ℤ, pos, natAbs, _+ℤ_, _-ℤ_, _*ℤ_};
 ghost use lib.ListN.{length};
 ghost use lib.Seq.{sets};
 ghost use lib.Signed.{mag, ltZ, nonNeg};
@@ -81,6 +81,14 @@ pub fn subtract(a: i32, b: i32) -> Sum
     ensures { λ r. ⌜ r ≡ sumOf (a -ℤ b) ⌝ }
 {
     in_range(a as i64 - b as i64)
+}
+
+// A value times a mark, 0 or 1.
+pub fn times_mark(value: i32, mark: u8) -> i32
+    requires { ⌜ mark ≤ 1 ⌝ }
+    ensures { λ r. ⌜ r ≡ value *ℤ pos mark ⌝ }
+{
+    value * mark as i32
 }
 
 pub fn in_range(sum: i64) -> Sum

@@ -5,24 +5,19 @@ use mathlib.Core.List.{List, [], _∷_, _++_}
 use native.Mathlib.Omega.{arith}
 use native.Mathlib.Nat.{zero-add, suc-add, add-suc}
 use borrow.Author.Tests.{ne-eqb}
-use lib.IntN.{ℤ, pos}
+use lib.IntN.{ℤ, pos, _*ℤ_}
 use lib.ListN.{length, getD, set, drop, length-append, length-drop, length-set, List·getD-map}
 use lib.Seq.{sets, length-sets, getD-drop, drop-at, set-append-left}
 use mir.Syntax.{w32}
 use mir.Val.{SFits}
 use Rattle.integers.specs.Bytes.{wordBytes, valueAt, valueBytes}
 use Rattle.integers.proofs.Bytes.{valueBytes-length, value-read, value-behind, value-again}
-use Rattle.register.specs.Cells.{valueOf, markOf, cellOf, cellAt, cellsOf, valuesOf, marksOf}
-use Rattle.register.specs.File.{cellCount, putCell, fileOf}
+use Rattle.integers.proofs.Product.{times-zero, times-one}
+use Rattle.register.specs.Cells.{valueOf, markOf, cellOf, Canonical, cellAt, cellsOf, valuesOf, marksOf}
+use Rattle.register.specs.File.{cellCount, putCell, putMarked, fileOf}
 use Rattle.register.specs.declared.Sizes.{Sizes}
 use Rattle.register.specs.declared.cells.Cell.{Cell}
 use Rattle.register.specs.declared.cells.Cell.the-variants.{Missing, Value}
-
--- the two stores of the cell writer
-pub putCell-stores : (s : Sizes) (j : ℕ) (c : Cell) (file : List ℕ) {e : ℕ} {z : ℤ} {mark : ℕ} → e ≡ 12 + 4 * cellCount s → z ≡ valueOf c → mark ≡ markOf c
-    → set (sets file (12 + 4 * j) (valueBytes z)) (e + j) mark ≡ putCell s j c file
-unfolding putCell
-putCell-stores s j c file he hz hm = simp (he, hz, hm)
 
 -- a cell from its value and mark, and back
 pub cellOf-kept : (c : Cell) → cellOf (valueOf c) (markOf c) ≡ c
@@ -45,6 +40,23 @@ pub cellOf-fits : (z : ℤ) (mark : ℕ) → SFits w32 z → SFits w32 (valueOf 
 unfolding cellOf valueOf
 cellOf-fits z zero h = record { sfits = omega arith }
 cellOf-fits z (suc k) h = rw (ne-eqb (suc k) 0 (λ e. omega arith)) h
+
+-- the value and the mark of a cell are such as a file may hold, and such are those of their cell
+pub cell-canonical : (c : Cell) → Canonical (valueOf c) (markOf c)
+unfolding valueOf markOf
+cell-canonical Missing = record { mark≤ = omega arith; missing = λ e. refl }
+cell-canonical (Value z) = record { mark≤ = omega arith; missing = λ e. absurd (omega arith) }
+
+-- value × mark is the value of the cell, so that the writer's bytes are those of a cell
+pub times-cell : (z : ℤ) (mark : ℕ) → mark ≤ 1 → z *ℤ pos mark ≡ valueOf (cellOf z mark)
+unfolding cellOf valueOf
+times-cell z zero h = times-zero z
+times-cell z (suc zero) h = times-one z
+times-cell z (suc (suc k)) h = absurd (omega arith)
+
+pub putMarked-cell : (s : Sizes) (j : ℕ) (z : ℤ) (mark : ℕ) (file : List ℕ) → mark ≤ 1 → putMarked s j z mark file ≡ putCell s j (cellOf z mark) file
+unfolding putMarked putCell
+putMarked-cell s j z mark file h = simp (times-cell z mark h, markOf-cellOf z mark h)
 
 -- lengths
 pub marksOf-length : (cs : List Cell) → length (marksOf cs) ≡ length cs
@@ -83,11 +95,6 @@ cellsOf-arrays (c ∷ cs) fits =
     (ap (λ (z : ℤ). cellOf z (markOf c)) (value-read (valueOf c) (valuesOf cs) (fits 0)) ∙ cellOf-kept c)
     (ap (λ (l : List ℕ). cellsOf l (marksOf cs)) (drop-at (valueBytes (valueOf c)) (valuesOf cs) 4 (valueBytes-length (valueOf c)))
     ∙ cellsOf-arrays cs (λ j. fits (suc j)))
-
--- a value and a mark that a file may hold
-pub record Canonical (z : ℤ) (mark : ℕ) : Type 0 where
-  pub mark≤ : mark ≤ 1
-  pub missing : mark ≡ 0 → z ≡ pos 0
 
 -- the cells of two arrays, written back
 pub record Again (values marks : List ℕ) : Type 0 where

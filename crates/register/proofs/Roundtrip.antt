@@ -12,13 +12,13 @@ use lib.ListN.{length, getD, take, drop, take-append-drop, length-append, length
 use lib.Seq.{take-nil, take-at, drop-at, drop-drop, getD-drop}
 use mir.Syntax.{w32}
 use mir.Val.{SFits}
-use Rattle.integers.specs.Bytes.{wordAt, wordBytes}
+use Rattle.integers.specs.Bytes.{wordAt, wordBytes, valueAt}
 use Rattle.integers.proofs.Bytes.{word-read, word-again, word-behind, value-fits}
 use Rattle.laws.specs.Outcome.{Outcome, done, refused, unless}
-use Rattle.register.specs.Cells.{valueOf, cellAt, cellsOf, valuesOf, marksOf}
+use Rattle.register.specs.Cells.{valueOf, markOf, cellAt, cellsOf, valuesOf, marksOf}
 use Rattle.register.specs.File.{width, cellCount, cellIndex, sizesOf, valuesPart, marksPart, cellsOfFile, fileOf}
 use Rattle.register.specs.Load.{withinLimits, cellRefusal, refusalAt, recordRefusal, cellsRefusal, load}
-use Rattle.register.specs.Shape.{Parts, Valid, refersWithin}
+use Rattle.register.specs.Shape.{Parts, Valid, Register, refersWithin}
 use Rattle.register.specs.declared.Sizes.{Sizes}
 use Rattle.register.specs.declared.cells.Cell.{Cell}
 use Rattle.register.specs.declared.cells.Cell.the-variants.{Missing}
@@ -193,3 +193,15 @@ module _ (s : Sizes) (cs : List Cell) (v : Valid s cs) where
   pub decode-encode : cellsOfFile s (fileOf s cs) ≡ cs
   unfolding cellsOfFile
   decode-encode = ap₂ cellsOf values-read marks-read ∙ cellsOf-arrays cs (v .values)
+
+-- the two parts of a register hold the value and the mark of each of its cells
+module _ (s : Sizes) (file : List ℕ) (r : Register s file) (j : ℕ) where
+  pub register-value : j < cellCount s → valueAt (valuesPart s file) (4 * j) ≡ valueOf (getD (cellsOfFile s file) j Missing)
+  register-value h =
+      ap (λ (l : List ℕ). valueAt l (4 * j)) (ap (valuesPart s) (r .file-is) ∙ values-read s (cellsOfFile s file) (r .valid))
+      ∙ valuesOf-at (cellsOfFile s file) j (omega (arith, r .valid .count)) (r .valid .values j)
+
+  pub register-mark : getD (marksPart s file) j 0 ≡ markOf (getD (cellsOfFile s file) j Missing)
+  register-mark =
+      ap (λ (l : List ℕ). getD l j 0) (ap (marksPart s) (r .file-is) ∙ marks-read s (cellsOfFile s file) (r .valid))
+      ∙ marksOf-at (cellsOfFile s file) j

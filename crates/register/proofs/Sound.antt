@@ -10,7 +10,7 @@ use lib.ListN.{getD}
 use Rattle.integers.specs.Bytes.{valueAt}
 use Rattle.integers.specs.Range.{eqZ, isIndex}
 use Rattle.integers.proofs.Complement.{zero-is}
-use Rattle.register.specs.Cells.{valueOf, markOf, cellOf, cellAt}
+use Rattle.register.specs.Cells.{Canonical, valueOf, markOf, cellOf, cellAt}
 use Rattle.register.specs.File.{width, cellCount, cellIndex}
 use Rattle.register.specs.Load.{cellRefusal, refusalAt, recordRefusal, cellsRefusal}
 use Rattle.register.specs.Shape.{refersWithin}
@@ -20,7 +20,6 @@ use Rattle.register.specs.declared.cells.Cell.the-variants.{Missing, Val
 use Rattle.laws.proofs.First.{first-each}
 use Rattle.register.proofs.Bounds.{place-row, place-column, place-is}
 use Rattle.register.proofs.Refusals.{refused-mark, missing-zero, refused-missing, filled-measure, filled-reference, refused-reference}
-use Rattle.register.proofs.Arrays.{Canonical}
 
 -- one cell
 module _ (n : ℕ) (reference : Bool) (z : ℤ) where

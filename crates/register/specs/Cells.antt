@@ -1,5 +1,6 @@
 -- A cell, and the two arrays of a register file as a list of cells.
-use Prim.Native.Nat.{ℕ, _*_}
+use Prim.Native.Nat.{ℕ, _*_, _≤_}
+use mathlib.Core.Path.{_≡_}
 use mathlib.Core.Bool.{cond}
 use mathlib.Core.List.{List, [], _∷_, _++_, map}
 use lib.Dec.{eqb}
@@ -22,6 +23,11 @@ markOf (Value z) = 1
 -- the cell of a value and its mark
 unfoldable pub cellOf : ℤ → ℕ → Cell
 cellOf z mark = cond (eqb mark 0) Missing (Value z)
+
+-- a value and a mark that a file may hold
+pub record Canonical (z : ℤ) (mark : ℕ) : Type 0 where
+  pub mark≤ : mark ≤ 1
+  pub missing : mark ≡ 0 → z ≡ pos 0
 
 -- cell j of the two parallel arrays, values and marks
 unfoldable pub cellAt : List ℕ → List ℕ → ℕ → Cell

@@ -1,6 +1,7 @@
 -- The register file: sizes, then two parallel arrays, values and marks.
 use Prim.Native.Nat.{ℕ, _+_, _*_}
 use mathlib.Core.List.{List, _++_}
+use lib.IntN.{ℤ, pos, _*ℤ_}
 use lib.ListN.{take, drop, set}
 use lib.Seq.{sets}
 use Rattle.integers.specs.Bytes.{wordAt, wordBytes, valueBytes}
@@ -43,3 +44,7 @@ fileOf s cells =
 -- the file with another cell at place j
 unfoldable pub putCell : Sizes → ℕ → Cell → List ℕ → List ℕ
 putCell s j c file = set (sets file (12 + 4 * j) (valueBytes (valueOf c))) (12 + 4 * cellCount s + j) (markOf c)
+
+-- the file with a value and its mark at place j: the four bytes are those of value × mark
+unfoldable pub putMarked : Sizes → ℕ → ℤ → ℕ → List ℕ → List ℕ
+putMarked s j z mark file = set (sets file (12 + 4 * j) (valueBytes (z *ℤ pos mark))) (12 + 4 * cellCount s + j) mark

@@ -3,7 +3,7 @@ ghost use mathlib.Core.Path.{_≡_};
 ghost use Prim.Native.Nat.{_+_, _*_, _≤_, _<_};
 ghost use lib.ListN.{length};
 ghost use Rattle.register.specs.Cells.{cellAt};
-ghost use Rattle.register.specs.File.{cellCount, valuesPart, marksPart, putCell};
+ghost use Rattle.register.specs.File.{cellCount, valuesPart, marksPart, putMarked};
 ghost use Rattle.register.specs.Shape.{Limits};
 ghost use lib.ListN.{set};
 ghost use lib.Seq.{sets};
@@ -45,16 +45,13 @@ pub fn cell_at(cells: &[u8], filled: &[u8], j: usize) -> Cell
     Cell::Value(integers::value_at(cells, 4 * j))
 }
 
-// Cell j of a file, written to its values part and its marks part.
-pub fn put_cell(file: &mut [u8], sizes: Sizes, j: usize, cell: Cell)
-    requires { ⌜ Limits sizes × (length (now file) ≡ 12 + 5 * cellCount sizes) × (j < cellCount sizes) ⌝ }
-    ensures { λ _. ⌜ now (file .exit) ≡ putCell sizes j cell (now (file .entry)) ⌝ }
+// Cell j of a file, from a value and its mark: the bytes of value × mark, and no branch on the mark.
+pub fn put_cell(file: &mut [u8], sizes: Sizes, j: usize, value: i32, mark: u8)
+    requires { ⌜ Limits sizes × (length (now file) ≡ 12 + 5 * cellCount sizes) × (j < cellCount sizes) × (mark ≤ 1) ⌝ }
+    ensures { λ _. ⌜ now (file .exit) ≡ putMarked sizes j value mark (now (file .entry)) ⌝ }
 {
     let split = 12 + 4 * crate::cell_count(sizes);
-    match cell {
-        Cell::Missing => put(file, split, j, 0, 0),
-        Cell::Value(value) => put(file, split, j, value, 1),
-    }
+    put(file, split, j, integers::times_mark(value, mark), mark);
 }
 
 fn put(file: &mut [u8], split: usize, j: usize, value: i32, mark: u8)

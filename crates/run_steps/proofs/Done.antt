@@ -21,10 +21,10 @@ use Rattle.machine.proofs.Folding.{stepCells-length}
 use Rattle.machine_messages.specs.declared.Machine.{Machine}
 use Rattle.scratch.specs.Places.{Kept}
 use Rattle.scratch.proofs.Placed.{kept-again}
-use Rattle.step_cells.specs.Work.{HoldsCells, Same}
+use Rattle.step_cells.specs.Work.{HoldsCells, Proper, Same}
 use Rattle.step_cells.specs.declared.stop.Stop.{Stop}
 use Rattle.step_cells.specs.declared.stop.Stop.the-variants.{Nowhere, At}
-use Rattle.step_cells.proofs.Working.{same-then}
+use Rattle.step_cells.proofs.Working.{same-then, proper-held}
 use Rattle.step_rules.specs.Delivered.{Delivered}
 use Rattle.step_rules.specs.Stepped.{GoesThrough}
 use Rattle.step_rules.proofs.Remotes.{silent-step}
@@ -91,6 +91,9 @@ module _ {m : Machine} {s : Sizes} {p : R.Program} {budget : ℕ} {file : List �
     after-held : HoldsCells (base a) after values₄ marks₄
     unfolding direct
     after-held = d .all .holds
+
+    pub after-proper : Proper (base a) (cellCount s) values₄ marks₄
+    after-proper = proper-held after-count after-held
 
     -- no other column than those of the step's fields has changed
     untouched : (u c : ℕ) → u < s .records → c < width s → isWritten s (frame a .fields) c ≡ false

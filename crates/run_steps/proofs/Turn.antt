@@ -22,7 +22,8 @@ use Rattle.program.specs.declared.Program as R
 use Rattle.machine.proofs.Readings.{readings-pass, step-promised}
 use Rattle.machine.proofs.Running.{running-passes}
 use Rattle.machine_messages.specs.declared.Machine.{Machine}
-use Rattle.scratch.proofs.Placed.{kept-again, storedAt-kept}
+use Rattle.scratch.specs.Places.{Kept}
+use Rattle.scratch.proofs.Placed.{kept-again}
 use Rattle.gather_follow.specs.Filled.{Filled}
 use Rattle.step_cells.specs.Work.{Room, HoldsCells, Same, Small}
 use Rattle.step_cells.proofs.Working.{room-same, small-held}
@@ -221,12 +222,14 @@ module _ {m : Machine} {s : Sizes} {p : R.Program} {budget : ℕ} {file : List �
       (omega (arith, room .marks-room)) filled
 
   -- the working cells are those of the register still, and every rule can be run
+  kept-cell : (j : ℕ) → Kept (base a + j) values marks values₂ marks₂
+  kept-cell j = kept-again (b .entered .behind .kept (base a + j) (omega arith)) (filled .behind (base a + j) (omega (arith, lines-before)))
+
   pub step-working : HoldsCells (base a) held values₂ marks₂
   step-working =
       record {
-        place-is = λ j h.
-            let kept = kept-again (b .entered .behind .kept (base a + j) (omega arith)) (filled .behind (base a + j) (omega (arith, lines-before))) in
-            storedAt-kept kept ∙ a .stands .working .place-is j h;
+        value-is = λ j h. kept-cell j .value-is ∙ a .stands .working .value-is j h;
+        mark-is = λ j h. kept-cell j .mark-is ∙ a .stands .working .mark-is j h;
       }
 
   pub step-ready : AllReady s held (take (base a) values₂) (take (base a) marks₂) (take n places)

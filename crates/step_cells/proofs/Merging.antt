@@ -54,6 +54,7 @@ module _ (values : List ℤ) (marks : List ℕ) (j : ℕ) (a : ℤ) where
       values-are = rw e;
       marks-are = sym (set-getD marks j 0);
       cell-is = rw (← storedAt-value values marks j some) (simp (ne-eqb _ _ some));
+      proper = λ h. record { mark≤ = h .mark≤; missing = λ e. absurd (some e) };
     }
 
 -- a value grows by one amount at most

@@ -11,17 +11,17 @@ use lib.Seq.{getD-set-same, getD-set-other, set-getD, take-set-le}
 use lib.Signed.{mag}
 use mir.Syntax.{w32}
 use mir.Val.{SFits}
-use Rattle.integers.specs.Bytes.{valueAt}
-use Rattle.register.specs.Cells.{valueOf, markOf, cellOf, cellAt}
+use Rattle.register.specs.Cells.{valueOf, markOf, cellOf, Canonical}
 use Rattle.register.specs.declared.cells.Cell.{Cell}
 use Rattle.register.specs.declared.cells.Cell.the-variants.{Missing}
-use Rattle.register.proofs.Arrays.{cellOf-kept}
+use Rattle.register.proofs.Arrays.{cellOf-kept, cell-canonical, valueOf-cellOf, markOf-cellOf}
 use Rattle.chain.specs.declared.reading.Reading.{Reading}
 use Rattle.chain.specs.declared.reading.Reading.the-variants as R
 use Rattle.chain.specs.Word.{readingValue}
 use Rattle.machine.specs.Local.{storedCell}
-use Rattle.scratch.specs.Places.{storedAt, readingMark}
-use Rattle.step_cells.specs.Work.{Room, HoldsCells, Same, Put, Small}
+use Rattle.scratch.specs.Places.{storedAt, readingMark, Kept}
+use Rattle.scratch.proofs.Placed.{storedAt-kept}
+use Rattle.step_cells.specs.Work.{Room, HoldsCells, Proper, Same, Put, Small}
 
 -- nothing is stored
 pub same-refl : {base : ℕ} {values : List ℤ} {marks : List ℕ} → Same base values marks values marks
@@ -53,6 +53,7 @@ put-stored {c} v m = record {
   values-are = v;
   marks-are = m;
   cell-is = cellOf-kept c;
+  proper = λ h. cell-canonical c;
 }
 
 -- and so is what is made of a reading
@@ -61,18 +62,6 @@ pub put-read : {j : ℕ} (x : Reading) {values values′ : List ℤ} {marks mark
 unfolding storedCell readingValue readingMark valueOf markOf
 put-read R.Missing v m = put-stored v m
 put-read (R.Value z) v m = put-stored v m
-
--- a cell of the register is copied
-pub put-copied : (cells filled : List ℕ) (k : ℕ) {j : ℕ} {values values′ : List ℤ} {marks marks′ : List ℕ}
-    → values′ ≡ set values j (valueAt cells (4 * k)) → marks′ ≡ set marks j (getD filled k 0) → Put j (cellAt cells filled k) values marks values′ marks′
-unfolding cellAt
-put-copied cells filled k v m = record {
-  value = valueAt cells (4 * k);
-  mark = getD filled k 0;
-  values-are = v;
-  marks-are = m;
-  cell-is = refl;
-}
 
 -- a place keeps its cell
 pub put-kept : {j : ℕ} {c : Cell} {values : List ℤ} {marks : List ℕ} → storedAt values marks j ≡ c → Put j c values marks values marks
@@ -83,58 +72,97 @@ put-kept {j} {values} {marks} e = record {
   values-are = sym (set-getD values j (pos 0));
   marks-are = sym (set-getD marks j 0);
   cell-is = e;
+  proper = λ h. h;
 }
 
--- one cell is stored
-module _ (base j : ℕ) {c : Cell} {values values′ : List ℤ} {marks marks′ : List ℕ} (p : Put (base + j) c values marks values′ marks′) where
-  pub same-put : Same base values marks values′ marks′
-  same-put = record {
-    values-length = ap length (p .values-are) ∙ length-set values (base + j) (p .value);
-    marks-length = ap length (p .marks-are) ∙ length-set marks (base + j) (p .mark);
-    values-same = ap (take base) (p .values-are) ∙ take-set-le base values (base + j) (p .value) (omega arith);
-    marks-same = ap (take base) (p .marks-are) ∙ take-set-le base marks (base + j) (p .mark) (omega arith);
+-- a value and a mark are stored at place j
+pub record Changed (j : ℕ) (z : ℤ) (mark : ℕ) (values : List ℤ) (marks : List ℕ) (values′ : List ℤ) (marks′ : List ℕ) : Type 0 where
+  pub values-are : values′ ≡ set values j z
+  pub marks-are : marks′ ≡ set marks j mark
+
+module _ (base j : ℕ) {z : ℤ} {mark : ℕ} {values values′ : List ℤ} {marks marks′ : List ℕ} (p : Changed (base + j) z mark values marks values′ marks′) where
+  pub same-set : Same base values marks values′ marks′
+  same-set = record {
+    values-length = ap length (p .values-are) ∙ length-set values (base + j) z;
+    marks-length = ap length (p .marks-are) ∙ length-set marks (base + j) mark;
+    values-same = ap (take base) (p .values-are) ∙ take-set-le base values (base + j) z (omega arith);
+    marks-same = ap (take base) (p .marks-are) ∙ take-set-le base marks (base + j) mark (omega arith);
   }
 
   -- the place itself, and any other
-  pub put-there : base + j < length values → base + j < length marks → storedAt values′ marks′ (base + j) ≡ c
-  unfolding storedAt
-  put-there hv hm =
-      ap₂ cellOf
-      (ap (λ (l : List ℤ). getD l (base + j) (pos 0)) (p .values-are) ∙ getD-set-same values (base + j) (p .value) (pos 0) hv)
-      (ap (λ (l : List ℕ). getD l (base + j) 0) (p .marks-are) ∙ getD-set-same marks (base + j) (p .mark) 0 hm)
-      ∙ p .cell-is
+  pub value-there : base + j < length values → getD values′ (base + j) (pos 0) ≡ z
+  value-there h = ap (λ (l : List ℤ). getD l (base + j) (pos 0)) (p .values-are) ∙ getD-set-same values (base + j) z (pos 0) h
 
-  pub put-other : (i : ℕ) → i ≢ base + j → storedAt values′ marks′ i ≡ storedAt values marks i
-  unfolding storedAt
-  put-other i h =
-      ap₂ cellOf
-      (ap (λ (l : List ℤ). getD l i (pos 0)) (p .values-are) ∙ getD-set-other values (base + j) i (p .value) (pos 0) h)
-      (ap (λ (l : List ℕ). getD l i 0) (p .marks-are) ∙ getD-set-other marks (base + j) i (p .mark) 0 h)
+  pub mark-there : base + j < length marks → getD marks′ (base + j) 0 ≡ mark
+  mark-there h = ap (λ (l : List ℕ). getD l (base + j) 0) (p .marks-are) ∙ getD-set-same marks (base + j) mark 0 h
+
+  pub kept-there : (i : ℕ) → i ≢ base + j → Kept i values marks values′ marks′
+  kept-there i h = record {
+    value-is = ap (λ (l : List ℤ). getD l i (pos 0)) (p .values-are) ∙ getD-set-other values (base + j) i z (pos 0) h;
+    mark-is = ap (λ (l : List ℕ). getD l i 0) (p .marks-are) ∙ getD-set-other marks (base + j) i mark 0 h;
+  }
+
+-- a value and a mark that are those of a cell
+abbrev Holds : Cell → ℤ → ℕ → Type 0
+Holds c z mark = (z ≡ valueOf c) × (mark ≡ markOf c)
+
+-- one cell is stored
+module _ (base j : ℕ) {c : Cell} {values values′ : List ℤ} {marks marks′ : List ℕ} (p : Put (base + j) c values marks values′ marks′) where
+  changed : Changed (base + j) (p .value) (p .mark) values marks values′ marks′
+  changed = record { values-are = p .values-are; marks-are = p .marks-are }
+
+  pub same-put : Same base values marks values′ marks′
+  same-put = same-set base j changed
+
+  module _ {k : ℕ} (r : Room base k values marks) (h : j < k) where
+    put-value : getD values′ (base + j) (pos 0) ≡ p .value
+    put-value = value-there base j changed (omega (arith, r .values-room))
+
+    put-mark : getD marks′ (base + j) 0 ≡ p .mark
+    put-mark = mark-there base j changed (omega (arith, r .marks-room))
+
+    put-there : storedAt values′ marks′ (base + j) ≡ c
+    unfolding storedAt
+    put-there = ap₂ cellOf put-value put-mark ∙ p .cell-is
 
   -- the cells with another one at j
-  pub holds-put : {k : ℕ} {d : List Cell} → Room base k values marks → j < k → length d ≡ k → HoldsCells base d values marks → HoldsCells base (set d j c) values′ marks′
-  holds-put {k} {d} r h l e = record { place-is = λ i i<. at i (ℕ-discrete i j) (rw (length-set d j c) at i<) }
-    where
-      at : (i : ℕ) → Dec (i ≡ j) → i < length d → storedAt values′ marks′ (base + i) ≡ getD (set d j c) i Missing
-      at i (yes q) i< =
-          ap (λ (n : ℕ). storedAt values′ marks′ (base + n)) q
-          ∙ put-there (omega (arith, r .values-room)) (omega (arith, r .marks-room))
-          ∙ sym (getD-set-same d j c Missing (omega arith))
-          ∙ ap (λ (n : ℕ). getD (set d j c) n Missing) (sym q)
-      at i (no q) i< =
-          put-other (base + i) (λ e. q (omega arith))
-          ∙ e .place-is i i<
-          ∙ sym (getD-set-other d j i c Missing q)
+  module _ {k : ℕ} {d : List Cell} (r : Room base k values marks) (h : j < k) (l : length d ≡ k) (e : HoldsCells base d values marks) where
+    stored : Canonical (p .value) (p .mark)
+    stored = p .proper (rw (e .value-is j (omega arith), e .mark-is j (omega arith)) (cell-canonical _))
+
+    holds : (i : ℕ) → i < length d → Dec (i ≡ j) → Holds (getD (set d j c) i Missing) (getD values′ (base + i) (pos 0)) (getD marks′ (base + i) 0)
+    holds i i< (yes q) =
+        rw (q, getD-set-same d j c Missing (omega arith), put-value r h, put-mark r h, ← p .cell-is)
+        (sym (valueOf-cellOf _ _ (stored .missing)), sym (markOf-cellOf _ _ (stored .mark≤)))
+    holds i i< (no q) =
+        let o = kept-there base j changed (base + i) (λ e. q (omega arith)) in
+        rw (getD-set-other d j i c Missing q) (o .value-is ∙ e .value-is i i<, o .mark-is ∙ e .mark-is i i<)
+
+    pub holds-put : HoldsCells base (set d j c) values′ marks′
+    holds-put = record {
+      value-is = λ i i<. holds i (rw (length-set d j c) at i<) (ℕ-discrete i j) .0;
+      mark-is = λ i i<. holds i (rw (length-set d j c) at i<) (ℕ-discrete i j) .1;
+    }
 
   -- the values, where the one that is stored is below b′
   pub small-put : {b b′ k : ℕ} → Room base k values marks → j < k → mag (valueOf c) < b′ → b ≤ b′ → Small b base k values marks → Small b′ base k values′ marks′
   small-put {b} {b′} {k} r h v l e = record { below = λ i i<. at i (ℕ-discrete i j) i< }
     where
       at : (i : ℕ) → Dec (i ≡ j) → i < k → mag (valueOf (storedAt values′ marks′ (base + i))) < b′
-      at i (yes q) i< = rw (q, put-there (omega (arith, r .values-room)) (omega (arith, r .marks-room))) v
-      at i (no q) i< = rw (put-other (base + i) (λ e. q (omega arith))) (omega (arith, e .below i i<))
+      at i (yes q) i< = rw (q, put-there r h) v
+      at i (no q) i< = rw (storedAt-kept (kept-there base j changed (base + i) (λ e. q (omega arith)))) (omega (arith, e .below i i<))
+
+-- a place that holds a cell
+pub held-at : {base : ℕ} {d : List Cell} {values : List ℤ} {marks : List ℕ} → HoldsCells base d values marks → (j : ℕ) → j < length d
+    → storedAt values marks (base + j) ≡ getD d j Missing
+unfolding storedAt
+held-at {d = d} h j l = ap₂ cellOf (h .value-is j l) (h .mark-is j l) ∙ cellOf-kept (getD d j Missing)
+
+-- places that hold cells hold values and marks of a file
+pub proper-held : {base k : ℕ} {d : List Cell} {values : List ℤ} {marks : List ℕ} → length d ≡ k → HoldsCells base d values marks → Proper base k values marks
+proper-held l h = record { each = λ j j<. rw (h .value-is j (omega arith), h .mark-is j (omega arith)) (cell-canonical _) }
 
 -- cells of 32 bits
 pub small-held : {base k : ℕ} {d : List Cell} {values : List ℤ} {marks : List ℕ} → length d ≡ k
     → ((j : ℕ) → SFits w32 (valueOf (getD d j Missing))) → HoldsCells base d values marks → Small 2147483648 base k values marks
-small-held l fits h = record { below = λ j j<. rw (h .place-is j (omega arith)) (fits j .sfits) }
+small-held l fits h = record { below = λ j j<. rw (held-at h j (omega arith)) (fits j .sfits) }

@@ -1,14 +1,14 @@
 // The working cells: a part of the scratch buffers from place `base` on, behind the places of the plan's lines.
 pub mod stop;
 
-ghost use Prim.Native.Nat.{_+_, _*_, _≤_, _<_};
+ghost use Prim.Native.Nat.{_+_, _≤_, _<_};
 ghost use mathlib.Core.Path.{_≡_};
 ghost use mathlib.Core.Bool.{true};
 ghost use lib.ListN.{length};
 ghost use lib.Signed.{mag};
 ghost use Rattle.register.specs.Cells.{valueOf};
 ghost use Rattle.register.specs.File.{cellCount, cellIndex, cellsOfFile};
-ghost use Rattle.register.specs.Shape.{Limits};
+ghost use Rattle.register.specs.Shape.{Limits, Register};
 ghost use Rattle.chain.specs.Word.{hasField, column as columnOf};
 ghost use Rattle.scratch.specs.Places.{storedAt};
 ghost use Rattle.machine.specs.Remote.{merged};
@@ -23,7 +23,7 @@ use scratch;
 
 // They begin as the cells of the register in `out`.
 pub fn begin(out: &[u8], values: &mut [i64], marks: &mut [u8], sizes: Sizes, base: usize)
-    requires { ⌜ Limits sizes × (length (now out) ≡ 12 + 5 * cellCount sizes) × Room base (cellCount sizes) (now values) (now marks) ⌝ }
+    requires { ⌜ Register sizes (now out) × Room base (cellCount sizes) (now values) (now marks) ⌝ }
     ensures { λ _. ⌜ HoldsCells base (cellsOfFile sizes (now (out .entry))) (now (values .exit)) (now (marks .exit)) ⌝ }
     ensures { λ _. ⌜ Same base (now (values .entry)) (now (marks .entry)) (now (values .exit)) (now (marks .exit)) ⌝ }
 {

@@ -8,6 +8,7 @@ use native.Mathlib.Omega.{arith}
 use native.Mathlib.Numerals.{add-one}
 use native.Mathlib.Decide.{ℕ-discrete}
 use borrow.Author.Count.{below-none, below-more}
+use borrow.Author.Tests.{ne-eqb}
 use lib.IntN.{ℤ}
 use lib.ListN.{length, getD, set, length-set}
 use lib.Seq.{getD-set-same, getD-set-other, ext-getD}
@@ -16,6 +17,7 @@ use Rattle.integers.specs.declared.Sum.{Sum}
 use Rattle.integers.specs.declared.Sum.the-variants.{InRange, OutOfRange}
 use Rattle.laws.proofs.Bools.{true-false}
 use Rattle.register.specs.File.{width, cellCount, cellIndex, fileOf, cellsOfFile, putCell}
+use Rattle.register.specs.Cells.{cellOf, Canonical}
 use Rattle.register.specs.Shape.{Register}
 use Rattle.register.specs.declared.Sizes.{Sizes}
 use Rattle.register.specs.declared.cells.Cell.{Cell}
@@ -24,7 +26,9 @@ use Rattle.register.proofs.Arrays.{putCell-file}
 use Rattle.register.proofs.Bounds.{cellIndex-below, place-row, place-column, place-is}
 use Rattle.laws.proofs.Cases.{true-or-false, lt-or-le}
 use Rattle.step_cells.specs.Work.{HoldsCells}
-use Rattle.machine.specs.Value.{cellInRange}
+use Rattle.step_cells.proofs.Working.{held-at}
+use Rattle.chain.specs.Word.{readOf}
+use Rattle.machine.specs.Value.{readingInRange, cellInRange}
 use Rattle.machine.proofs.Keeping.{fits-in-range}
 use Rattle.step_commit.specs.Committed.{OneCommitted, working, putColumn, isWritten, putColumns, OneColumn, AllCommitted, CommitStops}
 
@@ -40,6 +44,12 @@ total-told z = go (inRange z) refl
     go : (t : Bool) → inRange z ≡ t → Told z (cond t (InRange z) OutOfRange)
     go true h = (h, refl)
     go false h = h
+
+-- a working cell is in range where its value is: a missing one has the value 0
+pub cell-in-range : (z : ℤ) (mark : ℕ) → Canonical z mark → cellInRange (cellOf z mark) ≡ inRange z
+unfolding cellInRange readingInRange readOf cellOf inRange
+cell-in-range z zero h = rw (h .missing refl) refl
+cell-in-range z (suc k) h = rw (ne-eqb (suc k) 0 (λ e. omega arith)) refl
 
 -- one of the first n, or the one behind them
 below-or-last : (i n : ℕ) → i < suc n → (i < n) ⊎ (i ≡ n)
@@ -187,13 +197,13 @@ columns-file : (s : Sizes) (fields : List Bool) (base : ℕ) (values : List ℤ)
 columns-file s fields base values marks file cells d k l e h same =
     agrees-all s d l
     (agrees-as s d (λ u c r b i. inr i)
-    (agrees-columns s d (working base values marks) (λ j b. h .place-is j (omega (arith, l))) fields (width s) (omega arith)
+    (agrees-columns s d (working base values marks) (λ j b. held-at h j (omega (arith, l))) fields (width s) (omega arith)
     (record { cells = cells; count = k; agree = same; file-is = e })))
 
 -- the working cells hold the cells d of a register
 module _ (s : Sizes) (d : List Cell) (count : length d ≡ cellCount s) (base : ℕ) {values : List ℤ} {marks : List ℕ} (held : HoldsCells base d values marks) where
   working-is : (u c : ℕ) → u < s .records → c < width s → working base values marks (cellIndex s u c) ≡ getD d (cellIndex s u c) Missing
-  working-is u c row col = held .place-is (cellIndex s u c) (omega (arith, cellIndex-below s u c row col))
+  working-is u c row col = held-at held (cellIndex s u c) (omega (arith, cellIndex-below s u c row col))
 
   -- they are not committed: one of d is out of range
   pub stop-out-of-range : {file file′ : List ℕ} {u c : ℕ} → CommitStops s base values marks file file′ u c

@@ -4,16 +4,15 @@ ghost use lib.ListN.{length};
 ghost use mathlib.Core.Path.{_≡_};
 ghost use Rattle.register.specs.File.{width, cellCount};
 ghost use Rattle.register.specs.Shape.{Limits};
-ghost use Rattle.step_cells.specs.Work.{Room};
+ghost use Rattle.step_cells.specs.Work.{Room, Proper};
 ghost use Rattle.step_commit.specs.Committed.{OneCommitted, ColumnCommitted, Committed};
 use chain::follow;
 use integers::Sum;
 use register::Sizes;
 use register::cells;
-use register::cells::Cell;
 use step_cells::stop::Stop;
 
-// Cell j; whether it is in range.
+// Cell j, its value and mark as they stand; whether it is in range.
 fn commit_cell(
     out: &mut [u8],
     values: &[i64],
@@ -22,16 +21,12 @@ fn commit_cell(
     base: usize,
     j: usize,
 ) -> bool
-    requires { ⌜ Limits sizes × (length (now out) ≡ 12 + 5 * cellCount sizes) × Room base (cellCount sizes) (now values) (now marks) × (j < cellCount sizes) ⌝ }
+    requires { ⌜ Limits sizes × (length (now out) ≡ 12 + 5 * cellCount sizes) × Room base (cellCount sizes) (now values) (now marks) × (j < cellCount sizes) × Proper base (cellCount sizes) (now values) (now marks) ⌝ }
     ensures { λ r. ⌜ OneCommitted sizes base j (now (values .entry)) (now (marks .entry)) (now (out .entry)) (now (out .exit)) r ⌝ }
 {
-    if marks[base + j] == 0 {
-        cells::put_cell(out, sizes, j, Cell::Missing);
-        return true;
-    }
     match integers::in_range(values[base + j]) {
         Sum::InRange(value) => {
-            cells::put_cell(out, sizes, j, Cell::Value(value));
+            cells::put_cell(out, sizes, j, value, marks[base + j]);
             true
         }
         Sum::OutOfRange => false,
@@ -47,7 +42,7 @@ fn commit_column(
     base: usize,
     column: usize,
 ) -> Stop
-    requires { ⌜ Limits sizes × (length (now out) ≡ 12 + 5 * cellCount sizes) × Room base (cellCount sizes) (now values) (now marks) × (column < width sizes) ⌝ }
+    requires { ⌜ Limits sizes × (length (now out) ≡ 12 + 5 * cellCount sizes) × Room base (cellCount sizes) (now values) (now marks) × (column < width sizes) × Proper base (cellCount sizes) (now values) (now marks) ⌝ }
     ensures { λ r. ⌜ ColumnCommitted sizes base column (now (values .entry)) (now (marks .entry)) (now (out .entry)) (now (out .exit)) r ⌝ }
 {
     for u in 0..sizes.records {
@@ -68,7 +63,7 @@ pub fn commit(
     base: usize,
     fields: [bool; 16],
 ) -> Stop
-    requires { ⌜ Limits sizes × (length (now out) ≡ 12 + 5 * cellCount sizes) × Room base (cellCount sizes) (now values) (now marks) ⌝ }
+    requires { ⌜ Limits sizes × (length (now out) ≡ 12 + 5 * cellCount sizes) × Room base (cellCount sizes) (now values) (now marks) × Proper base (cellCount sizes) (now values) (now marks) ⌝ }
     ensures { λ r. ⌜ Committed sizes base fields (now (values .entry)) (now (marks .entry)) (now (out .entry)) (now (out .exit)) r ⌝ }
 {
     for column in 0..sizes.references + sizes.measures {

@@ -36,7 +36,7 @@ use Rattle.step_effects.specs.declared.sent.Sent.the-variants as S
 use Rattle.step_cells.specs.Work.{Room, HoldsCells, Same, Put, Small}
 use Rattle.step_rules.specs.Ready.{Targets}
 use Rattle.step_rules.specs.Delivered.{RuleDelivered, Delivered}
-use Rattle.step_cells.proofs.Working.{same-refl, same-then, same-put, holds-put, small-put}
+use Rattle.step_cells.proofs.Working.{same-refl, same-then, same-put, holds-put, held-at, small-put}
 use Rattle.step_rules.proofs.Locals.{ruleAt, rules-more}
 use Rattle.step_cells.proofs.Merging.{merged-below}
 
@@ -145,7 +145,7 @@ module _ (s : Sizes) (cells : List Cell) (u : ℕ) (x : Located) where
           same = same-put base k p′;
           holds = λ d l h.
               subst (λ (ms : List Message). HoldsCells base (deliverAll s d ms) values′ marks′) e
-              (subst (λ (c : Cell). HoldsCells base (set d k (merged (m .sort) c (m .amount))) values′ marks′) (h .place-is k (omega arith))
+              (subst (λ (c : Cell). HoldsCells base (set d k (merged (m .sort) c (m .amount))) values′ marks′) (held-at h k (omega arith))
               (holds-put base k p′ room below l h));
           sent-is = omega (arith, ap length e);
           sent≤ = omega arith;

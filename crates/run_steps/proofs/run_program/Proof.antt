@@ -27,8 +27,7 @@ begin-requires : tie.Need-begin-requires
 begin-requires c κs =
     let s = entry c in
     let room = scratch-behind (s .pre .1) in (
-      s .pre .0 .valid .limits,
-      s .pre .0 .whole,
+      s .pre .0,
       record { base≤ = omega (arith, at≤ s, s .pre .0 .valid .limits .records≤); values-room = room .values-room; marks-room = room .marks-room },
     )
 

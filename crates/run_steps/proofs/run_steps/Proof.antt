@@ -22,7 +22,7 @@ use Rattle.run_steps.proofs.Standing.{lines-end, scratch-behind, Stands
 use Rattle.run_steps.proofs.Turn.{Turn, base, limits, out-whole, out-length, at-step, few-steps, few-rules, setting-passes}
 use Rattle.run_steps.proofs.Turn.{taken-first, taken-more, column-space, planned, lines-values, lines-marks, Prepared, prepares, rules-fit}
 use Rattle.run_steps.proofs.Turn.{values-length, marks-length, Applied, room-still, ready-still, rule-ready, small-still}
-use Rattle.run_steps.proofs.Done.{ends-local, Done, done-remote, done-local, ends-total, Went, went, counts-small, next-whole, next-space}
+use Rattle.run_steps.proofs.Done.{ends-local, Done, done-remote, done-local, after-proper, ends-total, Went, went, counts-small, next-whole, next-space}
 use Rattle.run_steps.proofs.Done.{next-pass, next-stands}
 use Rattle.run_steps.proofs.run_steps.Statement.{statement}
 use Rattle.run_steps.proofs.run_steps.Tie as tie
@@ -461,7 +461,7 @@ commit-requires : Of tie.Need-commit-requires
 commit-requires c κs =
     let j = joined c in
     let t = turn (turningOfJoined j) in
-    (limits t, out-whole t, room-still (prepared (gatheredOfJoined j)) (done j .same))
+    (limits t, out-whole t, room-still (prepared (gatheredOfJoined j)) (done j .same), after-proper (done j))
 
 enum-known-total : Of tie.Need-enum-known-total
 enum-known-total c = search needs

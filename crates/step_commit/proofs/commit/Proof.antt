@@ -42,7 +42,7 @@ array-read-if1 c = c .field-at .ensures .1
 commit-column-requires : tie.Need-commit-column-requires Inv-loop μ-loop
 commit-column-requires c κs =
     let i = c .before .before .before in
-    (start i .pre .0, i .before .loop .inv .0 .length-is ∙ start i .pre .1, start i .pre .2, inside i)
+    (start i .pre .0, i .before .loop .inv .0 .length-is ∙ start i .pre .1, start i .pre .2, inside i, start i .pre .3)
 
 enum-told : tie.Need-enum-told Inv-loop μ-loop
 enum-told c = search needs

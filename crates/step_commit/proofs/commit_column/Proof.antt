@@ -27,7 +27,7 @@ commit-cell-requires c κs =
     let l = i .before .before in
     let s = l .before .before .before in
     let below = cellIndex-below _ _ _ (i .before .loop-test .taken) (s .pre .3) in
-    (s .pre .0, l .loop .inv .0 .length-is ∙ s .pre .1, s .pre .2, rw (i .cell-index .ensures) below)
+    (s .pre .0, l .loop .inv .0 .length-is ∙ s .pre .1, s .pre .2, rw (i .cell-index .ensures) below, s .pre .4)
 
 same-length : tie.Need-same-length Inv-loop μ-loop
 same-length c = let k = c .before .before .before in k .commit-cell .kept .0 ∙ k .before .before .before .before .loop .inv .0 .length-is

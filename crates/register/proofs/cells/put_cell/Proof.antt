@@ -1,11 +1,17 @@
--- `register::cells::put_cell` meets its contract: a missing value is stored as 0 with mark 0.
+-- `register::cells::put_cell` meets its contract: the product is stored in the values, the mark behind them.
 -- Assumes nothing.
 use Prim.Native.Nat.{ℕ, _+_, _*_}
-use mathlib.Core.Path.{sym, ap, _∙_}
+use mathlib.Core.Path.{_≡_, ap, ap₂, _∙_}
+use mathlib.Core.List.{List}
 use borrow.Author.Needs.{needs}
+use denote.Ref.{now}
+use lib.IntN.{ℤ, pos, _*ℤ_}
+use lib.ListN.{set}
+use lib.Seq.{sets}
+use mir.Facts.{toZ-ofZ}
+use Rattle.integers.specs.Bytes.{valueBytes}
 use Rattle.integers.proofs.Complement.{kept}
-use Rattle.register.specs.Cells.{valueOf, markOf}
-use Rattle.register.proofs.Arrays.{putCell-stores}
+use Rattle.register.specs.File.{putMarked}
 use Rattle.register.proofs.cells.put_cell.Statement.{statement}
 use Rattle.register.proofs.cells.put_cell.Tie as tie
 
@@ -18,40 +24,26 @@ mul-split c = search needs
 add-split : tie.Need-add-split
 add-split c = search needs
 
-enum-told : tie.Need-enum-told
-enum-told c = search needs
+times-mark-requires : tie.Need-times-mark-requires
+times-mark-requires c κs = search needs
 
 put-requires : tie.Need-put-requires
 put-requires c κs = search needs
-
-enum-known-cell : tie.Need-enum-known-cell
-enum-known-cell c = search needs
-
-put-requires-2 : tie.Need-put-requires-2
-put-requires-2 c κs = search needs
 
 same-length : tie.Need-same-length
 same-length c = search needs
 
 returns : tie.Need-returns
-unfolding valueOf markOf
+unfolding putMarked
 returns c =
-    let m = c .before .before .before .before in
-    let told = m .enum-told .given .1 in
-    c .before .before .put .ensures
-    ∙ putCell-stores _ _ _ _ (ap (λ (k : ℕ). 12 + 4 * k) (m .before .before .cell-count .ensures)) (sym (ap valueOf told)) (sym (ap markOf told))
-
-same-length-2 : tie.Need-same-length-2
-same-length-2 c = search needs
-
-returns-2 : tie.Need-returns-2
-unfolding valueOf markOf
-returns-2 c =
-    let m = c .before .before .before .before .before in
-    let told = m .cell .given .1 in
-    c .before .before .put2 .ensures
-    ∙ putCell-stores _ _ _ _ (ap (λ (k : ℕ). 12 + 4 * k) (m .before .before .cell-count .ensures))
-    (kept (m .cell .given .0 .0) (c .before .before .before .before .known-told .given .0 .1) ∙ sym (ap valueOf told)) (sym (ap markOf told))
+    let p = c .before .before in
+    let t = p .before in
+    let s = t .before .before .before .before in
+    let a = s .args in
+    p .put .ensures
+    ∙ ap₂ (λ (z : ℤ) (e : ℕ). set (sets (now (a .file)) (12 + 4 * a .j) (valueBytes z)) (e + a .j) (a .mark))
+    (kept _ (t .times-mark .ok) ∙ t .times-mark .ensures ∙ ap (λ (z : ℤ). z *ℤ pos (a .mark)) (toZ-ofZ (s .fits .value)))
+    (ap (λ (k : ℕ). 12 + 4 * k) (t .before .before .cell-count .ensures))
 
 pub put-cell-spec : {M : Type 1} → statement M
 put-cell-spec =
@@ -60,11 +52,7 @@ put-cell-spec =
     cell-count-requires
     mul-split
     add-split
-    enum-told
+    times-mark-requires
     put-requires
-    enum-known-cell
-    put-requires-2
     same-length
-    returns
-    same-length-2
-    returns-2)
+    returns)
