@@ -5,6 +5,7 @@ use mathlib.Core.Bool.{false, _&&_, _||_, or-false, or-assoc}
 use mathlib.Core.List.{List, [], _∷_, _++_, append-nil, append-assoc}
 use mathlib.Core.Option.{Option, none, some}
 use lib.Dec.{eqb}
+use lib.IntN.{ℤ}
 use lib.ListN.{length, length-set}
 use Rattle.laws.proofs.Bools.{or-neither, true-false, cond-both}
 use Rattle.register.specs.declared.Sizes.{Sizes}
@@ -65,7 +66,7 @@ recordMessages-local read rs zero e = refl
 recordMessages-local read rs (suc n) e = ap₂ _++_ (recordMessages-local read rs n e) (messages-local (read n) rs e)
 
 -- the number of cells is kept
-store-length : (s : Sizes) (u : ℕ) (o : Option (ℕ × Cell)) (cells : List Cell) → length (store s u o cells) ≡ length cells
+store-length : (s : Sizes) (u : ℕ) (o : Option (ℕ × ℤ)) (cells : List Cell) → length (store s u o cells) ≡ length cells
 unfolding store
 store-length s u none cells = refl
 store-length s u (some p) cells = length-set cells _ _

@@ -11,3 +11,4 @@ pub mod Direct
 pub mod Columns
 pub mod RunningPass
 pub mod Running
+pub mod Surviving

@@ -13,7 +13,7 @@ use Rattle.register.specs.File.{width, cellIndex}
 use Rattle.register.specs.Shape.{Limits}
 use Rattle.register.specs.declared.Sizes.{Sizes}
 use Rattle.register.specs.declared.cells.Cell.{Cell}
-use Rattle.register.specs.declared.cells.Cell.the-variants.{Missing as Unfilled}
+use Rattle.register.specs.declared.cells.Cell.the-variants.{Missing as Unfilled, Value as Filled}
 use Rattle.chain.specs.declared.reading.Reading.{Reading}
 use Rattle.chain.specs.declared.reading.Reading.the-variants.{Missing, Value}
 use Rattle.chain.specs.Word.{column, fieldAt}
@@ -25,7 +25,7 @@ use Rattle.program.specs.Passed.{RulePasses}
 use Rattle.laws.proofs.Lists.{each-append}
 use Rattle.machine.specs.declared.message.Message.{Message}
 use Rattle.machine.specs.Value.{both, value, holds}
-use Rattle.machine.specs.Local.{storedCell, storedTo, stored, store, localRule, localRules, localRecords}
+use Rattle.machine.specs.Local.{storedTo, stored, store, localRule, localRules, localRecords}
 use Rattle.machine.specs.Remote.{sentTo, sentBy, ruleMessages, messages, recordMessages, deliver, deliverAll}
 use Rattle.machine.specs.Step.{stepCells}
 use Rattle.machine.proofs.Refers.{place-column}
@@ -82,7 +82,8 @@ module _ (s : Sizes) (c : ℕ) (b : c < width s) (u : ℕ) where
   -- stays through the local rules
   store-here : (v : ℕ) (t : Target) (x : Reading) (cells : List Cell) → Elsewhere s c (targetField t) → here (store s v (storedTo t x) cells) ≡ here cells
   unfolding store storedTo targetField
-  store-here v (own f) x cells e = put-here cells v f (storedCell x) e
+  store-here v (own f) Missing cells e = refl
+  store-here v (own f) (Value z) cells e = put-here cells v f (Filled z) e
   store-here v (remote k f d) x cells e = refl
 
   local-here : (read : List ℕ → Reading) (v : ℕ) (rs : List Rule) (cells : List Cell) → AllElsewhere s c rs → here (localRules s read v rs cells) ≡ here cells

@@ -4,34 +4,32 @@ use mathlib.Core.List.{List, [], _∷_}
 use mathlib.Core.Option.{Option, none, some}
 use Prim.Native.Nat.{ℕ, zero, suc}
 use lib.Dec.{eqb}
+use lib.IntN.{ℤ}
 use lib.ListN.{set as put}
 use Rattle.register.specs.File.{cellIndex}
 use Rattle.register.specs.declared.Sizes.{Sizes}
 use Rattle.register.specs.declared.cells.Cell.{Cell}
-use Rattle.register.specs.declared.cells.Cell.the-variants.{Missing as Unfilled, Value as Filled}
+use Rattle.register.specs.declared.cells.Cell.the-variants.{Value as Filled}
 use Rattle.chain.specs.declared.reading.Reading.{Reading}
 use Rattle.chain.specs.declared.reading.Reading.the-variants.{Missing, Value}
 use Rattle.chain.specs.Word.{column}
 use Rattle.program.specs.Program.{Target, own, remote, Rule, targetField}
 use Rattle.machine.specs.Value.{value, overflows, holds}
 
--- the cell that `:=` makes of a reading: "an unfilled reading makes the cell unfilled"
-unfoldable pub storedCell : Reading → Cell
-storedCell Missing = Unfilled
-storedCell (Value z) = Filled z
-
--- the field that a local rule writes, and what it stores there
-unfoldable pub storedTo : Target → Reading → Option (ℕ × Cell)
-storedTo (own f) x = some (f, storedCell x)
+-- the field that a local rule writes and what it stores there, if anything: "`:=` with an unfilled reading or sum .. leaves the
+-- cell as earlier rules of that step left it"
+unfoldable pub storedTo : Target → Reading → Option (ℕ × ℤ)
+storedTo (own f) Missing = none
+storedTo (own f) (Value z) = some (f, z)
 storedTo (remote k f w) x = none
 
-unfoldable pub stored : (List ℕ → Reading) → Rule → Option (ℕ × Cell)
+unfoldable pub stored : (List ℕ → Reading) → Rule → Option (ℕ × ℤ)
 stored read r = storedTo (r .target) (value read (r .expression))
 
 -- the cells with this stored for record u
-unfoldable pub store : Sizes → ℕ → Option (ℕ × Cell) → List Cell → List Cell
+unfoldable pub store : Sizes → ℕ → Option (ℕ × ℤ) → List Cell → List Cell
 store s u none cells = cells
-store s u (some (f, c)) cells = put cells (cellIndex s u (column s f)) c
+store s u (some (f, z)) cells = put cells (cellIndex s u (column s f)) (Filled z)
 
 -- one rule at record u
 unfoldable pub localRule : Sizes → (List ℕ → Reading) → ℕ → Rule → List Cell → List Cell
