@@ -2,7 +2,7 @@
 
 use plot::{End, Refusal, Run};
 use reference::printed::{CELLS, SIZES, TEXT, register};
-use reference::register::Cell::{self, Missing, Value};
+use reference::register::Cell::{self, Value};
 use reference::register::{Sizes, encode};
 
 /// The register with every M missing or replaced.
