@@ -28,7 +28,7 @@ use Rattle.program.specs.Passed.{isReferenceWord, isReferenceExpression, Expres
 use Rattle.laws.proofs.Lists.{each-append}
 use Rattle.machine.specs.declared.message.Message.{Message}
 use Rattle.machine.specs.Value.{both, value, holds, readingInRange, cellInRange}
-use Rattle.machine.specs.Local.{storedTo, stored, store, localRule, localRules, localRecords}
+use Rattle.machine.specs.Local.{assigned, assign, localRule, localRules, localRecords}
 use Rattle.machine.specs.Remote.{sentTo, sentBy, ruleMessages, messages, recordMessages, smaller, merged, deliver, deliverAll}
 use Rattle.machine.specs.Step.{stepCells, stops}
 use Rattle.machine.proofs.Folding.{stepCells-length}
@@ -52,15 +52,11 @@ fits-in-range c h = go (readOf c) (rw (read-value c) h)
     go Missing h = refl
     go (Value z) h = fits-range z h
 
--- a cell behind `:=` of a reading
-abbrev over : Cell → Reading → Cell
-over c Missing = c
-over c (Value z) = Filled z
-
-over-refers : (n : ℕ) (c : Cell) (x : Reading) → refersTo n x ≡ true → refersWithin n c ≡ true → refersWithin n (over c x) ≡ true
-unfolding refersWithin refersTo
-over-refers n c Missing e h = h
-over-refers n c (Value z) e h = e
+-- a cell that refers does so behind `:=` of a reading that does
+assigned-refers : (n : ℕ) (x : Reading) (c : Cell) → refersTo n x ≡ true → refersWithin n c ≡ true → refersWithin n (assigned x c) ≡ true
+unfolding assigned refersWithin refersTo
+assigned-refers n Missing c e h = h
+assigned-refers n (Value z) c e h = e
 
 -- "`<?=` keeps the smaller": one of two references; `+=` is for measures
 merged-refers : (n : ℕ) (k : Sort) (c : Cell) (a : ℤ) → (k ≡ Total → ⊥) → refersWithin n c ≡ true → refersWithin n (Filled a) ≡ true
@@ -75,9 +71,9 @@ abbrev Sound : Sizes → Message → Type 0
 Sound s m = Change s (m .field) (λ c. merged (m .sort) c (m .amount))
 
 -- a remote write, if it is sent
-sent-sound : (s : Sizes) (k : Sort) (f : ℕ) (c x : Reading) → (k ≡ Total → isReference f ≡ false) → Change s f (λ d. over d x)
+sent-sound : (s : Sizes) (k : Sort) (f : ℕ) (c x : Reading) → (k ≡ Total → isReference f ≡ false) → Change s f (assigned x)
     → Each (Sound s) (sentTo k f c x)
-unfolding sentTo both
+unfolding sentTo both assigned
 sent-sound s k f Missing x m w = tt
 sent-sound s k f (Value v) Missing m w = tt
 sent-sound s k f (Value v) (Value a) m w =
@@ -94,20 +90,19 @@ module _ (s : Sizes) (lim : Limits s) (read : List ℕ → Reading)
   value-refers (operation op x y) k e = true-false e refl
 
   -- and what a rule writes to a reference
-  written : (r : Rule) → RulePasses s r → Change s (targetField (r .target)) (λ c. over c (value read (r .expression)))
-  written r k = record { field = k .field; refers = λ e c h. over-refers _ c _ (value-refers (r .expression) (k .expression) (sym (k .alike) ∙ e)) h }
+  written : (r : Rule) → RulePasses s r → Change s (targetField (r .target)) (assigned (value read (r .expression)))
+  written r k = record { field = k .field; refers = λ e c h. assigned-refers _ _ c (value-refers (r .expression) (k .expression) (sym (k .alike) ∙ e)) h }
 
   -- what a local rule stores, one rule, and rules in order
-  store-refers : (u : ℕ) (t : Target) (x : Reading) → Change s (targetField t) (λ c. over c x) → (cells : List Cell) → Refers s cells
-      → Refers s (store s u (storedTo t x) cells)
-  unfolding store storedTo targetField
-  store-refers u (own f) Missing w cells h = h
-  store-refers u (own f) (Value z) w cells h = change-refers s lim w u cells h
-  store-refers u (remote k f c) x w cells h = h
+  assign-refers : (u : ℕ) (t : Target) (x : Reading) → Change s (targetField t) (assigned x) → (cells : List Cell) → Refers s cells
+      → Refers s (assign s u t x cells)
+  unfolding assign targetField
+  assign-refers u (own f) x w cells h = change-refers s lim w u cells h
+  assign-refers u (remote k f c) x w cells h = h
 
   localRule-refers : (u : ℕ) (r : Rule) → RulePasses s r → (cells : List Cell) → Refers s cells → Refers s (localRule s read u r cells)
-  unfolding localRule stored
-  localRule-refers u r k cells h = cond-both (Refers s) (holds read (r .test)) _ _ (store-refers u (r .target) _ (written r k) cells h) h
+  unfolding localRule
+  localRule-refers u r k cells h = cond-both (Refers s) (holds read (r .test)) _ _ (assign-refers u (r .target) _ (written r k) cells h) h
 
   localRules-refers : (u : ℕ) (rs : List Rule) → Each (RulePasses s) rs → (cells : List Cell) → Refers s cells → Refers s (localRules s read u rs cells)
   unfolding localRules
@@ -115,7 +110,7 @@ module _ (s : Sizes) (lim : Limits s) (read : List ℕ → Reading)
   localRules-refers u (r ∷ rs) k cells h = localRules-refers u rs (k .1) _ (localRule-refers u r (k .0) cells h)
 
   -- the messages to a target, of a rule, and of rules
-  sentBy-sound : (t : Target) (x : Reading) → TargetPasses s t → Change s (targetField t) (λ c. over c x) → Each (Sound s) (sentBy read t x)
+  sentBy-sound : (t : Target) (x : Reading) → TargetPasses s t → Change s (targetField t) (assigned x) → Each (Sound s) (sentBy read t x)
   unfolding sentBy targetField
   sentBy-sound (own f) x p w = tt
   sentBy-sound (remote k f c) x p w = sent-sound s k f (read c) x (p .measure) w

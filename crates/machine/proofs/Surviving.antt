@@ -3,7 +3,6 @@ use Prim.Native.Nat.{ℕ, zero, suc}
 use mathlib.Core.Path.{_≡_, refl}
 use mathlib.Core.Bool.{true, false}
 use mathlib.Core.List.{List, [], _∷_}
-use mathlib.Core.Option.{Option, none, some}
 use lib.IntN.{ℤ}
 use lib.ListN.{getD}
 use lib.Signed.{ltZ}
@@ -12,17 +11,24 @@ use Rattle.register.specs.declared.Sizes.{Sizes}
 use Rattle.register.specs.declared.cells.Cell.{Cell}
 use Rattle.register.specs.declared.cells.Cell.the-variants.{Missing, Value}
 use Rattle.chain.specs.declared.reading.Reading.{Reading}
+use Rattle.chain.specs.declared.reading.Reading.the-variants as R
 use Rattle.program.specs.declared.rule.Sort.{Sort}
 use Rattle.program.specs.declared.rule.Sort.the-variants.{Least, Total}
-use Rattle.program.specs.Program.{Rule, Step, Program}
+use Rattle.program.specs.Program.{Target, own, remote, Rule, Step, Program}
 use Rattle.machine.specs.declared.message.Message.{Message}
 use Rattle.machine.specs.Filled.{isFilled, StayFilled}
-use Rattle.machine.specs.Value.{holds}
-use Rattle.machine.specs.Local.{stored, store, localRule, localRules, localRecords}
+use Rattle.machine.specs.Value.{value, holds}
+use Rattle.machine.specs.Local.{assigned, assign, localRule, localRules, localRecords}
 use Rattle.machine.specs.Remote.{recordMessages, smaller, increased, merged, deliver, deliverAll}
 use Rattle.machine.specs.Step.{stepCells, stops}
 use Rattle.machine.specs.Run.{Reader, Pass, Run, behind, stepFirst, runFrom, run}
 use Rattle.machine.proofs.Refers.{change-keeps}
+
+-- a filled cell is filled behind `:=`
+assigned-filled : (x : Reading) (c : Cell) → isFilled c ≡ true → isFilled (assigned x c) ≡ true
+unfolding assigned isFilled
+assigned-filled R.Missing c h = h
+assigned-filled (R.Value z) c h = refl
 
 -- "`<?=` keeps the smaller", and `+=` adds to what is there
 merged-filled : (k : Sort) (c : Cell) (a : ℤ) → isFilled c ≡ true → isFilled (merged k c a) ≡ true
@@ -33,17 +39,17 @@ merged-filled Total (Value z) a h = refl
 
 module _ (s : Sizes) where
   -- local rules
-  store-fills : (u : ℕ) (o : Option (ℕ × ℤ)) (cells : List Cell) → StayFilled cells (store s u o cells)
-  unfolding store isFilled
-  store-fills u none cells j h = h
-  store-fills u (some (f, z)) cells j h = change-keeps (λ c. isFilled c ≡ true) (λ c. Value z) (λ c e. refl) cells _ j h
+  assign-fills : (u : ℕ) (t : Target) (x : Reading) (cells : List Cell) → StayFilled cells (assign s u t x cells)
+  unfolding assign
+  assign-fills u (own f) x cells j h = change-keeps (λ c. isFilled c ≡ true) (assigned x) (assigned-filled x) cells _ j h
+  assign-fills u (remote k f w) x cells j h = h
 
   rules-fill : (read : List ℕ → Reading) (u : ℕ) (rs : List Rule) (cells : List Cell) → StayFilled cells (localRules s read u rs cells)
   unfolding localRules localRule
   rules-fill read u [] cells j h = h
   rules-fill read u (r ∷ rs) cells j h =
       rules-fill read u rs _ j
-      (cond-both (StayFilled cells) (holds read (r .test)) _ _ (store-fills u (stored read r) cells) (λ i e. e) j h)
+      (cond-both (StayFilled cells) (holds read (r .test)) _ _ (assign-fills u (r .target) (value read (r .expression)) cells) (λ i e. e) j h)
 
   records-fill : (read : ℕ → List ℕ → Reading) (rs : List Rule) (n : ℕ) (cells : List Cell) → StayFilled cells (localRecords s read rs n cells)
   unfolding localRecords

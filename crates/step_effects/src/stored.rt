@@ -20,11 +20,9 @@ use program::term::Term;
 use register::Sizes;
 use step_terms::term;
 
-// A rule stores nothing in its own record, makes a field missing or stores a value in it; or its sum for the field leaves the
-// range.
+// A rule stores nothing in its own record or a value in a field; or its sum for the field leaves the range.
 pub enum Write {
     Nothing,
-    Clear(u64),
     Store(u64, i32),
     OutOfRange(u64),
 }
@@ -33,7 +31,7 @@ fn write_reading(field: u64, reading: Reading) -> Write
     ensures { λ r. ⌜ r ≡ readingWrite field reading ⌝ }
 {
     match reading {
-        Reading::Missing => Write::Clear(field),
+        Reading::Missing => Write::Nothing,
         Reading::Value(value) => Write::Store(field, value),
     }
 }
@@ -76,12 +74,12 @@ fn combine(
     let first = at.first;
     let Reading::Value(a) = term::term_value(cells, filled, values, marks, sizes, u, x, first)
     else {
-        return Write::Clear(field);
+        return Write::Nothing;
     };
     let second = at.second;
     let Reading::Value(b) = term::term_value(cells, filled, values, marks, sizes, u, y, second)
     else {
-        return Write::Clear(field);
+        return Write::Nothing;
     };
     write_sum(field, operate(operator, a, b))
 }
