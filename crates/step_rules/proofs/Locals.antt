@@ -17,6 +17,7 @@ use Rattle.register.specs.File.{cellCount, cellIndex}
 use Rattle.register.specs.Shape.{Limits}
 use Rattle.register.specs.declared.Sizes.{Sizes}
 use Rattle.register.specs.declared.cells.Cell.{Cell}
+use Rattle.register.specs.declared.cells.Cell.the-variants.{Value}
 use Rattle.register.proofs.Bounds.{cellIndex-below}
 use Rattle.chain.specs.declared.reading.Reading.{Reading}
 use Rattle.chain.specs.Word.{hasField, column}

@@ -83,7 +83,7 @@ enum-known-field c = search needs
 
 store-requires : tie.Need-store-requires
 store-requires c κs =
-    let f = c .before .before in
+    let f = c .before .before .before in
     let w = f .before .before in
     let s = start w in
     (s .pre .0 .0, s .pre .0 .2, stores-field _ _ _ _ (field s) (wrote w ∙ f .field .given .1), s .pre .0 .3)
@@ -120,12 +120,12 @@ returns-2 : tie.Need-returns-2
 unfolding ruleIn
 returns-2 c =
     let stored = c .before .before .before in
-    let f = stored .before .before .before in
+    let f = stored .before .before .before .before in
     let w = f .before .before in
     let s = start w in
     let p = s .pre .0 in
     let z = f .field .given .0 .1 .0 in
-    let fits = stored .before .before .known-told .given .1 .0 .1 in
+    let fits = stored .before .before .before .known-told .given .1 .0 .1 in
     rule-stores _ _ _ _ _ _ _ _ z (wrote w ∙ f .field .given .1) (p .0) (p .2) (field s) (p .3)
     (rw (kept z fits) at (stored .store .ensures)) (record { sfits = fits })
 
