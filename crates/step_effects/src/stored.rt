@@ -71,15 +71,16 @@ fn combine(
     requires { ⌜ Parts sizes (now cells) (now filled) × (u < sizes .records) × RuleFound sizes (cellsOf (now cells) (now filled)) (now values) (now marks) u at (Combine field operator x y) ⌝ }
     ensures { λ r. ⌜ r ≡ sumWrite field (value (readsOf sizes (now (cells .entry)) (now (filled .entry)) u) (operation operator (termIn x) (termIn y))) ⌝ }
 {
+    let without_sum = Write::Nothing;
     let first = at.first;
     let Reading::Value(a) = term::term_value(cells, filled, values, marks, sizes, u, x, first)
     else {
-        return Write::Nothing;
+        return without_sum;
     };
     let second = at.second;
     let Reading::Value(b) = term::term_value(cells, filled, values, marks, sizes, u, y, second)
     else {
-        return Write::Nothing;
+        return without_sum;
     };
     write_sum(field, operate(operator, a, b))
 }
