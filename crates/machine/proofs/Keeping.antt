@@ -28,7 +28,7 @@ use Rattle.program.specs.Passed.{isReferenceWord, isReferenceExpression, Expres
 use Rattle.laws.proofs.Lists.{each-append}
 use Rattle.machine.specs.declared.message.Message.{Message}
 use Rattle.machine.specs.Value.{both, value, holds, readingInRange, cellInRange}
-use Rattle.machine.specs.Local.{assigned, assign, localRule, localRules, localRecords}
+use Rattle.machine.specs.Local.{storedOver, assign, localRule, localRules, localRecords}
 use Rattle.machine.specs.Remote.{sentTo, sentBy, ruleMessages, messages, recordMessages, smaller, merged, deliver, deliverAll}
 use Rattle.machine.specs.Step.{stepCells, stops}
 use Rattle.machine.proofs.Folding.{stepCells-length}
@@ -53,10 +53,10 @@ fits-in-range c h = go (readOf c) (rw (read-value c) h)
     go (Value z) h = fits-range z h
 
 -- a cell that refers does so behind `:=` of a reading that does
-assigned-refers : (n : ℕ) (x : Reading) (c : Cell) → refersTo n x ≡ true → refersWithin n c ≡ true → refersWithin n (assigned x c) ≡ true
-unfolding assigned refersWithin refersTo
-assigned-refers n Missing c e h = h
-assigned-refers n (Value z) c e h = e
+storedOver-refers : (n : ℕ) (x : Reading) (c : Cell) → refersTo n x ≡ true → refersWithin n c ≡ true → refersWithin n (storedOver x c) ≡ true
+unfolding storedOver refersWithin refersTo
+storedOver-refers n Missing c e h = h
+storedOver-refers n (Value z) c e h = e
 
 -- "`<?=` keeps the smaller": one of two references; `+=` is for measures
 merged-refers : (n : ℕ) (k : Sort) (c : Cell) (a : ℤ) → (k ≡ Total → ⊥) → refersWithin n c ≡ true → refersWithin n (Filled a) ≡ true
@@ -71,9 +71,9 @@ abbrev Sound : Sizes → Message → Type 0
 Sound s m = Change s (m .field) (λ c. merged (m .sort) c (m .amount))
 
 -- a remote write, if it is sent
-sent-sound : (s : Sizes) (k : Sort) (f : ℕ) (c x : Reading) → (k ≡ Total → isReference f ≡ false) → Change s f (assigned x)
+sent-sound : (s : Sizes) (k : Sort) (f : ℕ) (c x : Reading) → (k ≡ Total → isReference f ≡ false) → Change s f (storedOver x)
     → Each (Sound s) (sentTo k f c x)
-unfolding sentTo both assigned
+unfolding sentTo both storedOver
 sent-sound s k f Missing x m w = tt
 sent-sound s k f (Value v) Missing m w = tt
 sent-sound s k f (Value v) (Value a) m w =
@@ -90,11 +90,11 @@ module _ (s : Sizes) (lim : Limits s) (read : List ℕ → Reading)
   value-refers (operation op x y) k e = true-false e refl
 
   -- and what a rule writes to a reference
-  written : (r : Rule) → RulePasses s r → Change s (targetField (r .target)) (assigned (value read (r .expression)))
-  written r k = record { field = k .field; refers = λ e c h. assigned-refers _ _ c (value-refers (r .expression) (k .expression) (sym (k .alike) ∙ e)) h }
+  written : (r : Rule) → RulePasses s r → Change s (targetField (r .target)) (storedOver (value read (r .expression)))
+  written r k = record { field = k .field; refers = λ e c h. storedOver-refers _ _ c (value-refers (r .expression) (k .expression) (sym (k .alike) ∙ e)) h }
 
   -- what a local rule stores, one rule, and rules in order
-  assign-refers : (u : ℕ) (t : Target) (x : Reading) → Change s (targetField t) (assigned x) → (cells : List Cell) → Refers s cells
+  assign-refers : (u : ℕ) (t : Target) (x : Reading) → Change s (targetField t) (storedOver x) → (cells : List Cell) → Refers s cells
       → Refers s (assign s u t x cells)
   unfolding assign targetField
   assign-refers u (own f) x w cells h = change-refers s lim w u cells h
@@ -110,7 +110,7 @@ module _ (s : Sizes) (lim : Limits s) (read : List ℕ → Reading)
   localRules-refers u (r ∷ rs) k cells h = localRules-refers u rs (k .1) _ (localRule-refers u r (k .0) cells h)
 
   -- the messages to a target, of a rule, and of rules
-  sentBy-sound : (t : Target) (x : Reading) → TargetPasses s t → Change s (targetField t) (assigned x) → Each (Sound s) (sentBy read t x)
+  sentBy-sound : (t : Target) (x : Reading) → TargetPasses s t → Change s (targetField t) (storedOver x) → Each (Sound s) (sentBy read t x)
   unfolding sentBy targetField
   sentBy-sound (own f) x p w = tt
   sentBy-sound (remote k f c) x p w = sent-sound s k f (read c) x (p .measure) w

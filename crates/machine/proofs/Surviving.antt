@@ -18,17 +18,17 @@ use Rattle.program.specs.Program.{Target, own, remote, Rule, Step, Program}
 use Rattle.machine.specs.declared.message.Message.{Message}
 use Rattle.machine.specs.Filled.{isFilled, StayFilled}
 use Rattle.machine.specs.Value.{value, holds}
-use Rattle.machine.specs.Local.{assigned, assign, localRule, localRules, localRecords}
+use Rattle.machine.specs.Local.{storedOver, assign, localRule, localRules, localRecords}
 use Rattle.machine.specs.Remote.{recordMessages, smaller, increased, merged, deliver, deliverAll}
 use Rattle.machine.specs.Step.{stepCells, stops}
 use Rattle.machine.specs.Run.{Reader, Pass, Run, behind, stepFirst, runFrom, run}
 use Rattle.machine.proofs.Refers.{change-keeps}
 
 -- a filled cell is filled behind `:=`
-assigned-filled : (x : Reading) (c : Cell) → isFilled c ≡ true → isFilled (assigned x c) ≡ true
-unfolding assigned isFilled
-assigned-filled R.Missing c h = h
-assigned-filled (R.Value z) c h = refl
+storedOver-filled : (x : Reading) (c : Cell) → isFilled c ≡ true → isFilled (storedOver x c) ≡ true
+unfolding storedOver isFilled
+storedOver-filled R.Missing c h = h
+storedOver-filled (R.Value z) c h = refl
 
 -- "`<?=` keeps the smaller", and `+=` adds to what is there
 merged-filled : (k : Sort) (c : Cell) (a : ℤ) → isFilled c ≡ true → isFilled (merged k c a) ≡ true
@@ -41,7 +41,7 @@ module _ (s : Sizes) where
   -- local rules
   assign-fills : (u : ℕ) (t : Target) (x : Reading) (cells : List Cell) → StayFilled cells (assign s u t x cells)
   unfolding assign
-  assign-fills u (own f) x cells j h = change-keeps (λ c. isFilled c ≡ true) (assigned x) (assigned-filled x) cells _ j h
+  assign-fills u (own f) x cells j h = change-keeps (λ c. isFilled c ≡ true) (storedOver x) (storedOver-filled x) cells _ j h
   assign-fills u (remote k f w) x cells j h = h
 
   rules-fill : (read : List ℕ → Reading) (u : ℕ) (rs : List Rule) (cells : List Cell) → StayFilled cells (localRules s read u rs cells)

@@ -15,13 +15,13 @@ use Rattle.program.specs.Program.{Target, own, remote, Rule, targetField}
 use Rattle.machine.specs.Value.{value, overflows, holds}
 
 -- what `:=` makes of a cell: "`:=` with an unfilled reading or sum now leaves the cell as earlier rules of that step left it"
-unfoldable pub assigned : Reading → Cell → Cell
-assigned Missing c = c
-assigned (Value z) c = Filled z
+unfoldable pub storedOver : Reading → Cell → Cell
+storedOver Missing c = c
+storedOver (Value z) c = Filled z
 
--- the cells with a reading assigned for record u; a remote rule stores nothing here
+-- the cells with a reading stored for record u; a remote rule stores nothing here
 unfoldable pub assign : Sizes → ℕ → Target → Reading → List Cell → List Cell
-assign s u (own f) x cells = let j = cellIndex s u (column s f) in put cells j (assigned x (getD cells j Unfilled))
+assign s u (own f) x cells = let j = cellIndex s u (column s f) in put cells j (storedOver x (getD cells j Unfilled))
 assign s u (remote k f w) x cells = cells
 
 -- one rule at record u
