@@ -50,7 +50,13 @@ fn runs_agree() {
     tally.require(LEAST, &[0, 20, 21].map(refusal_name));
     tally.require(LEAST, &["letters 1 to 99", "letters 100 to 9,999"]);
     tally.require(100, &["letters 10,000 and more", REPEATED]);
+}
+
+#[test]
+fn runs_over_gaps_agree() {
+    let tally = tallied("runs over gaps", 44, 10_000, trials::with_gaps);
     tally.require(5_000, &[KEPT]);
+    tally.require(1_000, &[0, 21].map(refusal_name));
 }
 
 #[test]
