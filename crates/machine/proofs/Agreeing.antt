@@ -13,7 +13,7 @@ use Rattle.chain.specs.declared.reading.Reading.{Reading}
 use Rattle.program.specs.Program.{Expression, reading, constant, operation, Test, always, when, Target, own, remote, Rule, expressionReadings, testReadings, targetReadings, ruleReadings, readings}
 use Rattle.machine.specs.declared.message.Message.{Message}
 use Rattle.machine.specs.Value.{combined, value, cellInRange, overflows, compareReadings, holds}
-use Rattle.machine.specs.Local.{storedTo, stored, store, localRule, localRules, localRecords, offends, sumOffends}
+use Rattle.machine.specs.Local.{assign, localRule, localRules, localRecords, offends, sumOffends}
 use Rattle.machine.specs.Remote.{sentTo, sentBy, ruleMessages, messages, recordMessages, deliverAll}
 use Rattle.machine.specs.Step.{stepCells, offendsAt, someBelow, stops}
 
@@ -83,10 +83,10 @@ module _ (read read′ : List ℕ → Reading) where
     offends-agree = let k = rule-agree r h in ap₂ _&&_ (k .test) (overflows-agree (r .expression) (k .expression))
 
     pub localRule-agree : (s : Sizes) (u : ℕ) (cells : List Cell) → localRule s read u r cells ≡ localRule s read′ u r cells
-    unfolding localRule stored
+    unfolding localRule
     localRule-agree s u cells =
         let k = rule-agree r h in
-        ap₂ (λ (b : Bool) (x : Reading). cond b (store s u (storedTo (r .target) x) cells) cells) (k .test) (value-agree (r .expression) (k .expression))
+        ap₂ (λ (b : Bool) (x : Reading). cond b (assign s u (r .target) x cells) cells) (k .test) (value-agree (r .expression) (k .expression))
 
     pub ruleMessages-agree : ruleMessages read r ≡ ruleMessages read′ r
     unfolding ruleMessages

@@ -3,7 +3,6 @@ use Prim.Native.Nat.{ℕ, zero, suc}
 use mathlib.Core.Path.{_≡_, refl, ap₂, _∙_}
 use mathlib.Core.Bool.{false, _&&_, _||_, or-false, or-assoc}
 use mathlib.Core.List.{List, [], _∷_, _++_, append-nil, append-assoc}
-use mathlib.Core.Option.{Option, none, some}
 use lib.Dec.{eqb}
 use lib.ListN.{length, length-set}
 use Rattle.laws.proofs.Bools.{or-neither, true-false, cond-both}
@@ -13,8 +12,8 @@ use Rattle.chain.specs.declared.reading.Reading.{Reading}
 use Rattle.chain.specs.Word.{column}
 use Rattle.program.specs.Program.{Target, own, remote, Rule, isRemote, someTarget, hasRemote, targetField}
 use Rattle.machine.specs.declared.message.Message.{Message}
-use Rattle.machine.specs.Value.{holds}
-use Rattle.machine.specs.Local.{stored, store, localRule, localRules, localRecords, offends, sumOffends}
+use Rattle.machine.specs.Value.{value, holds}
+use Rattle.machine.specs.Local.{assign, localRule, localRules, localRecords, offends, sumOffends}
 use Rattle.machine.specs.Remote.{sentBy, ruleMessages, messages, recordMessages, deliver, deliverAll}
 use Rattle.machine.specs.Step.{stepCells}
 
@@ -65,15 +64,15 @@ recordMessages-local read rs zero e = refl
 recordMessages-local read rs (suc n) e = ap₂ _++_ (recordMessages-local read rs n e) (messages-local (read n) rs e)
 
 -- the number of cells is kept
-store-length : (s : Sizes) (u : ℕ) (o : Option (ℕ × Cell)) (cells : List Cell) → length (store s u o cells) ≡ length cells
-unfolding store
-store-length s u none cells = refl
-store-length s u (some p) cells = length-set cells _ _
+assign-length : (s : Sizes) (u : ℕ) (t : Target) (x : Reading) (cells : List Cell) → length (assign s u t x cells) ≡ length cells
+unfolding assign
+assign-length s u (own f) x cells = length-set cells _ _
+assign-length s u (remote k f w) x cells = refl
 
 pub localRule-length : (s : Sizes) (read : List ℕ → Reading) (u : ℕ) (r : Rule) (cells : List Cell) → length (localRule s read u r cells) ≡ length cells
 unfolding localRule
 localRule-length s read u r cells =
-    cond-both (λ (l : List Cell). length l ≡ length cells) (holds read (r .test)) _ _ (store-length s u (stored read r) cells) refl
+    cond-both (λ (l : List Cell). length l ≡ length cells) (holds read (r .test)) _ _ (assign-length s u (r .target) (value read (r .expression)) cells) refl
 
 pub localRules-length : (s : Sizes) (read : List ℕ → Reading) (u : ℕ) (rs : List Rule) (cells : List Cell) → length (localRules s read u rs cells) ≡ length cells
 unfolding localRules

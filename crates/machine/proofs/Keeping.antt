@@ -28,7 +28,7 @@ use Rattle.program.specs.Passed.{isReferenceWord, isReferenceExpression, Expres
 use Rattle.laws.proofs.Lists.{each-append}
 use Rattle.machine.specs.declared.message.Message.{Message}
 use Rattle.machine.specs.Value.{both, value, holds, readingInRange, cellInRange}
-use Rattle.machine.specs.Local.{storedCell, storedTo, stored, store, localRule, localRules, localRecords}
+use Rattle.machine.specs.Local.{storedOver, assign, localRule, localRules, localRecords}
 use Rattle.machine.specs.Remote.{sentTo, sentBy, ruleMessages, messages, recordMessages, smaller, merged, deliver, deliverAll}
 use Rattle.machine.specs.Step.{stepCells, stops}
 use Rattle.machine.proofs.Folding.{stepCells-length}
@@ -52,11 +52,11 @@ fits-in-range c h = go (readOf c) (rw (read-value c) h)
     go Missing h = refl
     go (Value z) h = fits-range z h
 
--- a cell refers where the reading does that it is made of
-stored-refers : (n : ℕ) (x : Reading) → refersWithin n (storedCell x) ≡ refersTo n x
-unfolding storedCell refersWithin refersTo
-stored-refers n Missing = refl
-stored-refers n (Value z) = refl
+-- a cell that refers does so behind `:=` of a reading that does
+storedOver-refers : (n : ℕ) (x : Reading) (c : Cell) → refersTo n x ≡ true → refersWithin n c ≡ true → refersWithin n (storedOver x c) ≡ true
+unfolding storedOver refersWithin refersTo
+storedOver-refers n Missing c e h = h
+storedOver-refers n (Value z) c e h = e
 
 -- "`<?=` keeps the smaller": one of two references; `+=` is for measures
 merged-refers : (n : ℕ) (k : Sort) (c : Cell) (a : ℤ) → (k ≡ Total → ⊥) → refersWithin n c ≡ true → refersWithin n (Filled a) ≡ true
@@ -71,9 +71,9 @@ abbrev Sound : Sizes → Message → Type 0
 Sound s m = Change s (m .field) (λ c. merged (m .sort) c (m .amount))
 
 -- a remote write, if it is sent
-sent-sound : (s : Sizes) (k : Sort) (f : ℕ) (c x : Reading) → (k ≡ Total → isReference f ≡ false) → Change s f (λ d. storedCell x)
+sent-sound : (s : Sizes) (k : Sort) (f : ℕ) (c x : Reading) → (k ≡ Total → isReference f ≡ false) → Change s f (storedOver x)
     → Each (Sound s) (sentTo k f c x)
-unfolding sentTo both storedCell
+unfolding sentTo both storedOver
 sent-sound s k f Missing x m w = tt
 sent-sound s k f (Value v) Missing m w = tt
 sent-sound s k f (Value v) (Value a) m w =
@@ -90,19 +90,19 @@ module _ (s : Sizes) (lim : Limits s) (read : List ℕ → Reading)
   value-refers (operation op x y) k e = true-false e refl
 
   -- and what a rule writes to a reference
-  written : (r : Rule) → RulePasses s r → Change s (targetField (r .target)) (λ c. storedCell (value read (r .expression)))
-  written r k = record { field = k .field; refers = λ e c h. stored-refers _ _ ∙ value-refers (r .expression) (k .expression) (sym (k .alike) ∙ e) }
+  written : (r : Rule) → RulePasses s r → Change s (targetField (r .target)) (storedOver (value read (r .expression)))
+  written r k = record { field = k .field; refers = λ e c h. storedOver-refers _ _ c (value-refers (r .expression) (k .expression) (sym (k .alike) ∙ e)) h }
 
   -- what a local rule stores, one rule, and rules in order
-  store-refers : (u : ℕ) (t : Target) (x : Reading) → Change s (targetField t) (λ c. storedCell x) → (cells : List Cell) → Refers s cells
-      → Refers s (store s u (storedTo t x) cells)
-  unfolding store storedTo targetField
-  store-refers u (own f) x w cells h = change-refers s lim w u cells h
-  store-refers u (remote k f c) x w cells h = h
+  assign-refers : (u : ℕ) (t : Target) (x : Reading) → Change s (targetField t) (storedOver x) → (cells : List Cell) → Refers s cells
+      → Refers s (assign s u t x cells)
+  unfolding assign targetField
+  assign-refers u (own f) x w cells h = change-refers s lim w u cells h
+  assign-refers u (remote k f c) x w cells h = h
 
   localRule-refers : (u : ℕ) (r : Rule) → RulePasses s r → (cells : List Cell) → Refers s cells → Refers s (localRule s read u r cells)
-  unfolding localRule stored
-  localRule-refers u r k cells h = cond-both (Refers s) (holds read (r .test)) _ _ (store-refers u (r .target) _ (written r k) cells h) h
+  unfolding localRule
+  localRule-refers u r k cells h = cond-both (Refers s) (holds read (r .test)) _ _ (assign-refers u (r .target) _ (written r k) cells h) h
 
   localRules-refers : (u : ℕ) (rs : List Rule) → Each (RulePasses s) rs → (cells : List Cell) → Refers s cells → Refers s (localRules s read u rs cells)
   unfolding localRules
@@ -110,7 +110,7 @@ module _ (s : Sizes) (lim : Limits s) (read : List ℕ → Reading)
   localRules-refers u (r ∷ rs) k cells h = localRules-refers u rs (k .1) _ (localRule-refers u r (k .0) cells h)
 
   -- the messages to a target, of a rule, and of rules
-  sentBy-sound : (t : Target) (x : Reading) → TargetPasses s t → Change s (targetField t) (λ c. storedCell x) → Each (Sound s) (sentBy read t x)
+  sentBy-sound : (t : Target) (x : Reading) → TargetPasses s t → Change s (targetField t) (storedOver x) → Each (Sound s) (sentBy read t x)
   unfolding sentBy targetField
   sentBy-sound (own f) x p w = tt
   sentBy-sound (remote k f c) x p w = sent-sound s k f (read c) x (p .measure) w

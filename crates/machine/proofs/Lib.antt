@@ -11,3 +11,5 @@ pub mod Direct
 pub mod Columns
 pub mod RunningPass
 pub mod Running
+pub mod Ending
+pub mod Surviving

@@ -19,7 +19,7 @@ use Rattle.chain.proofs.Following.{column-below}
 use Rattle.laws.proofs.Cases.{true-or-false}
 
 -- a cell is changed at place j, perhaps the one that is looked at
-change-keeps : (P : Cell → Type 0) (g : Cell → Cell) → ((c : Cell) → P c → P (g c)) → (cells : List Cell) (j i : ℕ)
+pub change-keeps : (P : Cell → Type 0) (g : Cell → Cell) → ((c : Cell) → P c → P (g c)) → (cells : List Cell) (j i : ℕ)
     → P (getD cells i Missing) → P (getD (put cells j (g (getD cells j Missing))) i Missing)
 change-keeps P g k [] j i h = h
 change-keeps P g k (c ∷ cells) zero zero h = k c h

@@ -76,7 +76,7 @@ unfolding runFrom stepFirst behind prepend
 runFrom-step s reader b pass cells here go-on = rw (here, go-on)
 
 -- what holds of each arm where its test does
-cond-cases : {A : Type 0} (P : A → Type 0) (b : Bool) (x y : A) → (b ≡ true → P x) → (b ≡ false → P y) → P (cond b x y)
+pub cond-cases : {A : Type 0} (P : A → Type 0) (b : Bool) (x y : A) → (b ≡ true → P x) → (b ≡ false → P y) → P (cond b x y)
 cond-cases P true x y h k = h refl
 cond-cases P false x y h k = k refl
 

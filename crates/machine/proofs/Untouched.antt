@@ -25,7 +25,7 @@ use Rattle.program.specs.Passed.{RulePasses}
 use Rattle.laws.proofs.Lists.{each-append}
 use Rattle.machine.specs.declared.message.Message.{Message}
 use Rattle.machine.specs.Value.{both, value, holds}
-use Rattle.machine.specs.Local.{storedCell, storedTo, stored, store, localRule, localRules, localRecords}
+use Rattle.machine.specs.Local.{assign, localRule, localRules, localRecords}
 use Rattle.machine.specs.Remote.{sentTo, sentBy, ruleMessages, messages, recordMessages, deliver, deliverAll}
 use Rattle.machine.specs.Step.{stepCells}
 use Rattle.machine.proofs.Refers.{place-column}
@@ -80,18 +80,18 @@ module _ (s : Sizes) (c : ℕ) (b : c < width s) (u : ℕ) where
       getD-set-other cells (cellIndex s v (column s f)) (cellIndex s u c) x Unfilled (λ q. e .other (sym (place-column s u v c (column s f) b (e .below) q)))
 
   -- stays through the local rules
-  store-here : (v : ℕ) (t : Target) (x : Reading) (cells : List Cell) → Elsewhere s c (targetField t) → here (store s v (storedTo t x) cells) ≡ here cells
-  unfolding store storedTo targetField
-  store-here v (own f) x cells e = put-here cells v f (storedCell x) e
-  store-here v (remote k f d) x cells e = refl
+  assign-here : (v : ℕ) (t : Target) (x : Reading) (cells : List Cell) → Elsewhere s c (targetField t) → here (assign s v t x cells) ≡ here cells
+  unfolding assign targetField
+  assign-here v (own f) x cells e = put-here cells v f _ e
+  assign-here v (remote k f d) x cells e = refl
 
   local-here : (read : List ℕ → Reading) (v : ℕ) (rs : List Rule) (cells : List Cell) → AllElsewhere s c rs → here (localRules s read v rs cells) ≡ here cells
-  unfolding localRules localRule stored
+  unfolding localRules localRule
   local-here read v [] cells e = refl
   local-here read v (r ∷ rs) cells e =
       local-here read v rs (localRule s read v r cells) (e .1)
       ∙ cond-both (λ (l : List Cell). here l ≡ here cells) (holds read (r .test)) _ cells
-      (store-here v (r .target) (value read (r .expression)) cells (e .0)) refl
+      (assign-here v (r .target) (value read (r .expression)) cells (e .0)) refl
 
   records-here : (read : ℕ → List ℕ → Reading) (rs : List Rule) (n : ℕ) (cells : List Cell) → AllElsewhere s c rs
       → here (localRecords s read rs n cells) ≡ here cells

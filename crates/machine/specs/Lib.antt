@@ -4,3 +4,4 @@ pub mod Local
 pub mod Remote
 pub mod Step
 pub mod Run
+pub mod Filled

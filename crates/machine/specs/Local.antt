@@ -1,10 +1,9 @@
 -- Local rules: what a rule stores in its own record, and the sums that it forms.
 use mathlib.Core.Bool.{Bool, false, cond, _&&_, _||_}
 use mathlib.Core.List.{List, [], _∷_}
-use mathlib.Core.Option.{Option, none, some}
 use Prim.Native.Nat.{ℕ, zero, suc}
 use lib.Dec.{eqb}
-use lib.ListN.{set as put}
+use lib.ListN.{getD, set as put}
 use Rattle.register.specs.File.{cellIndex}
 use Rattle.register.specs.declared.Sizes.{Sizes}
 use Rattle.register.specs.declared.cells.Cell.{Cell}
@@ -15,27 +14,19 @@ use Rattle.chain.specs.Word.{column}
 use Rattle.program.specs.Program.{Target, own, remote, Rule, targetField}
 use Rattle.machine.specs.Value.{value, overflows, holds}
 
--- the cell that `:=` makes of a reading: "an unfilled reading makes the cell unfilled"
-unfoldable pub storedCell : Reading → Cell
-storedCell Missing = Unfilled
-storedCell (Value z) = Filled z
+-- what `:=` makes of a cell: "`:=` with an unfilled reading or sum now leaves the cell as earlier rules of that step left it"
+unfoldable pub storedOver : Reading → Cell → Cell
+storedOver Missing c = c
+storedOver (Value z) c = Filled z
 
--- the field that a local rule writes, and what it stores there
-unfoldable pub storedTo : Target → Reading → Option (ℕ × Cell)
-storedTo (own f) x = some (f, storedCell x)
-storedTo (remote k f w) x = none
-
-unfoldable pub stored : (List ℕ → Reading) → Rule → Option (ℕ × Cell)
-stored read r = storedTo (r .target) (value read (r .expression))
-
--- the cells with this stored for record u
-unfoldable pub store : Sizes → ℕ → Option (ℕ × Cell) → List Cell → List Cell
-store s u none cells = cells
-store s u (some (f, c)) cells = put cells (cellIndex s u (column s f)) c
+-- the cells with a reading stored for record u; a remote rule stores nothing here
+unfoldable pub assign : Sizes → ℕ → Target → Reading → List Cell → List Cell
+assign s u (own f) x cells = let j = cellIndex s u (column s f) in put cells j (storedOver x (getD cells j Unfilled))
+assign s u (remote k f w) x cells = cells
 
 -- one rule at record u
 unfoldable pub localRule : Sizes → (List ℕ → Reading) → ℕ → Rule → List Cell → List Cell
-localRule s read u r cells = cond (holds read (r .test)) (store s u (stored read r) cells) cells
+localRule s read u r cells = cond (holds read (r .test)) (assign s u (r .target) (value read (r .expression)) cells) cells
 
 -- "each rule in order": later rules overwrite earlier ones
 unfoldable pub localRules : Sizes → (List ℕ → Reading) → ℕ → List Rule → List Cell → List Cell

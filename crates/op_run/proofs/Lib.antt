@@ -1,3 +1,4 @@
 -- Laws for the proofs of the functions.
 pub mod Copying
 pub mod Answering
+pub mod Surviving

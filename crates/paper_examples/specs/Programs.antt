@@ -43,6 +43,14 @@ pub printed-text : (n : ℕ) → exampleProgram n "step\nM[u] := M[A[A[u]]]\nend
 unfolding exampleProgram
 printed-text n = refl
 
+-- a rule that may read nothing behind one that has stored
+abbrev pub earlierStep : Step
+earlierStep = stepOf (untested (own 8) (constant (pos 5)) ∷ untested (own 8) (reading (0 ∷ 8 ∷ [])) ∷ [])
+
+pub earlier-text : (n : ℕ) → exampleProgram n "step\nM[u] := 5\nM[u] := M[A[u]]\nend\n" ≡ done (earlierStep ∷ [])
+unfolding exampleProgram
+earlier-text n = refl
+
 -- "`A[u] := u`"
 abbrev pub ownStep : Step
 ownStep = stepOf (untested (own 0) (reading []) ∷ [])

@@ -12,16 +12,16 @@ use Rattle.register.specs.declared.cells.Cell.the-variants.{Missing, Value}
 use Rattle.chain.specs.Word.{isReference, column, readOf, readCell, hop, follow, valueAtRecord}
 use Rattle.program.specs.Program.{Step, Program, targetField}
 use Rattle.machine.specs.Value.{both, operate, combined, value, readingInRange, cellInRange, overflows, holds}
-use Rattle.machine.specs.Local.{storedCell, storedTo, stored, store, localRule, localRules, localRecords, offends, sumOffends}
+use Rattle.machine.specs.Local.{storedOver, assign, localRule, localRules, localRecords, offends, sumOffends}
 use Rattle.machine.specs.Remote.{sentTo, sentBy, ruleMessages, messages, recordMessages, increased, merged, deliver, deliverAll}
 use Rattle.machine.specs.Step.{stepCells, offendsAt, someBelow, stops}
 use Rattle.machine.specs.Run.{Run, complete, exhausted, offended, direct, entered, following, behind, stepFirst, runFrom, run}
 use Rattle.paper_examples.specs.Printed.{printedSizes, printedCells}
-use Rattle.paper_examples.specs.Programs.{printedStep, ownStep, aboveStep, mostStep, amountsStep}
+use Rattle.paper_examples.specs.Programs.{printedStep, earlierStep, ownStep, aboveStep, mostStep, amountsStep}
 
 -- the run of the direct machine: a program with a budget over the cells of a register
 unfoldable pub exampleRun : Sizes → Program → ℕ → List Cell → Run
-unfolding inRange width cellIndex isReference column readOf readCell hop follow valueAtRecord both operate combined value readingInRange cellInRange overflows holds storedCell storedTo stored targetField store localRule localRules localRecords offends sumOffends sentTo sentBy ruleMessages messages recordMessages increased merged deliver deliverAll stepCells offendsAt someBelow stops direct entered following behind stepFirst runFrom run
+unfolding inRange width cellIndex isReference column readOf readCell hop follow valueAtRecord both operate combined value readingInRange cellInRange overflows holds targetField storedOver assign localRule localRules localRecords offends sumOffends sentTo sentBy ruleMessages messages recordMessages increased merged deliver deliverAll stepCells offendsAt someBelow stops direct entered following behind stepFirst runFrom run
 exampleRun s program budget cells = run s (direct s) program budget cells
 
 -- over the printed register, "allowance 1,000"
@@ -36,10 +36,10 @@ most = Value (pos 2147483647)
 abbrev pub mostCells : List Cell
 mostCells = Value (pos 1) ∷ most ∷ Value (pos 2) ∷ most ∷ Missing ∷ most ∷ []
 
--- "1 steps"; "0 1 180", "1 2 -", "2 - -"
+-- "1 steps"; "0 1 180", "1 2 0", "2 - 180"
 abbrev pub printedResult : Run
 printedResult = record {
-  cells = Value (pos 1) ∷ Value (pos 180) ∷ Value (pos 2) ∷ Missing ∷ Missing ∷ Missing ∷ [];
+  cells = Value (pos 1) ∷ Value (pos 180) ∷ Value (pos 2) ∷ Value (pos 0) ∷ Missing ∷ Value (pos 180) ∷ [];
   trace = (printedStep, printedCells) ∷ [];
   ending = complete;
 }
@@ -47,6 +47,16 @@ printedResult = record {
 pub printed-values : overPrinted (printedStep ∷ []) ≡ printedResult
 unfolding overPrinted
 printed-values = refl
+
+-- "leaves the cell as earlier rules of that step left it": record 2 has a gap at A and holds 5, where M was 180 before the step
+pub earlier-stays : overPrinted (earlierStep ∷ [])
+    ≡ record {
+      cells = Value (pos 1) ∷ Value (pos 0) ∷ Value (pos 2) ∷ Value (pos 180) ∷ Missing ∷ Value (pos 5) ∷ [];
+      trace = (earlierStep, printedCells) ∷ [];
+      ending = complete;
+    }
+unfolding overPrinted
+earlier-stays = refl
 
 -- "`A[u] := u` gives filled A everywhere"
 pub own-filled : overPrinted (ownStep ∷ [])

@@ -13,12 +13,10 @@ use mir.Syntax.{w32}
 use mir.Val.{SFits}
 use Rattle.register.specs.Cells.{valueOf, markOf, cellOf, Canonical}
 use Rattle.register.specs.declared.cells.Cell.{Cell}
-use Rattle.register.specs.declared.cells.Cell.the-variants.{Missing}
+use Rattle.register.specs.declared.cells.Cell.the-variants.{Missing, Value}
 use Rattle.register.proofs.Arrays.{cellOf-kept, cell-canonical, valueOf-cellOf, markOf-cellOf}
-use Rattle.chain.specs.declared.reading.Reading.{Reading}
 use Rattle.chain.specs.declared.reading.Reading.the-variants as R
 use Rattle.chain.specs.Word.{readingValue}
-use Rattle.machine.specs.Local.{storedCell}
 use Rattle.scratch.specs.Places.{storedAt, readingMark, Kept}
 use Rattle.scratch.proofs.Placed.{storedAt-kept}
 use Rattle.step_cells.specs.Work.{Room, HoldsCells, Proper, Same, Put, Small}
@@ -56,12 +54,11 @@ put-stored {c} v m = record {
   proper = λ h. cell-canonical c;
 }
 
--- and so is what is made of a reading
-pub put-read : {j : ℕ} (x : Reading) {values values′ : List ℤ} {marks marks′ : List ℕ}
-    → values′ ≡ set values j (readingValue x) → marks′ ≡ set marks j (readingMark x) → Put j (storedCell x) values marks values′ marks′
-unfolding storedCell readingValue readingMark valueOf markOf
-put-read R.Missing v m = put-stored v m
-put-read (R.Value z) v m = put-stored v m
+-- and so is a value
+pub put-value : {j : ℕ} (z : ℤ) {values values′ : List ℤ} {marks marks′ : List ℕ}
+    → values′ ≡ set values j (readingValue (R.Value z)) → marks′ ≡ set marks j (readingMark (R.Value z)) → Put j (Value z) values marks values′ marks′
+unfolding readingValue readingMark valueOf markOf
+put-value z v m = put-stored v m
 
 -- a place keeps its cell
 pub put-kept : {j : ℕ} {c : Cell} {values : List ℤ} {marks : List ℕ} → storedAt values marks j ≡ c → Put j c values marks values marks
@@ -115,15 +112,15 @@ module _ (base j : ℕ) {c : Cell} {values values′ : List ℤ} {marks marks′
   same-put = same-set base j changed
 
   module _ {k : ℕ} (r : Room base k values marks) (h : j < k) where
-    put-value : getD values′ (base + j) (pos 0) ≡ p .value
-    put-value = value-there base j changed (omega (arith, r .values-room))
+    value-put : getD values′ (base + j) (pos 0) ≡ p .value
+    value-put = value-there base j changed (omega (arith, r .values-room))
 
-    put-mark : getD marks′ (base + j) 0 ≡ p .mark
-    put-mark = mark-there base j changed (omega (arith, r .marks-room))
+    mark-put : getD marks′ (base + j) 0 ≡ p .mark
+    mark-put = mark-there base j changed (omega (arith, r .marks-room))
 
     put-there : storedAt values′ marks′ (base + j) ≡ c
     unfolding storedAt
-    put-there = ap₂ cellOf put-value put-mark ∙ p .cell-is
+    put-there = ap₂ cellOf value-put mark-put ∙ p .cell-is
 
   -- the cells with another one at j
   module _ {k : ℕ} {d : List Cell} (r : Room base k values marks) (h : j < k) (l : length d ≡ k) (e : HoldsCells base d values marks) where
@@ -132,7 +129,7 @@ module _ (base j : ℕ) {c : Cell} {values values′ : List ℤ} {marks marks′
 
     holds : (i : ℕ) → i < length d → Dec (i ≡ j) → Holds (getD (set d j c) i Missing) (getD values′ (base + i) (pos 0)) (getD marks′ (base + i) 0)
     holds i i< (yes q) =
-        rw (q, getD-set-same d j c Missing (omega arith), put-value r h, put-mark r h, ← p .cell-is)
+        rw (q, getD-set-same d j c Missing (omega arith), value-put r h, mark-put r h, ← p .cell-is)
         (sym (valueOf-cellOf _ _ (stored .missing)), sym (markOf-cellOf _ _ (stored .mark≤)))
     holds i i< (no q) =
         let o = kept-there base j changed (base + i) (λ e. q (omega arith)) in

@@ -24,17 +24,17 @@ use Rattle.program.specs.declared.rule.Slot.{Slot}
 use Rattle.program.specs.Program.{operation, isRemote, targetField}
 use Rattle.program.specs.Stored.{termIn, testIn, targetIn, expressionIn, ruleIn}
 use Rattle.machine.specs.Value.{operate, combined, value, readingInRange, overflows, holds}
-use Rattle.machine.specs.Local.{storedCell, storedTo, stored, offends}
+use Rattle.machine.specs.Local.{offends}
 use Rattle.machine.specs.Remote.{sentBy, ruleMessages}
 use Rattle.machine.proofs.Folding.{ruleMessages-local}
-use Rattle.step_effects.specs.Answers.{cellWrite, readingWrite, sumAnswer, sumWrite, writeStored, writeOf}
+use Rattle.step_effects.specs.Answers.{readingWrite, sumAnswer, sumWrite, targetWrite, writeOf}
 use Rattle.step_effects.specs.declared.stored.Write.{Write}
 use Rattle.step_effects.specs.declared.stored.Write.the-variants as W
 use Rattle.step_terms.proofs.Sides.{both-first, both-second, both-values}
 
 -- the answer for a sum is that for a sum of any size
 pub sum-answer : (f : ℕ) (z : ℤ) → sumAnswer f (sumOf z) ≡ sumWrite f (Value z)
-unfolding sumOf sumAnswer sumWrite readingInRange cellWrite storedCell
+unfolding sumOf sumAnswer sumWrite readingInRange readingWrite
 sum-answer f z = go (inRange z)
   where
     go : (t : Bool) → sumAnswer f (cond t (InRange z) OutOfRange) ≡ cond t (W.Store f z) (W.OutOfRange f)
@@ -48,12 +48,12 @@ operate-kept {l} ha hb e q = q ∙ ap sumOf (ap₂ (operate l) (toZ-ofZ ha) (toZ
 
 -- an operation on two readings, one of which may be missing
 module _ (op : Operator) (f : ℕ) where
-  pub sum-first : {x : Reading} (y : Reading) → x ≡ Missing → W.Clear f ≡ sumWrite f (combined op x y)
-  unfolding combined sumWrite readingInRange cellWrite storedCell
+  pub sum-first : {x : Reading} (y : Reading) → x ≡ Missing → W.Nothing ≡ sumWrite f (combined op x y)
+  unfolding combined sumWrite readingInRange readingWrite
   sum-first y e = ap (sumWrite f) (both-first Missing (λ a b. Value (operate op a b)) y e)
 
-  pub sum-second : (x : Reading) {y : Reading} → y ≡ Missing → W.Clear f ≡ sumWrite f (combined op x y)
-  unfolding combined sumWrite readingInRange cellWrite storedCell
+  pub sum-second : (x : Reading) {y : Reading} → y ≡ Missing → W.Nothing ≡ sumWrite f (combined op x y)
+  unfolding combined sumWrite readingInRange readingWrite
   sum-second x e = ap (sumWrite f) (both-second Missing (λ a b. Value (operate op a b)) x e)
 
   pub sum-written : {x y : Reading} {a b : ℤ} {s : Sum} → x ≡ Value a → y ≡ Value b → mag a < 2147483648 → mag b < 2147483648
@@ -67,7 +67,7 @@ module _ (read : List ℕ → Reading) where
   unfoldable pub done : Rule → Write
   done r =
       cond (overflows read (expressionIn r)) (W.OutOfRange (targetField (targetIn r)))
-      (writeStored (storedTo (targetIn r) (value read (expressionIn r))))
+      (targetWrite (targetIn r) (value read (expressionIn r)))
 
   -- a term forms no sum
   term-formed : (x : Term) → overflows read (termIn x) ≡ false
@@ -76,11 +76,11 @@ module _ (read : List ℕ → Reading) where
   term-formed (Number z) = refl
 
   pub set-done : (f : ℕ) (x : Term) → readingWrite f (value read (termIn x)) ≡ done (Set f x)
-  unfolding done expressionIn targetIn storedTo writeStored
+  unfolding done expressionIn targetIn targetWrite
   set-done f x = simp (term-formed x)
 
   pub combine-done : (f : ℕ) (op : Operator) (x y : Term) → sumWrite f (value read (operation op (termIn x) (termIn y))) ≡ done (Combine f op x y)
-  unfolding done expressionIn targetIn targetField storedTo writeStored overflows value sumWrite
+  unfolding done expressionIn targetIn targetField targetWrite overflows value sumWrite
   combine-done f op x y = simp (term-formed x, term-formed y) (go (readingInRange (combined op (value read (termIn x)) (value read (termIn y)))) _ _)
     where
       go : (i : Bool) (v w : Write) → cond i w v ≡ cond (not i) v w
@@ -89,7 +89,7 @@ module _ (read : List ℕ → Reading) where
 
   -- a remote write stores nothing
   remote-done : (r : Rule) → isRemote (targetIn r) ≡ true → done r ≡ W.Nothing
-  unfolding isRemote done expressionIn targetIn storedTo writeStored
+  unfolding isRemote done expressionIn targetIn targetWrite
   remote-done (Set f x) e = true-false e refl
   remote-done (Combine f op x y) e = true-false e refl
   remote-done (Remote k f c x) e = simp (term-formed x)
@@ -97,7 +97,7 @@ module _ (read : List ℕ → Reading) where
   module _ (x : Slot) where
     -- what a rule stores, by its test
     write-is : writeOf read (ruleIn x) ≡ cond (holds read (testIn (x .test))) (done (x .rule)) W.Nothing
-    unfolding writeOf ruleIn stored offends done
+    unfolding writeOf ruleIn offends done
     write-is = go (holds read (testIn (x .test))) (overflows read (expressionIn (x .rule))) _ _ _
       where
         go : (t o : Bool) (v w n : Write) → cond (t && o) v (cond t w n) ≡ cond t (cond o v w) n

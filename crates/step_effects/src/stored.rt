@@ -20,11 +20,9 @@ use program::term::Term;
 use register::Sizes;
 use step_terms::term;
 
-// A rule stores nothing in its own record, makes a field missing or stores a value in it; or its sum for the field leaves the
-// range.
+// A rule stores nothing in its own record or a value in a field; or its sum for the field leaves the range.
 pub enum Write {
     Nothing,
-    Clear(u64),
     Store(u64, i32),
     OutOfRange(u64),
 }
@@ -33,7 +31,7 @@ fn write_reading(field: u64, reading: Reading) -> Write
     ensures { λ r. ⌜ r ≡ readingWrite field reading ⌝ }
 {
     match reading {
-        Reading::Missing => Write::Clear(field),
+        Reading::Missing => Write::Nothing,
         Reading::Value(value) => Write::Store(field, value),
     }
 }
@@ -73,15 +71,16 @@ fn combine(
     requires { ⌜ Parts sizes (now cells) (now filled) × (u < sizes .records) × RuleFound sizes (cellsOf (now cells) (now filled)) (now values) (now marks) u at (Combine field operator x y) ⌝ }
     ensures { λ r. ⌜ r ≡ sumWrite field (value (readsOf sizes (now (cells .entry)) (now (filled .entry)) u) (operation operator (termIn x) (termIn y))) ⌝ }
 {
+    let without_sum = Write::Nothing;
     let first = at.first;
     let Reading::Value(a) = term::term_value(cells, filled, values, marks, sizes, u, x, first)
     else {
-        return Write::Clear(field);
+        return without_sum;
     };
     let second = at.second;
     let Reading::Value(b) = term::term_value(cells, filled, values, marks, sizes, u, y, second)
     else {
-        return Write::Clear(field);
+        return without_sum;
     };
     write_sum(field, operate(operator, a, b))
 }

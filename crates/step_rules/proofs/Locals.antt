@@ -17,6 +17,7 @@ use Rattle.register.specs.File.{cellCount, cellIndex}
 use Rattle.register.specs.Shape.{Limits}
 use Rattle.register.specs.declared.Sizes.{Sizes}
 use Rattle.register.specs.declared.cells.Cell.{Cell}
+use Rattle.register.specs.declared.cells.Cell.the-variants.{Value}
 use Rattle.register.proofs.Bounds.{cellIndex-below}
 use Rattle.chain.specs.declared.reading.Reading.{Reading}
 use Rattle.chain.specs.Word.{hasField, column}
@@ -28,13 +29,13 @@ use Rattle.program.specs.Stored.{ruleIn, rulesIn}
 use Rattle.machine.specs.Local.{offends, localRules, localRecords, sumOffends}
 use Rattle.machine.proofs.Folding.{localRules-more, localRules-length, localRecords-length, sumOffends-more}
 use Rattle.step_terms.specs.Found.{followed}
-use Rattle.step_effects.specs.Answers.{cellWrite, writeOf}
-use Rattle.step_effects.specs.declared.stored.Write.the-variants.{Nothing, OutOfRange}
+use Rattle.step_effects.specs.Answers.{writeOf}
+use Rattle.step_effects.specs.declared.stored.Write.the-variants.{Nothing, Store, OutOfRange}
 use Rattle.step_cells.specs.Work.{Room, HoldsCells, Same, Put, Small}
 use Rattle.step_rules.specs.Ready.{RuleReady, AllReady, LocalRule, RuleStops, LocalDone, LocalStops}
 use Rattle.step_cells.specs.declared.stop.Stop.the-variants.{Nowhere, At}
 use Rattle.step_cells.proofs.Working.{same-refl, same-then, same-put, holds-put, small-put}
-use Rattle.step_rules.proofs.Writing.{told, told-cell}
+use Rattle.step_rules.proofs.Writing.{told}
 
 -- one of many
 each-at : {A : Type 0} (P : A → Type 0) (l : List A) (k : ℕ) (d : A) → k < length l → Each P l → P (getD l k d)
@@ -49,8 +50,8 @@ module _ (s : Sizes) (cells : List Cell) (u : ℕ) (r : Rule) where
 
   -- the field that it stores to, or whose sum it forms
   module _ (field : hasField s (targetField (r .target)) ≡ true) where
-    pub stores-field : (f : ℕ) (c : Cell) → writeOf read r ≡ cellWrite f c → hasField s f ≡ true
-    stores-field f c e = ap (hasField s) (told-cell read r f c e .field-is) ∙ field
+    pub stores-field : {f : ℕ} {z : ℤ} → writeOf read r ≡ Store f z → hasField s f ≡ true
+    stores-field e = ap (hasField s) (told read r e .field-is) ∙ field
 
     pub offends-field : {f : ℕ} → writeOf read r ≡ OutOfRange f → hasField s f ≡ true
     offends-field e = ap (hasField s) (told read r e .field-is) ∙ field
@@ -67,14 +68,15 @@ module _ (s : Sizes) (cells : List Cell) (u : ℕ) (r : Rule) where
         let t = told read r e in
         (same-refl, record { row = refl; column-is = ap (column s) (t .field-is); out-of-range = t .out-of-range })
 
-    pub rule-stores : (f : ℕ) (c : Cell) {values′ : List ℤ} {marks′ : List ℕ} → writeOf read r ≡ cellWrite f c → Limits s → u < s .records
+    pub rule-stores : (f : ℕ) (z : ℤ) {values′ : List ℤ} {marks′ : List ℕ} → writeOf read r ≡ Store f z → Limits s → u < s .records
         → hasField s (targetField (r .target)) ≡ true → Room base (cellCount s) values marks
-        → Put (base + cellIndex s u (column s f)) c values marks values′ marks′ → SFits w32 (valueOf c)
+        → Put (base + cellIndex s u (column s f)) (Value z) values marks values′ marks′ → SFits w32 z
         → LocalRule s cells base u r values marks values′ marks′ Nowhere
-    rule-stores f c e limits row field room p fits =
-        let t = told-cell read r f c e in
+    unfolding valueOf
+    rule-stores f z e limits row field room p fits =
+        let t = told read r e in
         let k = cellIndex s u (column s f) in
-        let below : k < cellCount s = cellIndex-below s u (column s f) row (column-below s limits f (stores-field field f c e)) in (
+        let below : k < cellCount s = cellIndex-below s u (column s f) row (column-below s limits f (stores-field field e)) in (
           same-put base k p,
           record {
             in-range = t .in-range;

@@ -7,7 +7,7 @@ ghost use Rattle.register.specs.File.{cellCount, cellIndex, cellsOfFile};
 ghost use Rattle.register.specs.Shape.{Limits};
 ghost use Rattle.chain.specs.Word.{hasField, column as columnOf};
 ghost use Rattle.program.specs.Stored.{ruleIn};
-ghost use Rattle.machine.specs.Local.{storedCell};
+ghost use Rattle.register.specs.declared.cells.Cell.the-variants.{Value};
 ghost use Rattle.step_cells.specs.Work.{Room, Put};
 ghost use Rattle.step_rules.specs.Ready.{RuleReady, LocalRule};
 use chain::follow;
@@ -21,7 +21,7 @@ use step_cells::stop::Stop;
 use step_effects::stored;
 use step_effects::stored::Write;
 
-// Stores what is made of a reading in the working cell of record u and a field.
+// Stores a value in the working cell of record u and a field.
 fn store(
     values: &mut [i64],
     marks: &mut [u8],
@@ -29,13 +29,13 @@ fn store(
     base: usize,
     u: usize,
     field: u64,
-    reading: Reading,
+    value: i32,
 )
     requires { ⌜ Limits sizes × (u < sizes .records) × (hasField sizes field ≡ true) × Room base (cellCount sizes) (now values) (now marks) ⌝ }
-    ensures { λ _. ⌜ Put (base + cellIndex sizes u (columnOf sizes field)) (storedCell reading) (now (values .entry)) (now (marks .entry)) (now (values .exit)) (now (marks .exit)) ⌝ }
+    ensures { λ _. ⌜ Put (base + cellIndex sizes u (columnOf sizes field)) (Value value) (now (values .entry)) (now (marks .entry)) (now (values .exit)) (now (marks .exit)) ⌝ }
 {
     let place = step_cells::place(sizes, base, u, field);
-    scratch::put_reading(values, marks, place, reading);
+    scratch::put_reading(values, marks, place, Reading::Value(value));
 }
 
 // One rule at record u of the register in `out`.
@@ -62,12 +62,8 @@ pub fn apply_rule(
         rule,
     ) {
         Write::Nothing => Stop::Nowhere,
-        Write::Clear(field) => {
-            store(values, marks, sizes, base, u, field, Reading::Missing);
-            Stop::Nowhere
-        }
         Write::Store(field, value) => {
-            store(values, marks, sizes, base, u, field, Reading::Value(value));
+            store(values, marks, sizes, base, u, field, value);
             Stop::Nowhere
         }
         Write::OutOfRange(field) => Stop::At(u, follow::column(sizes, field as usize)),

@@ -2,9 +2,9 @@
 
 use crate::random::Random;
 use crate::registers;
-use crate::texts;
+use crate::texts::{self, Shape};
 use reference::program::Program;
-use reference::register::Sizes;
+use reference::register::{Sizes, encode};
 use reference::run::scratch_length;
 use reference::text::read_text;
 
@@ -26,14 +26,37 @@ impl Case {
     pub fn new(random: &mut Random, sizes: Sizes) -> Case {
         loop {
             let shape = texts::any_shape(random);
-            let text = texts::text(random, sizes, shape);
-            if let Ok(program) = read_text(&text, &sizes) {
-                return Case {
-                    sizes,
-                    register: registers::file(random, sizes),
-                    text,
-                    program,
-                };
+            if let Some(case) = Case::of_shape(random, sizes, shape) {
+                return case;
+            }
+        }
+    }
+
+    /// A case of a shape, if its text passes.
+    fn of_shape(random: &mut Random, sizes: Sizes, shape: Shape) -> Option<Case> {
+        let text = texts::text(random, sizes, shape);
+        let program = read_text(&text, &sizes).ok()?;
+        Some(Case {
+            sizes,
+            register: registers::file(random, sizes),
+            text,
+            program,
+        })
+    }
+
+    /// A small case whose steps write a field again and again, over a register with gaps.
+    pub fn with_gaps(random: &mut Random) -> Case {
+        let sizes = Sizes {
+            records: random.between(2, 12),
+            references: random.between(1, 3),
+            measures: random.between(1, 3),
+        };
+        loop {
+            let shape = texts::gap_shape(random);
+            if let Some(mut case) = Case::of_shape(random, sizes, shape) {
+                let density = random.pick(&[50, 80, 90]);
+                case.register = encode(sizes, &registers::cells(random, sizes, density));
+                return case;
             }
         }
     }

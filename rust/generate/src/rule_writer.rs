@@ -16,6 +16,8 @@ pub(crate) struct RuleWriter<'a> {
     sorts: [Sort; 16],
     /// How many different letters stand inside chains: A and those behind it.
     different: usize,
+    /// The field that the rule before writes.
+    before: Option<usize>,
     /// The letters inside the chains so far.
     earlier: Vec<Vec<u8>>,
 }
@@ -30,6 +32,7 @@ impl<'a> RuleWriter<'a> {
             shape,
             sorts,
             different,
+            before: None,
             earlier: Vec::new(),
         }
     }
@@ -40,12 +43,24 @@ impl<'a> RuleWriter<'a> {
             true => self.test(),
             false => String::new(),
         };
-        let field = self.random.below(self.sizes.fields());
+        let field = self.field();
         let action = match self.random.percent(self.shape.remotes) {
             true => self.remote(field),
             false => self.local(field),
         };
         test + &action
+    }
+
+    /// The field that a rule writes, now and then that of the rule before.
+    fn field(&mut self) -> usize {
+        let repeats = self.shape.repeats;
+        let again = repeats > 0 && self.random.percent(repeats);
+        let field = match self.before {
+            Some(field) if again => field,
+            _ => self.random.below(self.sizes.fields()),
+        };
+        self.before = Some(field);
+        field
     }
 
     fn test(&mut self) -> String {

@@ -22,6 +22,8 @@ pub struct Shape {
     pub remotes: usize,
     /// Measures in a hundred that are numbers.
     pub numbers: usize,
+    /// Rules in a hundred that write the field of the rule before.
+    pub repeats: usize,
     /// Chains in a hundred that take letters over from an earlier chain of their step.
     pub shared: usize,
 }
@@ -36,6 +38,7 @@ pub fn shape(random: &mut Random) -> Shape {
         tests: 40,
         remotes: 35,
         numbers: 30,
+        repeats: 20,
         shared: random.pick(&[0, 50]),
     }
 }
@@ -51,7 +54,23 @@ pub fn plan_shape(random: &mut Random) -> Shape {
         tests: random.pick(&[0, 50, 100, 100]),
         remotes: random.pick(&[0, 50, 100, 100]),
         numbers: random.pick(&[0, 0, 30, 100]),
+        repeats: 20,
         shared: random.pick(&[0, 50, 90, 98]),
+    }
+}
+
+/// A shape for gaps: steps whose rules write one field again and again, chains and numbers mixed.
+pub fn gap_shape(random: &mut Random) -> Shape {
+    Shape {
+        parts: random.between(1, 3),
+        rules: 8,
+        fewest_rules: 4,
+        hops: 3,
+        tests: 10,
+        remotes: 10,
+        numbers: 40,
+        repeats: 90,
+        shared: 0,
     }
 }
 

@@ -1,7 +1,7 @@
 //! What a step does with its readings: local rules, then remote writes. Both
 //! machines do it alike; they differ in how a record comes to know a reading.
 
-use crate::program::{Reading, Step};
+use crate::program::{PlannedRule, Reading, Step};
 use crate::register::{Cell, Sizes};
 use crate::rule::{Action, Comparison, Sort, Stored, Term, Test};
 
@@ -30,6 +30,8 @@ pub struct Work {
     /// The cells, which stand as the step leaves them once it has been applied.
     pub cells: Vec<Cell>,
     amounts: Vec<i64>,
+    /// How often a gap has left what an earlier rule of its step had stored.
+    pub kept: u64,
 }
 
 impl Work {
@@ -39,6 +41,7 @@ impl Work {
             sizes,
             cells: vec![Cell::Missing; sizes.cells()],
             amounts: vec![0; sizes.cells()],
+            kept: 0,
         }
     }
 
@@ -63,24 +66,24 @@ impl Work {
     }
 
     /// For each record, each local rule in order; later ones overwrite earlier
-    /// ones, but a sum out of range stops the run even where overwritten.
+    /// ones, but a sum out of range stops the run even where overwritten. A rule
+    /// that reads nothing leaves the cell as earlier rules left it.
     fn local_writes(&mut self, step: &Step, known: &impl Knowledge) -> Result<(), OutOfRange> {
         let mut outside = Vec::new();
         for record in 0..self.sizes.records {
-            for rule in &step.rules {
-                let Action::Local(stored) = &rule.action else {
-                    continue;
-                };
-                if !passes(&rule.test, record, known) {
-                    continue;
-                }
-                let place = self.place(record, rule.field);
-                match evaluate(stored, record, known) {
-                    Some(cell) => self.cells[place] = cell,
-                    None => outside.push(Place {
-                        record,
-                        field: rule.field,
-                    }),
+            for (index, rule) in step.rules.iter().enumerate() {
+                let field = rule.field;
+                match written(rule, record, known) {
+                    Written::Nothing => {}
+                    Written::Gap => {
+                        let earlier = &step.rules[..index];
+                        self.kept += u64::from(is_stored(earlier, field, record, known));
+                    }
+                    Written::Value(value) => {
+                        let place = self.place(record, field);
+                        self.cells[place] = Cell::Value(value);
+                    }
+                    Written::OutOfRange => outside.push(Place { record, field }),
                 }
             }
         }
@@ -173,20 +176,45 @@ fn value(term: &Term<Reading>, record: usize, known: &impl Knowledge) -> Cell {
     }
 }
 
-/// What a local rule stores; none where its sum is out of range.
-fn evaluate(stored: &Stored<Reading>, record: usize, known: &impl Knowledge) -> Option<Cell> {
+/// What comes of a rule in its own record.
+enum Written {
+    /// It is not done, or is remote.
+    Nothing,
+    /// What it reads, or its sum, is missing.
+    Gap,
+    Value(i32),
+    OutOfRange,
+}
+
+fn written(rule: &PlannedRule, record: usize, known: &impl Knowledge) -> Written {
+    let Action::Local(stored) = &rule.action else {
+        return Written::Nothing;
+    };
+    if !passes(&rule.test, record, known) {
+        return Written::Nothing;
+    }
     let value = |term| value(term, record, known);
     match stored {
-        Stored::Term(x) => Some(value(x)),
+        Stored::Term(x) => match value(x) {
+            Cell::Missing => Written::Gap,
+            Cell::Value(x) => Written::Value(x),
+        },
         Stored::Sum(x, y) => combine(value(x), value(y), i32::checked_add),
         Stored::Difference(x, y) => combine(value(x), value(y), i32::checked_sub),
     }
 }
 
 /// A sum with a missing side is missing.
-fn combine(x: Cell, y: Cell, sum: impl Fn(i32, i32) -> Option<i32>) -> Option<Cell> {
+fn combine(x: Cell, y: Cell, sum: impl Fn(i32, i32) -> Option<i32>) -> Written {
     match (x, y) {
-        (Cell::Value(x), Cell::Value(y)) => sum(x, y).map(Cell::Value),
-        _ => Some(Cell::Missing),
+        (Cell::Value(x), Cell::Value(y)) => sum(x, y).map_or(Written::OutOfRange, Written::Value),
+        _ => Written::Gap,
     }
+}
+
+/// Whether one of these rules stores a value in a field of a record.
+fn is_stored(rules: &[PlannedRule], field: usize, record: usize, known: &impl Knowledge) -> bool {
+    rules.iter().any(|rule| {
+        rule.field == field && matches!(written(rule, record, known), Written::Value(_))
+    })
 }

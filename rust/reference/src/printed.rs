@@ -26,8 +26,8 @@ pub const TEXT: &[u8] = b"step\nM[u] := M[A[A[u]]]\nend\n";
 pub const OUTPUT: &str = "\
 3 records 1 steps 3 exchanges 4 letters
 0 1 180
-1 2 -
-2 - -
+1 2 0
+2 - 180
 ";
 
 /// The register file.

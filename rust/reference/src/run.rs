@@ -69,6 +69,8 @@ pub struct Run {
     pub finished: u16,
     /// Exchanges and letters.
     pub counts: Counts,
+    /// How often a gap left what an earlier rule of its step had stored.
+    pub kept: u64,
     /// How it ended.
     pub end: End,
 }
@@ -125,6 +127,7 @@ pub fn run<M: Machine>(
     Ok(Run {
         finished: runner.finished,
         counts: runner.counts,
+        kept: runner.work.kept,
         end,
     })
 }

@@ -45,7 +45,7 @@ fn two(cells: [Cell; 2], rules: &str) -> Left {
 fn printed_values() {
     assert_eq!(
         column(1, "M[u] := M[A[A[u]]]"),
-        [Value(180), Missing, Missing]
+        [Value(180), Value(0), Value(180)]
     );
     assert_eq!(
         column(0, "M[u] := M[A[A[u]]]"),
@@ -59,11 +59,12 @@ fn own_number_fills_everywhere() {
 }
 
 #[test]
-fn missing_reading_makes_the_cell_missing() {
+fn missing_reading_leaves_the_cell() {
     assert_eq!(
         column(1, "M[u] := M[A[u]]"),
-        [Value(0), Value(180), Missing]
+        [Value(0), Value(180), Value(180)]
     );
+    assert_eq!(column(0, "A[u] := A[A[u]]"), [Value(2), Value(2), Missing]);
     assert_eq!(
         column(1, "M[u] := M[u] + 1"),
         [Missing, Value(1), Value(181)]
@@ -77,17 +78,22 @@ fn missing_reading_makes_the_cell_missing() {
 #[test]
 fn step_reads_the_cells_before_it() {
     assert_eq!(
-        column(1, "M[u] := 7\nM[u] := M[A[u]]"),
-        [Value(0), Value(180), Missing]
-    );
-    assert_eq!(
         column(1, "A[u] := u\nM[u] := M[A[u]]"),
-        [Value(0), Value(180), Missing]
+        [Value(0), Value(180), Value(180)]
     );
     assert_eq!(
         column(1, "A[u] := u\nremote M[A[u]] += 5"),
         [Missing, Value(5), Value(185)]
     );
+}
+
+#[test]
+fn gap_leaves_what_an_earlier_rule_of_the_step_stored() {
+    let rules = "M[u] := 7\nM[u] := M[A[u]]";
+    assert_eq!(column(1, rules), [Value(0), Value(180), Value(7)]);
+    assert_eq!(printed_run(&format!("step\n{rules}\nend\n"), 9).run.kept, 1);
+    let sum = "M[u] := 7\nM[u] := M[A[u]] + 1";
+    assert_eq!(column(1, sum), [Value(1), Value(181), Value(7)]);
 }
 
 #[test]
@@ -200,7 +206,7 @@ fn remote_writes_come_after_local_ones() {
     assert_eq!(column(1, "remote M[u] <?= 3\nM[u] := 10"), [Value(3); 3]);
     assert_eq!(
         column(1, "M[u] := M[A[A[u]]]\nremote M[u] += 1"),
-        [Value(181), Missing, Missing]
+        [Value(181), Value(1), Value(181)]
     );
 }
 
@@ -281,15 +287,15 @@ fn loop_runs_until_its_field_is_the_same() {
 
 #[test]
 fn loop_compares_marks_as_well() {
-    // M goes from a filled 0 to missing: the same values, other marks.
+    // M goes from missing to a filled 0: the same values, other marks.
     let sizes = Sizes {
         records: 1,
-        references: 1,
+        references: 0,
         measures: 1,
     };
-    let text = "loop M\nstep\nM[u] := M[A[u]]\nend\ndone\n";
-    let left = run(sizes, &[Missing, Value(0)], text, 9);
-    assert_eq!((left.run.finished, left.cells), (2, vec![Missing, Missing]));
+    let text = "loop M\nstep\nM[u] := 0\nend\ndone\n";
+    let left = run(sizes, &[Missing], text, 9);
+    assert_eq!((left.run.finished, left.cells), (2, vec![Value(0)]));
 }
 
 #[test]

@@ -67,7 +67,7 @@ fn counts_are_summed_over_the_finished_steps() {
         + "step\nM[u] := 2147483647 + 1\nremote M[u] += 1\nend\n";
     let left = run(printed::SIZES, &printed::CELLS, &text, 9);
     assert_eq!((left.run.finished, left.run.end.number()), (2, 21));
-    assert_eq!((left.run.counts.exchanges, left.run.counts.letters), (4, 7));
+    assert_eq!((left.run.counts.exchanges, left.run.counts.letters), (4, 8));
 }
 
 /// The places of the printed step after round t, with rubbish behind the last line.

@@ -97,11 +97,13 @@ returns c =
     let l = c .before in
     let s = l .before .before .before .before .before in
     let cut = rw (l .before .before .values-part .ensures, l .before .marks-part .ensures) at (l .loop .inv .1) in
-    let count = s .pre .0 .valid .count in
-    (record {
-      value-is = λ i h. cut i (omega (arith, parts l .marks-length, count)) .0 ∙ register-value (s .args .sizes) (now (s .args .out)) (s .pre .0) i (omega (arith, count));
-      mark-is = λ i h. cut i (omega (arith, parts l .marks-length, count)) .1 ∙ register-mark (s .args .sizes) (now (s .args .out)) (s .pre .0) i;
-    }, l .loop .inv .0)
+    let count = s .pre .0 .valid .count in (
+      record {
+        value-is = λ i h. cut i (omega (arith, parts l .marks-length, count)) .0 ∙ register-value (s .args .sizes) (now (s .args .out)) (s .pre .0) i (omega (arith, count));
+        mark-is = λ i h. cut i (omega (arith, parts l .marks-length, count)) .1 ∙ register-mark (s .args .sizes) (now (s .args .out)) (s .pre .0) i;
+      },
+      l .loop .inv .0,
+    )
 
 pub begin-spec : {M : Type 1} → statement M
 begin-spec =

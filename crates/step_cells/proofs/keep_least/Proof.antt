@@ -13,10 +13,8 @@ use mir.Facts.{toZ-ofZ}
 use Rattle.register.specs.declared.cells.Cell.the-variants.{Value}
 use Rattle.machine.specs.Remote.{merged}
 use Rattle.program.specs.declared.rule.Sort.the-variants.{Least}
-use Rattle.chain.specs.declared.reading.Reading.the-variants as Reading
 use Rattle.scratch.specs.Places.{storedAt}
-use Rattle.machine.specs.Local.{storedCell}
-use Rattle.step_cells.proofs.Working.{put-read}
+use Rattle.step_cells.proofs.Working.{put-value}
 use Rattle.step_cells.proofs.Merging.{least-missing, least-smaller, least-kept}
 use Rattle.step_cells.proofs.keep_least.Statement.{statement}
 use Rattle.step_cells.proofs.keep_least.Tie as tie
@@ -66,12 +64,11 @@ same-length-2 : tie.Need-same-length-2
 same-length-2 c = search needs
 
 returns-2 : tie.Need-returns-2
-unfolding storedCell
 returns-2 c =
     let p = c .before .before .before in
     let j = p .before .before .before in
     let e = p .put-reading .ensures in
-    rw (stored j, ← toZ-ofZ {w = w32} (j .before .before .before .fits .amount)) (put-read (Reading.Value _) (e .0) (e .1))
+    rw (stored j, ← toZ-ofZ {w = w32} (j .before .before .before .fits .amount)) (put-value _ (e .0) (e .1))
 
 pub keep-least-spec : {M : Type 1} → statement M
 keep-least-spec =

@@ -77,8 +77,8 @@ returns c =
     let t = rw (sym (asked r) ∙ v .value .given .1) at (total-told (z r)) in (
       cell-in-range (z r) mark (proper r) ∙ t .0,
       p .put-cell .ensures
-      ∙ ap (λ (y : ℤ). putMarked (a .sizes) (a .j) y mark (now (a .out))) (kept _ (k .known-told .given .0 .1) ∙ t .1)
-      ∙ putMarked-cell (a .sizes) (a .j) (z r) mark (now (a .out)) (proper r .mark≤),
+          ∙ ap (λ (y : ℤ). putMarked (a .sizes) (a .j) y mark (now (a .out))) (kept _ (k .known-told .given .0 .1) ∙ t .1)
+          ∙ putMarked-cell (a .sizes) (a .j) (z r) mark (now (a .out)) (proper r .mark≤),
     )
 
 returns-2 : tie.Need-returns-2

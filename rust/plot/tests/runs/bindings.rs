@@ -2,7 +2,7 @@
 
 use plot::{End, Refusal, Run};
 use reference::printed::{CELLS, SIZES, TEXT, register};
-use reference::register::Cell::{self, Missing, Value};
+use reference::register::Cell::{self, Value};
 use reference::register::{Sizes, encode};
 
 /// The register with every M missing or replaced.
@@ -17,7 +17,7 @@ fn printed_with(measures: [Cell; 3]) -> Vec<u8> {
 /// What the printed run gives, with these counts of exchanges and letters.
 fn printed_run(exchanges: u64, letters: u64) -> Result<Run, Refusal> {
     Ok(Run {
-        register: printed_with([Value(180), Missing, Missing]),
+        register: printed_with([Value(180), Value(0), Value(180)]),
         finished: 1,
         exchanges,
         letters,

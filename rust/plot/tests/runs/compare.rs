@@ -34,6 +34,8 @@ const MESSAGES: Machine = Machine {
 pub struct Left {
     pub number: u32,
     pub answer: Answer,
+    /// How often a gap left what an earlier rule of its step had stored.
+    pub kept: u64,
     buffers: RunBuffers,
 }
 
@@ -60,7 +62,7 @@ pub fn compare(random: &mut Random, trial: &Trial) -> Left {
 impl Machine {
     /// Runs a trial by the library and by the reference.
     fn compare(&self, random: &mut Random, trial: &Trial) -> Left {
-        let left = self.by_library(random, trial);
+        let mut left = self.by_library(random, trial);
         let mut output = trial.buffers.output.clone();
         let (register, text) = (&trial.register, &trial.text);
         let run = (self.reference)(register, text, trial.budget, &mut output, trial.scratch());
@@ -69,7 +71,10 @@ impl Machine {
                 assert_eq!(left.buffers, trial.buffers, "{}", self.name);
                 refused(*refusal)
             }
-            Ok(run) => answered(run, &left.answer),
+            Ok(run) => {
+                left.kept = run.kept;
+                answered(run, &left.answer)
+            }
         };
         assert_eq!((left.number, left.answer), expected, "{}", self.name);
         assert_eq!(left.buffers.output, output, "{}", self.name);
@@ -84,6 +89,7 @@ impl Machine {
         Left {
             number,
             answer,
+            kept: 0,
             buffers,
         }
     }

@@ -14,6 +14,8 @@ const RUNS: usize = 50_000;
 const LEAST: u64 = 500;
 /// More steps finished than a text can have.
 const REPEATED: &str = "a loop repeated";
+/// A gap left what an earlier rule of its step had stored.
+const KEPT: &str = "a gap left what its step had stored";
 
 /// Compares so many trials, and counts and prints what came of them.
 fn tallied(title: &str, seed: u64, runs: usize, trial: fn(&mut Random) -> Trial) -> Tally {
@@ -26,6 +28,9 @@ fn tallied(title: &str, seed: u64, runs: usize, trial: fn(&mut Random) -> Trial)
         tally.count(&refusal_name(left.number));
         if left.answer[lent::FINISHED] > MAX_STEPS as u64 {
             tally.count(REPEATED);
+        }
+        if left.kept > 0 {
+            tally.count(KEPT);
         }
         tally.count(match left.answer[lent::LETTERS] {
             0 => "letters 0",
@@ -45,6 +50,13 @@ fn runs_agree() {
     tally.require(LEAST, &[0, 20, 21].map(refusal_name));
     tally.require(LEAST, &["letters 1 to 99", "letters 100 to 9,999"]);
     tally.require(100, &["letters 10,000 and more", REPEATED]);
+}
+
+#[test]
+fn runs_over_gaps_agree() {
+    let tally = tallied("runs over gaps", 44, 10_000, trials::with_gaps);
+    tally.require(5_000, &[KEPT]);
+    tally.require(1_000, &[0, 21].map(refusal_name));
 }
 
 #[test]

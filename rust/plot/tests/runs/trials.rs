@@ -79,6 +79,12 @@ pub fn right(random: &mut Random) -> Trial {
     Trial::new(random, case, budget)
 }
 
+/// The same with steps that write a field again and again, over a register with gaps.
+pub fn with_gaps(random: &mut Random) -> Trial {
+    let case = Case::with_gaps(random);
+    Trial::new(random, case, 40)
+}
+
 /// The same with as many records as may be, and a small budget.
 pub fn large(random: &mut Random) -> Trial {
     let sizes = registers::large_sizes(random);

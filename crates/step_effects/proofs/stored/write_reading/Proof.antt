@@ -2,8 +2,7 @@
 -- Assumes nothing.
 use mathlib.Core.Path.{sym, ap, _∙_}
 use Rattle.integers.proofs.Complement.{kept}
-use Rattle.machine.specs.Local.{storedCell}
-use Rattle.step_effects.specs.Answers.{cellWrite, readingWrite}
+use Rattle.step_effects.specs.Answers.{readingWrite}
 use Rattle.step_effects.specs.declared.stored.Write.the-variants.{Store}
 use borrow.Author.Needs.{needs}
 use Rattle.step_effects.proofs.stored.write_reading.Statement.{statement}
@@ -16,11 +15,11 @@ enum-known-reading : tie.Need-enum-known-reading
 enum-known-reading c = search needs
 
 returns : tie.Need-returns
-unfolding cellWrite storedCell
+unfolding readingWrite
 returns c = sym (ap (readingWrite (c .before .before .args .field)) (c .enum-told .given .1))
 
 returns-2 : tie.Need-returns-2
-unfolding cellWrite storedCell
+unfolding readingWrite
 returns-2 c =
     let f = c .before .before .before .args .field in
     ap (Store f) (kept _ (c .known-told .given .0 .1)) ∙ sym (ap (readingWrite f) (c .before .reading .given .1))

@@ -8,19 +8,16 @@ use native.Mathlib.Omega.{arith}
 use denote.Ref.{now}
 use lib.Seq.{length-take-le}
 use Rattle.integers.proofs.Complement.{kept}
-use Rattle.register.specs.Cells.{valueOf}
 use Rattle.register.specs.File.{cellsOfFile}
 use Rattle.register.specs.declared.cells.Cell.{Cell}
-use Rattle.register.specs.declared.cells.Cell.the-variants.{Missing, Value}
 use Rattle.register.proofs.Loading.{file-parts}
 use Rattle.chain.specs.declared.reading.Reading.{Reading}
-use Rattle.chain.specs.Word.{column, hasField}
+use Rattle.chain.specs.Word.{hasField}
 use Rattle.chain.proofs.Fields.{field-below}
 use Rattle.program.specs.Program.{Rule, targetField}
 use Rattle.program.specs.Stored.{ruleIn}
 use Rattle.step_terms.specs.Found.{followed}
-use Rattle.step_effects.specs.Answers.{cellWrite, writeOf}
-use Rattle.machine.specs.Local.{storedCell}
+use Rattle.step_effects.specs.Answers.{writeOf}
 use Rattle.step_rules.proofs.Locals.{rule-idles, rule-offends, rule-stores, stores-field, offends-field}
 use borrow.Author.Needs.{needs}
 use Rattle.step_rules.proofs.local.apply_rule.Statement.{statement}
@@ -85,26 +82,14 @@ enum-known-field : tie.Need-enum-known-field
 enum-known-field c = search needs
 
 store-requires : tie.Need-store-requires
-unfolding cellWrite
 store-requires c κs =
     let f = c .before .before .before in
     let w = f .before .before in
     let s = start w in
-    (s .pre .0 .0, s .pre .0 .2, stores-field _ _ _ _ (field s) _ Missing (wrote w ∙ f .field .given .1), s .pre .0 .3)
+    (s .pre .0 .0, s .pre .0 .2, stores-field _ _ _ _ (field s) (wrote w ∙ f .field .given .1), s .pre .0 .3)
 
 enum-known-field-2 : tie.Need-enum-known-field-2
 enum-known-field-2 c = search needs
-
-store-requires-2 : tie.Need-store-requires-2
-unfolding cellWrite
-store-requires-2 c κs =
-    let f = c .before .before .before in
-    let w = f .before .before in
-    let s = start w in
-    (s .pre .0 .0, s .pre .0 .2, stores-field _ _ _ _ (field s) _ (Value _) (wrote w ∙ f .field2 .given .1), s .pre .0 .3)
-
-enum-known-field-3 : tie.Need-enum-known-field-3
-enum-known-field-3 c = search needs
 
 column-requires : tie.Need-column-requires
 column-requires c κs =
@@ -112,7 +97,7 @@ column-requires c κs =
     let w = f .before .before in
     let s = start w in
     let limits = s .pre .0 .0 in
-    (limits .references≤, field-below (s .args .sizes) limits _ (offends-field _ _ _ _ (field s) (wrote w ∙ f .field3 .given .1)))
+    (limits .references≤, field-below (s .args .sizes) limits _ (offends-field _ _ _ _ (field s) (wrote w ∙ f .field2 .given .1)))
 
 same-length : tie.Need-same-length
 same-length c = search needs
@@ -132,14 +117,17 @@ same-length-4 : tie.Need-same-length-4
 same-length-4 c = search needs
 
 returns-2 : tie.Need-returns-2
-unfolding ruleIn cellWrite valueOf column storedCell
+unfolding ruleIn
 returns-2 c =
     let stored = c .before .before .before in
     let f = stored .before .before .before .before in
     let w = f .before .before in
     let s = start w in
     let p = s .pre .0 in
-    rule-stores _ _ _ _ _ _ _ _ Missing (wrote w ∙ f .field .given .1) (p .0) (p .2) (field s) (p .3) (stored .store .ensures) (record { sfits = omega arith })
+    let z = f .field .given .0 .1 .0 in
+    let fits = stored .before .before .before .known-told .given .1 .0 .1 in
+    rule-stores _ _ _ _ _ _ _ _ z (wrote w ∙ f .field .given .1) (p .0) (p .2) (field s) (p .3)
+    (rw (kept z fits) at (stored .store .ensures)) (record { sfits = fits })
 
 same-length-5 : tie.Need-same-length-5
 same-length-5 c = search needs
@@ -148,29 +136,10 @@ same-length-6 : tie.Need-same-length-6
 same-length-6 c = search needs
 
 returns-3 : tie.Need-returns-3
-unfolding ruleIn cellWrite valueOf storedCell
 returns-3 c =
-    let stored = c .before .before .before in
-    let f = stored .before .before .before .before in
-    let w = f .before .before in
-    let s = start w in
-    let p = s .pre .0 in
-    let z = f .field2 .given .0 .1 .0 in
-    let fits = stored .before .before .before .known-told2 .given .1 .0 .1 in
-    rule-stores _ _ _ _ _ _ _ _ (Value z) (wrote w ∙ f .field2 .given .1) (p .0) (p .2) (field s) (p .3)
-    (rw (kept z fits) at (stored .store2 .ensures)) (record { sfits = fits })
-
-same-length-7 : tie.Need-same-length-7
-same-length-7 c = search needs
-
-same-length-8 : tie.Need-same-length-8
-same-length-8 c = search needs
-
-returns-4 : tie.Need-returns-4
-returns-4 c =
     let f = c .before .before in
     let w = f .before .before in
-    rw (c .column .ensures) (rule-offends _ _ _ _ _ _ _ (wrote w ∙ f .field3 .given .1))
+    rw (c .column .ensures) (rule-offends _ _ _ _ _ _ _ (wrote w ∙ f .field2 .given .1))
 
 pub apply-rule-spec : {M : Type 1} → statement M
 apply-rule-spec =
@@ -187,8 +156,6 @@ apply-rule-spec =
     enum-known-field
     store-requires
     enum-known-field-2
-    store-requires-2
-    enum-known-field-3
     column-requires
     same-length
     same-length-2
@@ -198,7 +165,4 @@ apply-rule-spec =
     returns-2
     same-length-5
     same-length-6
-    returns-3
-    same-length-7
-    same-length-8
-    returns-4)
+    returns-3)

@@ -3,7 +3,9 @@
 use native.Mathlib.Omega.{arith}
 use Rattle.register.proofs.Bounds.{cellIndex-below}
 use Rattle.chain.proofs.Following.{column-below}
-use Rattle.step_cells.proofs.Working.{put-read}
+use Rattle.step_cells.proofs.Working.{put-value}
+use mir.Syntax.{w32}
+use mir.Facts.{toZ-ofZ}
 use borrow.Author.Needs.{needs}
 use Rattle.step_rules.proofs.local.store.Statement.{statement}
 use Rattle.step_rules.proofs.local.store.Tie as tie
@@ -29,7 +31,7 @@ returns c =
     let p = c .before .before .before in
     let w = p .before .before .before in
     let e = p .put-reading .ensures in
-    rw (← w .place .ensures) (put-read (w .before .before .args .reading) (e .0) (e .1))
+    rw (← w .place .ensures, ← toZ-ofZ {w = w32} (w .before .before .fits .value)) (put-value _ (e .0) (e .1))
 
 pub store-spec : {M : Type 1} → statement M
 store-spec = tie.close (tie.spec place-requires put-reading-requires same-length same-length-2 returns)
