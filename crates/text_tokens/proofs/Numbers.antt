@@ -2,7 +2,7 @@
 use Prim.Native.Nat.{ℕ, suc, _+_, _-_, _≤_}
 use mathlib.Core.Path.{_≡_, refl, sym, ap, ap₂, _∙_}
 use mathlib.Core.Logic.{_≢_}
-use mathlib.Core.Bool.{Bool, true, false, cond, not, _&&_}
+use mathlib.Core.Bool.{Bool, true, false, cond, not, _&&_, _||_}
 use mathlib.Core.List.{List, [], _∷_}
 use native.Mathlib.Omega.{arith}
 use native.Mathlib.Decide.{decLe}
@@ -127,18 +127,12 @@ same-test a b c d f g = go (eqb a b) refl
     go false h = h ∙ sym (ne-eqb c d (λ e. eqb-false a b h (g e)))
 
 -- the point and two digits take three places, and no point takes none
-decimals-test : (x : Numeral) (p e : ℕ) → e + length (wholeDigits x) ≡ p + length (printedNumeral x) → twoDecimals x ≡ not (not (eqb (e - p) 0) && not (eqb (e - p) 3))
+decimals-test : (x : Numeral) (p e : ℕ) → e + length (wholeDigits x) ≡ p + length (printedNumeral x) → twoDecimals x ≡ eqb (e - p) 0 || eqb (e - p) 3
 unfolding twoDecimals wholeDigits printedNumeral
 decimals-test (whole ds) p e h = rw (eq-eqb (e - p) 0 (omega arith))
 decimals-test (metres ds cs) p e h =
     let size = length-append ds (46 ∷ cs) in
-    same-test (length cs) 2 (e - p) 3 (λ z. omega (arith, size)) (λ z. omega (arith, size))
-    ∙ not-not (eqb (e - p) 3)
-    ∙ sym (ap (λ (y : Bool). not (not y && not (eqb (e - p) 3))) (ne-eqb (e - p) 0 (λ z. omega (arith, size))))
-  where
-    not-not : (y : Bool) → y ≡ not (not y)
-    not-not true = refl
-    not-not false = refl
+    rw (ne-eqb (e - p) 0 (λ z. omega (arith, size))) (same-test (length cs) 2 (e - p) 3 (λ z. omega (arith, size)) (λ z. omega (arith, size)))
 
 capped-zero : (n : ℕ) → eqb n 0 ≡ eqb (capped n) 0
 unfolding capped
@@ -150,8 +144,7 @@ point-before {t} r = omega (arith, r .point-is, r .end-is, ap length (numeral-wh
 -- the reader's tests, where a numeral stands at `at`
 pub numeral-at : (t : List ℕ) (at : ℕ) (negative : Bool) {d : Figures} → ReadsNumeral at (drop at t) d → d .point ≢ at
     → isNumeral negative (numeral (drop at t))
-    ≡ not (eqb (getD t at 0) 48 && ltb 1 (d .point - at))
-    && (not (not (eqb (d .end - d .point) 0) && not (eqb (d .end - d .point) 3)) && not (negative && eqb (d .value) 0))
+    ≡ not (eqb (getD t at 0) 48 && ltb 1 (d .point - at)) && ((eqb (d .end - d .point) 0 || eqb (d .end - d .point) 3) && not (negative && eqb (d .value) 0))
 unfolding isNumeral
 numeral-at t at negative {d} r ne =
     let x = numeral (drop at t) in
@@ -166,19 +159,20 @@ numeral-at t at negative {d} r ne =
     let zero : eqb (centimetres x) 0 ≡ eqb (d .value) 0 = capped-zero (centimetres x) ∙ ap (λ (n : ℕ). eqb n 0) (sym (r .value-is)) in
     rw (leading, decimals, zero)
 
+-- and where none does
+pub numeral-empty : (negative : Bool) (t : List ℕ) → length (digits t) ≡ 0 → isNumeral negative (numeral t) ≡ false
+unfolding isNumeral noLeadingZero
+numeral-empty negative t h = rw (numeral-whole t, go (digits t) h)
+  where
+    go : (ds : List ℕ) → length ds ≡ 0 → noLeadingZero ds ≡ false
+    go [] h = refl
+    go (d ∷ ds) h = absurd (omega arith)
+
 -- the reader's answers
 module _ (at : ℕ) (negative : Bool) (t : List ℕ) where
   pub read-unformed : isNumeral negative (numeral t) ≡ false → digitsRead at (signedForm negative t) ≡ NoForm
   unfolding digitsRead
   read-unformed h = ap (digitsRead at) (signed-unformed negative t h)
-
-  pub read-empty : length (digits t) ≡ 0 → digitsRead at (signedForm negative t) ≡ NoForm
-  unfolding isNumeral noLeadingZero
-  read-empty h = read-unformed (rw (numeral-whole t, go (digits t) h))
-    where
-      go : (ds : List ℕ) → length ds ≡ 0 → noLeadingZero ds ≡ false
-      go [] h = refl
-      go (d ∷ ds) h = absurd (omega arith)
 
   pub read-formed : isNumeral negative (numeral t) ≡ true
       → digitsRead at (signedForm negative t) ≡ Number (signedValue negative (capped (centimetres (numeral t)))) (at + length (printedNumeral (numeral t)))

@@ -3,7 +3,7 @@ ghost use mathlib.Core.Path.{_≡_};
 ghost use mathlib.Core.Bool.{true};
 ghost use Prim.Native.Nat.{_+_, _-_, _*_, _≤_};
 ghost use lib.ListN.{length, drop};
-ghost use Rattle.text_forms.specs.Numeral.{isDigit, startsDigit, capped, signedValue, numberForm, signedForm};
+ghost use Rattle.text_forms.specs.Numeral.{isDigit, startsDigit, isNumeral, numeral, capped, signedValue, numberForm, signedForm};
 ghost use Rattle.text_tokens.specs.Tokens.{ReadsDigits, ReadsNumeral, digitsRead, numberRead};
 use chain_text::text;
 
@@ -82,6 +82,22 @@ fn numeral_at(line: &[u8], at: usize) -> Figures
     }
 }
 
+// Whether the numeral at `at` is written as it may be, behind a minus or not. A point and two digits take three places.
+fn is_numeral(line: &[u8], at: usize, figures: Figures, negative: bool) -> bool
+    requires { ⌜ ReadsNumeral at (drop at (now line)) figures ⌝ }
+    ensures { λ r. ⌜ r ≡ isNumeral negative (numeral (drop at (now (line .entry)))) ⌝ }
+{
+    let point = figures.point;
+    if point == at {
+        return false;
+    }
+    let leading_zero = (line[at] == 48) & (1 < point - at);
+    let behind = figures.end - point;
+    let decimals_fit = (behind == 0) | (behind == 3);
+    let minus_zero = negative & (figures.value == 0);
+    !leading_zero & (decimals_fit & !minus_zero)
+}
+
 // A number behind a minus or not.
 fn signed_value(negative: bool, n: u64) -> i64
     requires { ⌜ n ≤ 2147483649 ⌝ }
@@ -105,23 +121,10 @@ fn signed_digits(line: &[u8], at: usize, negative: bool) -> NumberRead
     ensures { λ r. ⌜ r ≡ digitsRead at (signedForm negative (drop at (now (line .entry)))) ⌝ }
 {
     let figures = numeral_at(line, at);
-    let point = figures.point;
-    let end = figures.end;
-    // The point and two digits take three places.
-    let behind = end - point;
-    if point == at {
+    if !is_numeral(line, at, figures, negative) {
         return NumberRead::NoForm;
     }
-    if (line[at] == 48) & (1 < point - at) {
-        return NumberRead::NoForm;
-    }
-    if (behind != 0) & (behind != 3) {
-        return NumberRead::NoForm;
-    }
-    if negative & (figures.value == 0) {
-        return NumberRead::NoForm;
-    }
-    NumberRead::Number(signed_value(negative, figures.value), end)
+    NumberRead::Number(signed_value(negative, figures.value), figures.end)
 }
 
 // The number at `at`.
