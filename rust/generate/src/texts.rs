@@ -22,6 +22,8 @@ pub struct Shape {
     pub remotes: usize,
     /// Measures in a hundred that are numbers.
     pub numbers: usize,
+    /// Numbers in a hundred that are written in metres.
+    pub metres: usize,
     /// Chains in a hundred that take letters over from an earlier chain of their step.
     pub shared: usize,
 }
@@ -36,6 +38,7 @@ pub fn shape(random: &mut Random) -> Shape {
         tests: 40,
         remotes: 35,
         numbers: 30,
+        metres: 40,
         shared: random.pick(&[0, 50]),
     }
 }
@@ -51,6 +54,7 @@ pub fn plan_shape(random: &mut Random) -> Shape {
         tests: random.pick(&[0, 50, 100, 100]),
         remotes: random.pick(&[0, 50, 100, 100]),
         numbers: random.pick(&[0, 0, 30, 100]),
+        metres: 40,
         shared: random.pick(&[0, 50, 90, 98]),
     }
 }
