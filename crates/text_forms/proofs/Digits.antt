@@ -1,9 +1,9 @@
 -- The digits that a text begins with, and the number that they write.
 use Prim.Native.Nat.{ℕ, _+_, _-_, _*_, _≤_, _<_}
-use mathlib.Core.Path.{_≡_, sym, ap, _∙_}
+use mathlib.Core.Path.{_≡_, refl, sym, ap, _∙_}
 use mathlib.Core.Logic.{_≢_}
 use mathlib.Core.Bool.{true, false}
-use mathlib.Core.List.{List, [], _∷_}
+use mathlib.Core.List.{List, [], _∷_, _++_}
 use native.Mathlib.Omega.{arith}
 use native.Mathlib.Decide.{decLe, decLt}
 use borrow.Author.Tests.{leb-true}
@@ -44,6 +44,12 @@ unfolding decimal
 decimal-large n [] h = h
 decimal-large n (d ∷ ds) h = decimal-large (10 * n + (d - 48)) ds (omega arith)
 
+-- digits behind digits are read on from the number that those write
+pub decimal-append : (n : ℕ) (ds cs : List ℕ) → decimal n (ds ++ cs) ≡ decimal (decimal n ds) cs
+unfolding decimal
+decimal-append n [] cs = refl
+decimal-append n (d ∷ ds) cs = decimal-append (10 * n + (d - 48)) ds cs
+
 pub capped-decimal : (n : ℕ) (ds : List ℕ) → capped (decimal (capped n) ds) ≡ capped (decimal n ds)
 capped-decimal n ds = go (decLe n 2147483649)
   where
@@ -53,15 +59,15 @@ capped-decimal n ds = go (decLe n 2147483649)
         capped-large (decimal (capped n) ds) (decimal-large (capped n) ds (omega (arith, capped-large n (omega arith))))
         ∙ sym (capped-large (decimal n ds) (decimal-large n ds (omega arith)))
 
--- the loop over digits: what is left at place i comes to the same as the whole
-pub record Counted (at : ℕ) (t : List ℕ) (value i : ℕ) : Type 0 where
+-- the loop over digits behind a number n: what is left at place i comes to the same as the whole
+pub record Counted (at n : ℕ) (t : List ℕ) (value i : ℕ) : Type 0 where
   pub onward : Onward isDigit t at i
   pub small : value ≤ 2147483649
-  pub same : capped (decimal value (digits (drop i t))) ≡ capped (decimal 0 (digits (drop at t)))
+  pub same : capped (decimal value (digits (drop i t))) ≡ capped (decimal n (digits (drop at t)))
 
-pub counted-more : {at : ℕ} {t : List ℕ} {v w i : ℕ} → Counted at t v i → startsDigit (drop i t) ≡ true → w ≡ capped (10 * v + (getD t i 0 - 48)) → Counted at t w (i + 1)
+pub counted-more : {at n : ℕ} {t : List ℕ} {v w i : ℕ} → Counted at n t v i → startsDigit (drop i t) ≡ true → w ≡ capped (10 * v + (getD t i 0 - 48)) → Counted at n t w (i + 1)
 unfolding decimal digits
-counted-more {at} {t} {v} {w} {i} p h e = record {
+counted-more {at} {n} {t} {v} {w} {i} p h e = record {
   onward = onward-more isDigit (p .onward) h;
   small = omega (arith, e, capped-bound (10 * v + (getD t i 0 - 48)));
   same =
@@ -71,8 +77,8 @@ counted-more {at} {t} {v} {w} {i} p h e = record {
       ∙ p .same;
 }
 
-pub counted-end : {at : ℕ} {t : List ℕ} {v i : ℕ} → Counted at t v i → startsDigit (drop i t) ≡ false
-    → (v ≡ capped (decimal 0 (digits (drop at t)))) × (i ≡ at + length (digits (drop at t)))
+pub counted-end : {at n : ℕ} {t : List ℕ} {v i : ℕ} → Counted at n t v i → startsDigit (drop i t) ≡ false
+    → (v ≡ capped (decimal n (digits (drop at t)))) × (i ≡ at + length (digits (drop at t)))
 unfolding decimal digits
 counted-end {t = t} {v = v} {i = i} p h = (
   sym (capped-small v (p .small)) ∙ sym (ap (λ (l : List ℕ). capped (decimal v l)) (span-none isDigit (drop i t) h)) ∙ p .same,

@@ -2,5 +2,6 @@
 pub mod Tokens
 pub mod Spans
 pub mod Digits
+pub mod Numerals
 pub mod Terms
 pub mod Lines

@@ -10,6 +10,7 @@ use Rattle.chain_text.specs.Text as C
 use Rattle.chain_text.specs.Text.{isCapital, printed}
 use Rattle.laws.specs.Lists.{every}
 use Rattle.chain_text.proofs.Forms.{spelled, printed-form}
+use Rattle.chain_text.specs.Scan.{startsWith}
 use Rattle.text_forms.specs.Numeral.{digits, isDigit}
 use Rattle.laws.specs.Bytes.{bytes}
 use Rattle.text_forms.specs.Written.{Term, Condition, always, when, Action, set, combine, remote, Line, step, end, done, loop, rule}
@@ -23,6 +24,7 @@ use Rattle.text_forms.specs.Token.{Token, capital, then, literal, or, fi
 use Rattle.text_forms.specs.Term.{printedTerm, ProperTerm, termForm}
 use Rattle.text_forms.specs.Line.{made, comparisonText, operatorText, sortText, printedAction, printedLine, ProperAction, Proper, assigned, localForm, sentForms, remoteForm, actionForm, ruleLine, compared, testedForm, lineForm}
 use Rattle.text_forms.proofs.Tokens.{All, all-some, then-all, or-all, finished-all, word-all, capital-is, capital-read, capital-word}
+use Rattle.text_forms.proofs.Numerals.{NoFigure}
 use Rattle.text_forms.proofs.Terms.{term-spelled, printed-term}
 
 -- the printed text of a proper action, and of a proper line
@@ -126,10 +128,10 @@ line-spelled t l e = all-some (Spelled t) (line-all t) e
 -- a term at the end of a line is read
 module _ {A : Type 0} (make : Term → A) where
   last-read : (y : Term) → ProperTerm y → then (termForm (printedTerm y)) (λ y. finished (make y)) ≡ some (make y)
-  unfolding then finished digits
+  unfolding then finished digits startsWith
   last-read y p =
       ap (λ (l : List ℕ). then (termForm l) (λ y. finished (make y))) (sym (append-nil (printedTerm y)))
-      ∙ ap (λ (k : Token Term). then k (λ y. finished (make y))) (printed-term y [] p refl)
+      ∙ ap (λ (k : Token Term). then k (λ y. finished (make y))) (printed-term y [] p (refl, refl))
 
 -- an action that begins with a capital is local
 capital-action : (f : ℕ) (t : List ℕ) → isCapital f ≡ true → actionForm (f ∷ t) ≡ localForm (f ∷ t)
@@ -137,7 +139,7 @@ unfolding actionForm or
 capital-action f t h = rw (capital-word f 114 (bytes "emote ") t (λ r. remoteForm (C.form r)) h (omega arith))
 
 -- `F[u] := X` is read
-assign-read : (f : ℕ) (x : Term) (r : List ℕ) → isCapital f ≡ true → ProperTerm x → digits r ≡ [] → actionForm (f ∷ (bytes "[u] := " ++ (printedTerm x ++ r))) ≡ assigned f x r
+assign-read : (f : ℕ) (x : Term) (r : List ℕ) → isCapital f ≡ true → ProperTerm x → NoFigure r → actionForm (f ∷ (bytes "[u] := " ++ (printedTerm x ++ r))) ≡ assigned f x r
 unfolding localForm then literal
 assign-read f x r h p e =
     capital-action f (bytes "[u] := " ++ (printedTerm x ++ r)) h
@@ -150,26 +152,26 @@ unfolding actionForm literal remoteForm
 target-read f c r h = rw (printed-form (f ∷ c) r h)
 
 action-read : (a : Action) → ProperAction a → actionForm (printedAction a) ≡ some a
-unfolding printedAction assigned sentForms or finished literal digits isDigit
-action-read (set f x) p = ap (λ (l : List ℕ). actionForm (f ∷ (bytes "[u] := " ++ l))) (sym (append-nil (printedTerm x))) ∙ assign-read f x [] (p .0) (p .1) refl
-action-read (combine f Plus x y) p = assign-read f x (operatorText Plus ++ printedTerm y) (p .0) (p .1) refl ∙ rw (last-read (combine f Plus x) y (p .2))
-action-read (combine f Minus x y) p = assign-read f x (operatorText Minus ++ printedTerm y) (p .0) (p .1) refl ∙ rw (last-read (combine f Minus x) y (p .2))
+unfolding printedAction assigned sentForms or finished literal digits isDigit startsWith
+action-read (set f x) p = ap (λ (l : List ℕ). actionForm (f ∷ (bytes "[u] := " ++ l))) (sym (append-nil (printedTerm x))) ∙ assign-read f x [] (p .0) (p .1) (refl, refl)
+action-read (combine f Plus x y) p = assign-read f x (operatorText Plus ++ printedTerm y) (p .0) (p .1) (refl, refl) ∙ rw (last-read (combine f Plus x) y (p .2))
+action-read (combine f Minus x y) p = assign-read f x (operatorText Minus ++ printedTerm y) (p .0) (p .1) (refl, refl) ∙ rw (last-read (combine f Minus x) y (p .2))
 action-read (remote Least f c x) p = target-read f c (sortText Least ++ printedTerm x) (p .0) ∙ rw (last-read (remote Least f c) x (p .1))
 action-read (remote Total f c x) p = target-read f c (sortText Total ++ printedTerm x) (p .0) ∙ rw (last-read (remote Total f c) x (p .1))
 
 -- a test is read
 module _ (x y : Term) (a : Action) (px : ProperTerm x) (py : ProperTerm y) (pa : ProperAction a) where
   compared-read : (c : Comparison) → compared x c (comparisonText c ++ (printedTerm y ++ (bytes ": " ++ printedAction a))) ≡ some (rule (when x c y) a)
-  unfolding compared literal then digits isDigit ruleLine
-  compared-read Less = rw (printed-term y (bytes ": " ++ printedAction a) py refl, action-read a pa)
-  compared-read Equal = rw (printed-term y (bytes ": " ++ printedAction a) py refl, action-read a pa)
-  compared-read Unequal = rw (printed-term y (bytes ": " ++ printedAction a) py refl, action-read a pa)
+  unfolding compared literal then digits isDigit startsWith ruleLine
+  compared-read Less = rw (printed-term y (bytes ": " ++ printedAction a) py (refl, refl), action-read a pa)
+  compared-read Equal = rw (printed-term y (bytes ": " ++ printedAction a) py (refl, refl), action-read a pa)
+  compared-read Unequal = rw (printed-term y (bytes ": " ++ printedAction a) py (refl, refl), action-read a pa)
 
   tested-read : (c : Comparison) → testedForm (printedTerm x ++ (comparisonText c ++ (printedTerm y ++ (bytes ": " ++ printedAction a)))) ≡ some (rule (when x c y) a)
-  unfolding testedForm then or literal digits isDigit compared
-  tested-read Less = rw (printed-term x (comparisonText Less ++ (printedTerm y ++ (bytes ": " ++ printedAction a))) px refl) (rw (compared-read Less))
-  tested-read Equal = rw (printed-term x (comparisonText Equal ++ (printedTerm y ++ (bytes ": " ++ printedAction a))) px refl) (rw (compared-read Equal))
-  tested-read Unequal = rw (printed-term x (comparisonText Unequal ++ (printedTerm y ++ (bytes ": " ++ printedAction a))) px refl) (rw (compared-read Unequal))
+  unfolding testedForm then or literal digits isDigit startsWith compared
+  tested-read Less = rw (printed-term x (comparisonText Less ++ (printedTerm y ++ (bytes ": " ++ printedAction a))) px (refl, refl)) (rw (compared-read Less))
+  tested-read Equal = rw (printed-term x (comparisonText Equal ++ (printedTerm y ++ (bytes ": " ++ printedAction a))) px (refl, refl)) (rw (compared-read Equal))
+  tested-read Unequal = rw (printed-term x (comparisonText Unequal ++ (printedTerm y ++ (bytes ": " ++ printedAction a))) px (refl, refl)) (rw (compared-read Unequal))
 
 -- a line that begins with a capital is a rule
 capital-line : (f : ℕ) (t : List ℕ) → isCapital f ≡ true → lineForm (f ∷ t) ≡ ruleLine always (actionForm (f ∷ t))

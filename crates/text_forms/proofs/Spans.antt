@@ -86,6 +86,15 @@ module _ (p : ℕ → Bool) where
       let both = and-both (p a) (every p s) h in
       ap (λ (x : Bool). cond x (a ∷ span p (s ++ r)) []) (both .0) ∙ ap (λ (l : List ℕ). a ∷ l) (span-append s r (both .1) e)
 
+  -- elements that pass do so in both parts
+  pub every-parts : (s r : List ℕ) → every p (s ++ r) ≡ true → (every p s ≡ true) × (every p r ≡ true)
+  unfolding every
+  every-parts [] r h = (refl, h)
+  every-parts (a ∷ s) r h =
+      let both = and-both (p a) (every p (s ++ r)) h in
+      let parts = every-parts s r (both .1) in
+      (sym (and-true (every p s) (both .0)) ∙ parts .0, parts .1)
+
   -- a loop over the front: from place i on it ends where it ends from its beginning on
   pub record Onward (t : List ℕ) (at i : ℕ) : Type 0 where
     pub inside : i ≤ length t

@@ -1,7 +1,7 @@
 -- The lines of a rules text.
-pub mod Written
 pub mod Span
 pub mod Numeral
+pub mod Written
 pub mod Token
 pub mod Term
 pub mod Line

@@ -45,7 +45,7 @@ target (remote k f c x) = f
 -- whether every capital of a term names a field of the register
 unfoldable pub termNamed : Sizes → Term → Bool
 termNamed s (chain ls) = every (names s) ls
-termNamed s (number negative ds) = true
+termNamed s (number negative x) = true
 
 -- whether the register has the field that a line names by itself
 unfoldable pub fieldNamed : Sizes → Line → Bool
@@ -62,13 +62,13 @@ named s l = fieldNamed s l && everyTerm (termNamed s) (terms l)
 -- "Every field but the outermost is a reference field."
 unfoldable pub termKinded : Term → Bool
 termKinded (chain ls) = innerReferences ls
-termKinded (number negative ds) = true
+termKinded (number negative x) = true
 
 -- "Its kind is that of the outermost letter, `u` being a reference"; "a number is a measure"
 unfoldable pub isReferenceTerm : Term → Bool
 isReferenceTerm (chain []) = true
 isReferenceTerm (chain (l ∷ ls)) = isReferenceLetter l
-isReferenceTerm (number negative ds) = false
+isReferenceTerm (number negative x) = false
 
 -- whether two kinds are the same
 unfoldable pub sameKind : Bool → Bool → Bool
@@ -106,7 +106,7 @@ kinded l = everyTerm termKinded (terms l) && kindsAgree l
 -- "a chain has at most 16" hops
 unfoldable pub termShort : Term → Bool
 termShort (chain ls) = leb (length ls) 16
-termShort (number negative ds) = true
+termShort (number negative x) = true
 
 -- 11: every chain of the line has at most 16 hops
 unfoldable pub short : Line → Bool
@@ -115,7 +115,7 @@ short l = everyTerm termShort (terms l)
 -- whether a number is in the range of sums
 unfoldable pub termInRange : Term → Bool
 termInRange (chain ls) = true
-termInRange (number negative ds) = inRange (numberValue negative ds)
+termInRange (number negative x) = inRange (numberValue negative x)
 
 -- 12: no "number outside the range of sums"
 unfoldable pub numbersInRange : Line → Bool

@@ -7,23 +7,23 @@ use Rattle.chain_text.specs.Text as C
 use Rattle.chain_text.specs.Text.{isCapital}
 use Rattle.laws.specs.Lists.{every}
 use Rattle.text_forms.specs.Numeral as N
-use Rattle.text_forms.specs.Numeral.{isDigit, isNumeral, numberForm, printedNumber}
+use Rattle.text_forms.specs.Numeral.{isDigit, allDigits, isNumeral, numberForm, printedNumber}
 use Rattle.text_forms.specs.Token.{Token, token, other}
 use Rattle.text_forms.specs.Written.{Term, chain, number}
 
 -- the text of a term
 unfoldable pub printedTerm : Term → List ℕ
 printedTerm (chain ls) = C.printed ls
-printedTerm (number negative ds) = printedNumber negative ds
+printedTerm (number negative x) = printedNumber negative x
 
--- letters are capitals, and a number is "optional minus, digits, no leading zero, no `-0`"
+-- letters are capitals, and a number is "optional minus, digits, no leading zero, no `-0`", with two decimals or none
 abbrev pub ProperTerm : Term → Type 0
 ProperTerm (chain ls) = every isCapital ls ≡ true
-ProperTerm (number negative ds) = (isNumeral negative ds ≡ true) × (every isDigit ds ≡ true)
+ProperTerm (number negative x) = (isNumeral negative x ≡ true) × (every isDigit (allDigits x) ≡ true)
 
 -- a number as a term
 unfoldable pub ofNumber : N.NumberForm → Token Term
-ofNumber (N.number negative ds rest) = token (number negative ds) rest
+ofNumber (N.number negative x rest) = token (number negative x) rest
 ofNumber N.unformed = other
 
 -- a chain begins with `u` or a letter, and a number with neither

@@ -5,11 +5,12 @@ use mathlib.Core.List.{List}
 use Rattle.program.specs.declared.rule.Comparison.{Comparison}
 use Rattle.program.specs.declared.rule.Operator.{Operator}
 use Rattle.program.specs.declared.rule.Sort.{Sort}
+use Rattle.text_forms.specs.Numeral.{Numeral}
 
--- "A term X or Y is a chain or a number": a chain by its letters from the outside in, a number by its minus and digits
+-- "A term X or Y is a chain or a number": a chain by its letters from the outside in, a number by its minus and numeral
 pub data Term : Type 0 where
   chain : List ℕ → Term
-  number : Bool → List ℕ → Term
+  number : Bool → Numeral → Term
 
 -- "Before any of them may stand `if X < Y: `"
 pub data Condition : Type 0 where

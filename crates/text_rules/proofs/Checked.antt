@@ -107,7 +107,7 @@ word-passes s ls w = letters-pass s ls (refused-none s ls (w .is-named) (w .is-k
 term-passes : (s : Sizes) (x : W.Term) → Fine s x → ExpressionPasses s (writtenTerm x)
 unfolding writtenTerm termInRange
 term-passes s (chain ls) w = word-passes s ls w
-term-passes s (number negative ds) w = w .in-range
+term-passes s (number negative x) w = w .in-range
 
 same-is : (a b : Bool) → sameKind a b ≡ true → a ≡ b
 unfolding sameKind
@@ -125,7 +125,7 @@ module _ (s : Sizes) (lim : Limits s) where
   unfolding isReferenceExpression writtenTerm K.isReferenceTerm isReferenceWord wordOf termNamed every
   term-kind (chain []) w = refl
   term-kind (chain (l ∷ ls)) w = last-kind (wordOf ls) (letterField l) ∙ letter-kind s lim l (and-both (names s l) (every (names s) ls) (w .is-named) .0)
-  term-kind (number negative ds) w = refl
+  term-kind (number negative x) w = refl
 
   word-kind : (c : List ℕ) → Fine s (chain c) → K.isReferenceTerm (chain c) ≡ true → isReferenceWord (wordOf c) ≡ true
   unfolding isReferenceExpression writtenTerm

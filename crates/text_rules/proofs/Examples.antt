@@ -3,7 +3,7 @@ use Prim.Native.Nat.{ℕ, zero, suc, _+_, _/_, _%_}
 use Prim.Native.String.{String}
 use mathlib.Core.Path.{_≡_, refl}
 use mathlib.Core.Bool.{Bool, true, false}
-use mathlib.Core.List.{List, [], _∷_, _++_}
+use mathlib.Core.List.{List, [], _∷_, _++_, map}
 use lib.ListN.{replicate}
 use Rattle.laws.specs.Lists.{every}
 use Rattle.laws.specs.Outcome.{Outcome, refused, unless, after}
@@ -13,7 +13,8 @@ use Rattle.integers.specs.Range.{inRange}
 use Rattle.chain_text.specs.Text as C
 use Rattle.chain_text.specs.Scan.{startsWith}
 use Rattle.plan_theory.specs.Plan.{back, read, result, round, rounds, plan, addReadings, add, withTree as planLines, listed, lineIndex, sameFact, sameWord, tree, treeWithin, half, doubled, front, rest}
-use Rattle.text_forms.specs.Numeral.{isDigit, digits, decimal, isNumeral, signedForm, numberForm, numberValue, signedValue}
+use Rattle.text_forms.specs.Numeral.{isDigit, digits, decimal, whole, metres, allDigits, centimetres, wholeDigits, noLeadingZero, twoDecimals, isNumeral, withDecimals, numeral, printedNumeral, signedForm, numberForm, numberValue, signedValue}
+use Rattle.text_forms.specs.Written as W
 use Rattle.text_forms.specs.Token.{capital, then, literal, or, finished}
 use Rattle.text_forms.specs.Term.{ofNumber, ofChain, termForm}
 use Rattle.text_forms.specs.Line.{assigned, localForm, sentForms, remoteForm, actionForm, ruleLine, compared, testedForm, lineForm}
@@ -31,7 +32,7 @@ sizes = record { records = 3; references = 1; measures = 1 }
 
 -- the program or refusal of some bytes over a register of some sizes, and of a text over that register
 unfoldable pub answerOver : Sizes → List ℕ → Outcome Program
-unfolding textProgram readFrom start closedText lineOutcome advance closeLoop lastOf withStep settingIn programRule writtenTarget writtenExpression writtenTest writtenTerm pieceForm lines onto after unless lineRefusal planFits sortsAgree oneSort someTarget isTotal isLeast hasRoom numbersInRange termInRange short termShort kinded kindsAgree actionKinds areMeasures conditionKinds sameKind isReferenceTerm termKinded named fieldNamed termNamed target everyTerm terms actionTerms conditionTerms inPlace openRules isOpen isUsed isOutside lineForm testedForm compared ruleLine actionForm remoteForm sentForms localForm assigned termForm ofChain ofNumber capital then literal or finished isDigit digits decimal isNumeral signedForm numberForm numberValue signedValue inRange startsWith C.isCapital C.closed C.form C.letterField C.isReferenceLetter C.names every C.innerReferences C.wordOf stepPlan readings ruleReadings targetReadings testReadings expressionReadings plan addReadings add planLines listed lineIndex sameFact sameWord tree treeWithin half doubled front rest
+unfolding textProgram readFrom start closedText lineOutcome advance closeLoop lastOf withStep settingIn programRule writtenTarget writtenExpression writtenTest writtenTerm pieceForm lines onto after unless lineRefusal planFits sortsAgree oneSort someTarget isTotal isLeast hasRoom numbersInRange termInRange short termShort kinded kindsAgree actionKinds areMeasures conditionKinds sameKind isReferenceTerm termKinded named fieldNamed termNamed target everyTerm terms actionTerms conditionTerms inPlace openRules isOpen isUsed isOutside lineForm testedForm compared ruleLine actionForm remoteForm sentForms localForm assigned termForm ofChain ofNumber capital then literal or finished isDigit digits decimal allDigits centimetres wholeDigits noLeadingZero twoDecimals isNumeral withDecimals numeral printedNumeral signedForm numberForm numberValue signedValue inRange startsWith C.isCapital C.closed C.form C.letterField C.isReferenceLetter C.names every C.innerReferences C.wordOf stepPlan readings ruleReadings targetReadings testReadings expressionReadings plan addReadings add planLines listed lineIndex sameFact sameWord tree treeWithin half doubled front rest
 answerOver s t = textProgram s t
 
 unfoldable pub answer : String → Outcome Program
@@ -200,6 +201,34 @@ number-above = refl
 pub number-below : answer "step\nM[u] := -2147483649\nend\n" ≡ refused 12 2
 unfolding answer
 number-below = refl
+
+-- depths in metres (document 02, M-104): what a rule that stores a number is answered
+abbrev stores : String → Outcome Program
+stores x = answerOver sizes (bytes "step\nM[u] := " ++ (bytes x ++ bytes "\nend\n"))
+
+-- a number in metres is the constant that its digits without the point are in centimetres
+pub metres-constant : (negative : Bool) (ds cs : List ℕ) → writtenTerm (W.number negative (metres ds cs)) ≡ writtenTerm (W.number negative (whole (ds ++ cs)))
+unfolding writtenTerm numberValue centimetres allDigits
+metres-constant negative ds cs = refl
+
+pub metres-read : map stores ("1.80" ∷ "1.00" ∷ "-0.05" ∷ "0.00" ∷ []) ≡ map stores ("180" ∷ "100" ∷ "-5" ∷ "0" ∷ [])
+unfolding answerOver
+metres-read = refl
+
+-- "exactly two digits", no leading zero before the point, "`-0.00` is refused as `-0` is": 7
+pub metres-unformed : map stores ("-0.00" ∷ "00.50" ∷ "01.80" ∷ ".80" ∷ "1." ∷ "1.8" ∷ "1.800" ∷ "1.80.20" ∷ "1,80" ∷ "1.8 0" ∷ "+1.80" ∷ [])
+    ≡ replicate 11 (refused 7 2)
+unfolding answerOver
+metres-unformed = refl
+
+-- "the range in 12 is that of the centimetres"
+pub metres-pass : map (λ x. passes (stores x)) ("21474836.47" ∷ "-21474836.48" ∷ "0.05" ∷ []) ≡ replicate 3 true
+unfolding answerOver passes
+metres-pass = refl
+
+pub metres-out : map stores ("21474836.48" ∷ "-21474836.49" ∷ []) ≡ replicate 2 (refused 12 2)
+unfolding answerOver
+metres-out = refl
 
 -- "Step 33 is 13", and so is rule 33
 pub step-32 : passes (answerOver sizes (times 32 (bytes "step\nend\n"))) ≡ true

@@ -11,7 +11,7 @@ use Rattle.chain_text.specs.Text.{isCapital, printed}
 use Rattle.laws.specs.Lists.{every, Each}
 use Rattle.laws.proofs.Bools.{and-both, and-true}
 use Rattle.laws.specs.Bytes.{bytes}
-use Rattle.text_forms.specs.Numeral.{isDigit, printedNumber}
+use Rattle.text_forms.specs.Numeral.{isDigit, Numeral, whole, metres, printedNumeral, allDigits, signedText, printedNumber}
 use Rattle.text_forms.specs.Written.{Term, chain, number, always, when, Action, set, combine, remote, Line, step, end, done, loop, rule}
 use Rattle.program.specs.declared.rule.Comparison.{Comparison}
 use Rattle.program.specs.declared.rule.Comparison.the-variants.{Less, Equal, Unequal}
@@ -21,6 +21,7 @@ use Rattle.program.specs.declared.rule.Sort.{Sort}
 use Rattle.program.specs.declared.rule.Sort.the-variants.{Least, Total}
 use Rattle.text_forms.specs.Term.{printedTerm, ProperTerm}
 use Rattle.text_forms.specs.Line.{comparisonText, operatorText, sortText, printedAction, printedLine, ProperAction, Proper}
+use Rattle.text_forms.proofs.Spans.{every-parts}
 use Rattle.text_forms.proofs.Lines.{printed-line}
 use Rattle.text_rules.specs.Text.{isWithin, lines, pieceForm}
 use Rattle.text_rules.proofs.Pieces.{lines-ended}
@@ -54,6 +55,13 @@ digits-within (d ∷ ds) h =
     let both = and-both (leb 48 d && leb d 57) (every isDigit ds) h in
     within-cons d ds (omega (arith, leb-true 48 d (and-both (leb 48 d) (leb d 57) (both .0) .0))) (digits-within ds (both .1))
 
+numeral-within : (x : Numeral) → every isDigit (allDigits x) ≡ true → Within (printedNumeral x)
+unfolding printedNumeral allDigits every isWithin
+numeral-within (whole ds) h = digits-within ds h
+numeral-within (metres ds cs) h =
+    let both = every-parts isDigit ds cs h in
+    within-append ds (46 ∷ cs) (digits-within ds (both .0)) (digits-within cs (both .1))
+
 chain-within : (ls : List ℕ) → every isCapital ls ≡ true → Within (printed ls)
 unfolding every printed isWithin
 chain-within [] h = refl
@@ -62,10 +70,10 @@ chain-within (l ∷ ls) h =
     within-cons l (91 ∷ (printed ls ++ (93 ∷ []))) (capital-above l (both .0)) (within-append (printed ls) (93 ∷ []) (chain-within ls (both .1)) refl)
 
 term-within : (x : Term) → ProperTerm x → Within (printedTerm x)
-unfolding printedTerm printedNumber every isWithin
+unfolding printedTerm printedNumber signedText every isWithin
 term-within (chain ls) p = chain-within ls p
-term-within (number true ds) p = digits-within ds (p .1)
-term-within (number false ds) p = digits-within ds (p .1)
+term-within (number true x) p = numeral-within x (p .1)
+term-within (number false x) p = numeral-within x (p .1)
 
 comparison-within : (c : Comparison) → Within (comparisonText c)
 unfolding every isWithin

@@ -49,7 +49,7 @@ pieceForm (cut t) = none
 -- a written rule as a rule of the program
 unfoldable pub writtenTerm : Term → P.Expression
 writtenTerm (chain ls) = P.reading (wordOf ls)
-writtenTerm (number negative ds) = P.constant (numberValue negative ds)
+writtenTerm (number negative x) = P.constant (numberValue negative x)
 
 unfoldable pub writtenTest : Condition → P.Test
 writtenTest always = P.always

@@ -72,11 +72,11 @@ chain-parts s ls b h = rw (h, at-most 16 (length ls))
         go true e = sym (lt-leb n k (ltb-true k n e))
         go false e = sym (le-leb n k (ltb-false k n e))
 
-number-parts : (s : Sizes) (negative : Bool) (ds : List ℕ) → numberParts (sumOf (numberValue negative ds)) ≡ partsOf s (W.number negative ds)
+number-parts : (s : Sizes) (negative : Bool) (x : N.Numeral) → numberParts (sumOf (numberValue negative x)) ≡ partsOf s (W.number negative x)
 unfolding numberParts plainParts partsOf packedTerm plainNumber termChecks termNamed termKinded termShort termInRange isReferenceTerm sumOf
-number-parts s negative ds = go (inRange (numberValue negative ds)) refl
+number-parts s negative x = go (inRange (numberValue negative x)) refl
   where
-    go : (x : Bool) → inRange (numberValue negative ds) ≡ x → numberParts (sumOf (numberValue negative ds)) ≡ partsOf s (W.number negative ds)
+    go : (y : Bool) → inRange (numberValue negative x) ≡ y → numberParts (sumOf (numberValue negative x)) ≡ partsOf s (W.number negative x)
     go true h = rw h
     go false h = rw h
 
@@ -124,8 +124,8 @@ module _ (s : Sizes) (at : ℕ) (t : List ℕ) where
 pub number-term : (s : Sizes) (at : ℕ) (f : N.NumberForm) → numberTerm (numberRead at f) ≡ termRead s at (ofNumber f)
 unfolding numberTerm numberRead ofNumber termRead printedTerm
 number-term s at N.unformed = refl
-number-term s at (N.number negative ds r) =
-    ap (λ (p : TermParts). Parts p (at + length (printedNumber negative ds))) (ap numberParts (capped-range negative ds) ∙ number-parts s negative ds)
+number-term s at (N.number negative x r) =
+    ap (λ (p : TermParts). Parts p (at + length (printedNumber negative x))) (ap numberParts (capped-range negative x) ∙ number-parts s negative x)
 
 -- where a term was read: the text is that term's, up to the place behind it
 pub record TermTaken (s : Sizes) (t : List ℕ) (at : ℕ) (p : TermParts) (end : ℕ) : Type 0 where

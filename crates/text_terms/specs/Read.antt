@@ -37,7 +37,7 @@ plainNumber OutOfRange = PlainNumber (pos 0)
 -- a chain of at most 16 hops, packed; of a longer one the first 16
 unfoldable pub packedTerm : W.Term → Term
 packedTerm (W.chain ls) = PackedChain (pack (wordOf (take 16 ls)))
-packedTerm (W.number negative ds) = plainNumber (sumOf (numberValue negative ds))
+packedTerm (W.number negative x) = plainNumber (sumOf (numberValue negative x))
 
 -- a term, whether it is a reference, and what 9 to 12 ask of it
 unfoldable pub partsOf : Sizes → W.Term → TermParts

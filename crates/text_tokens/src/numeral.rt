@@ -3,8 +3,8 @@ ghost use mathlib.Core.Path.{_≡_};
 ghost use mathlib.Core.Bool.{true};
 ghost use Prim.Native.Nat.{_+_, _-_, _*_, _≤_};
 ghost use lib.ListN.{length, drop};
-ghost use Rattle.text_forms.specs.Numeral.{isDigit, startsDigit, capped, signedValue, numberForm, signedForm};
-ghost use Rattle.text_tokens.specs.Tokens.{ReadsDigits, digitsRead, numberRead};
+ghost use Rattle.text_forms.specs.Numeral.{isDigit, startsDigit, isNumeral, numeral, capped, signedValue, numberForm, signedForm};
+ghost use Rattle.text_tokens.specs.Tokens.{ReadsDigits, ReadsNumeral, digitsRead, numberRead};
 use chain_text::text;
 
 fn is_digit(b: u8) -> bool
@@ -38,18 +38,64 @@ pub struct Digits {
     pub end: usize,
 }
 
-// The digits from `at` on.
-fn digits_at(line: &[u8], at: usize) -> Digits
-    requires { ⌜ at ≤ length (now line) ⌝ }
-    ensures { λ r. ⌜ ReadsDigits at (drop at (now (line .entry))) r ⌝ }
+// The digits from `at` on, behind a number n that is written before them.
+fn digits_at(line: &[u8], at: usize, n: u64) -> Digits
+    requires { ⌜ (at ≤ length (now line)) × (n ≤ 2147483649) ⌝ }
+    ensures { λ r. ⌜ ReadsDigits at n (drop at (now (line .entry))) r ⌝ }
 {
-    let mut value = 0;
+    let mut value = n;
     let mut i = at;
     while digit_at(line, i) {
         value = with_digit(value, line[i]);
         i += 1;
     }
     Digits { value, end: i }
+}
+
+// What a numeral writes, in centimetres and capped as its digits are; the place behind its digits before a point; and the
+// place behind all of it.
+pub struct Figures {
+    pub value: u64,
+    pub point: usize,
+    pub end: usize,
+}
+
+// The numeral from `at` on, whatever the number of its digits.
+fn numeral_at(line: &[u8], at: usize) -> Figures
+    requires { ⌜ at ≤ length (now line) ⌝ }
+    ensures { λ r. ⌜ ReadsNumeral at (drop at (now (line .entry))) r ⌝ }
+{
+    let whole = digits_at(line, at, 0);
+    let point = whole.end;
+    if !text::starts_with(line, point, b'.') {
+        return Figures {
+            value: whole.value,
+            point,
+            end: point,
+        };
+    }
+    let all = digits_at(line, point + 1, whole.value);
+    Figures {
+        value: all.value,
+        point,
+        end: all.end,
+    }
+}
+
+// Whether the numeral at `at` is written as it may be, behind a minus or not. A point and two digits take three places.
+fn is_numeral(line: &[u8], at: usize, figures: Figures, negative: bool) -> bool
+    requires { ⌜ ReadsNumeral at (drop at (now line)) figures ⌝ }
+    ensures { λ r. ⌜ r ≡ isNumeral negative (numeral (drop at (now (line .entry)))) ⌝ }
+{
+    let point = figures.point;
+    if point == at {
+        return false;
+    }
+    let leading_zero = (line[at] == b'0') & (1 < point - at);
+    let behind = figures.end - point;
+    let decimals_fit = (behind == 0) | (behind == 3);
+    let minus_zero = negative & (figures.value == 0);
+    !leading_zero & (decimals_fit & !minus_zero)
 }
 
 // A number behind a minus or not.
@@ -74,15 +120,11 @@ fn signed_digits(line: &[u8], at: usize, negative: bool) -> NumberRead
     requires { ⌜ at ≤ length (now line) ⌝ }
     ensures { λ r. ⌜ r ≡ digitsRead at (signedForm negative (drop at (now (line .entry)))) ⌝ }
 {
-    let digits = digits_at(line, at);
-    let end = digits.end;
-    if end == at {
+    let figures = numeral_at(line, at);
+    if !is_numeral(line, at, figures, negative) {
         return NumberRead::NoForm;
     }
-    if (line[at] == b'0') & (negative | (1 < end - at)) {
-        return NumberRead::NoForm;
-    }
-    NumberRead::Number(signed_value(negative, digits.value), end)
+    NumberRead::Number(signed_value(negative, figures.value), figures.end)
 }
 
 // The number at `at`.

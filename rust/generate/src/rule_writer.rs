@@ -1,6 +1,7 @@
 //! Rules that are right by themselves, and fit each other within a step.
 
 use crate::chains;
+use crate::metres;
 use crate::random::Random;
 use crate::registers;
 use crate::texts::Shape;
@@ -96,12 +97,21 @@ impl<'a> RuleWriter<'a> {
         let hops = self.random.between(0, self.shape.hops);
         let numeric = self.sizes.measures == 0 || self.random.percent(self.shape.numbers);
         let letters = match kind {
-            Kind::Measure if numeric => return number(self.random).to_string(),
+            Kind::Measure if numeric => return self.number(),
             Kind::Measure => self.letters(b'M', self.sizes.measures, hops),
             Kind::Reference if hops == 0 || self.sizes.references == 0 => Vec::new(),
             Kind::Reference => self.letters(b'A', self.sizes.references, hops),
         };
         String::from_utf8(chains::text(&letters)).expect("a chain is plain text")
+    }
+
+    /// A number, in metres or in centimetres.
+    fn number(&mut self) -> String {
+        let number = number(self.random);
+        match self.shape.metres > 0 && self.random.percent(self.shape.metres) {
+            true => metres::text(number),
+            false => number.to_string(),
+        }
     }
 
     /// So many hops, at least one; the outermost letter is one of several from

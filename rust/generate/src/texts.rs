@@ -22,6 +22,8 @@ pub struct Shape {
     pub remotes: usize,
     /// Measures in a hundred that are numbers.
     pub numbers: usize,
+    /// Numbers in a hundred that are written in metres.
+    pub metres: usize,
     /// Rules in a hundred that write the field of the rule before.
     pub repeats: usize,
     /// Chains in a hundred that take letters over from an earlier chain of their step.
@@ -38,6 +40,7 @@ pub fn shape(random: &mut Random) -> Shape {
         tests: 40,
         remotes: 35,
         numbers: 30,
+        metres: 40,
         repeats: 20,
         shared: random.pick(&[0, 50]),
     }
@@ -54,6 +57,7 @@ pub fn plan_shape(random: &mut Random) -> Shape {
         tests: random.pick(&[0, 50, 100, 100]),
         remotes: random.pick(&[0, 50, 100, 100]),
         numbers: random.pick(&[0, 0, 30, 100]),
+        metres: 40,
         repeats: 20,
         shared: random.pick(&[0, 50, 90, 98]),
     }
@@ -69,6 +73,7 @@ pub fn gap_shape(random: &mut Random) -> Shape {
         tests: 10,
         remotes: 10,
         numbers: 40,
+        metres: 40,
         repeats: 90,
         shared: 0,
     }

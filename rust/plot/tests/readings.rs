@@ -135,6 +135,17 @@ fn any_bytes_are_a_register_or_refused() {
 }
 
 #[test]
+fn numbers_are_no_chains() {
+    let mut random = Random::new(3);
+    let mut tally = Tally::default();
+    let register = reference::printed::register();
+    for chain in ["180", "1.80", "-0.05", "0.00", "M[1.80]", "u.00", "M[u].00"] {
+        compare(&mut random, &mut tally, &register, chain.as_bytes(), 0);
+    }
+    assert_eq!(tally.of(&refusal_name(7)), 7);
+}
+
+#[test]
 fn bindings_answer_in_rust_values() {
     let register = reference::printed::register();
     assert_eq!(plot::read(&register, b"M[u]", 0), Ok(None));

@@ -119,23 +119,36 @@ fn take_term(text: &[u8]) -> Taken<'_, TermForm<'_>> {
     }
 }
 
-/// Optional minus, digits, no leading zero, no `-0`. A number too large for 64
-/// bits counts as the largest of them, which is out of range as well.
+/// Optional minus, digits, no leading zero, no `-0`: centimetres. Or metres, where
+/// a point and two digits follow; `-0.00` is refused as `-0` is. A third digit, or
+/// a point without two, stays behind, where no line goes on with it. A number too
+/// large for 64 bits counts as the largest of them, which is out of range as well.
 fn take_number(text: &[u8]) -> Taken<'_, i64> {
     let (minus, text) = match text.strip_prefix(b"-") {
         None => (false, text),
         Some(text) => (true, text),
     };
-    let (digits, rest) =
-        text.split_at(text.iter().take_while(|byte| byte.is_ascii_digit()).count());
-    match digits {
-        [] | [b'0', _, ..] => return None,
-        [b'0'] if minus => return None,
-        _ => (),
+    let (whole, rest) = text.split_at(text.iter().take_while(|byte| byte.is_ascii_digit()).count());
+    if let [] | [b'0', _, ..] = whole {
+        return None;
     }
-    let size = digits.iter().fold(0_i64, |size, digit| {
+    let (size, rest) = match rest {
+        [b'.', tens @ b'0'..=b'9', ones @ b'0'..=b'9', rest @ ..] => {
+            let metres = decimal(whole).saturating_mul(100);
+            (metres.saturating_add(decimal(&[*tens, *ones])), rest)
+        }
+        _ => (decimal(whole), rest),
+    };
+    match (minus, size) {
+        (true, 0) => None,
+        (true, _) => Some((-size, rest)),
+        (false, _) => Some((size, rest)),
+    }
+}
+
+fn decimal(digits: &[u8]) -> i64 {
+    digits.iter().fold(0, |size: i64, digit| {
         size.saturating_mul(10)
             .saturating_add(i64::from(digit - b'0'))
-    });
-    Some((if minus { -size } else { size }, rest))
+    })
 }

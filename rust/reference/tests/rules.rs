@@ -150,6 +150,28 @@ fn numbers_have_one_form() {
 }
 
 #[test]
+fn metres_are_centimetres() {
+    let program = |number: &str| {
+        let text = format!("step\nif {number} < M[u]: M[u] := N[u] - {number}\nend\n");
+        read_text(text.as_bytes(), &SIZES).unwrap()
+    };
+    for (metres, centimetres) in [
+        ("1.80", "180"),
+        ("1.00", "100"),
+        ("-0.05", "-5"),
+        ("0.05", "5"),
+        ("0.00", "0"),
+        ("-12.34", "-1234"),
+        ("21474836.47", "2147483647"),
+        ("-21474836.48", "-2147483648"),
+    ] {
+        assert_eq!(program(metres), program(centimetres), "{metres}");
+    }
+    assert_ne!(program("1"), program("1.00"));
+    assert_ne!(program("-0.05"), program("0.05"));
+}
+
+#[test]
 fn too_long_is_6() {
     let full = format!("step\n{}end\n", "M[u] := 1000000000\n".repeat(32));
     let last = format!("step\n{}end\n", "M[u] := 100000000\n".repeat(9));

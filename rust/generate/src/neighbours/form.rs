@@ -4,7 +4,7 @@ use super::{Pair, some_place, with_numbers};
 use crate::random::Random;
 
 /// Numbers that are not written as numbers are, each with one that is.
-const NUMBERS: [(&str, &str); 9] = [
+const NUMBERS: [(&str, &str); 20] = [
     ("-0", "0"),
     ("00", "0"),
     ("01", "1"),
@@ -13,7 +13,18 @@ const NUMBERS: [(&str, &str); 9] = [
     ("--1", "-1"),
     ("-", "-1"),
     ("", "1"),
-    ("1.80", "180"),
+    ("-0.00", "0.00"),
+    ("-0.00", "-0.01"),
+    ("00.50", "0.50"),
+    ("01.80", "1.80"),
+    (".80", "0.80"),
+    ("-.05", "-0.05"),
+    ("1.", "1"),
+    ("1.8", "1.80"),
+    ("1.800", "1.80"),
+    ("1.80.20", "1.80"),
+    ("1,80", "1.80"),
+    ("+1.80", "1.80"),
 ];
 
 /// Bytes that stand in no line.

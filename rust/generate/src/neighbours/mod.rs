@@ -95,10 +95,10 @@ fn some_place(random: &mut Random, text: &[u8], wanted: impl Fn(usize) -> bool) 
 
 /// Where one of the numbers of a text stands.
 fn some_number(random: &mut Random, text: &[u8]) -> Option<std::ops::Range<usize>> {
-    let is_digit = |place: usize| text[place].is_ascii_digit();
-    let begins = |place: usize| is_digit(place) && !text[place - 1].is_ascii_digit();
+    let is_figure = |place: usize| matches!(text[place], b'0'..=b'9' | b'.');
+    let begins = |place: usize| is_figure(place) && !is_figure(place - 1);
     let digits = some_place(random, text, |place| place > 0 && begins(place))?;
-    let end = (digits..text.len()).find(|&place| !is_digit(place))?;
+    let end = (digits..text.len()).find(|&place| !is_figure(place))?;
     let minus = usize::from(text[digits - 1] == b'-');
     Some(digits - minus..end)
 }

@@ -72,6 +72,7 @@ fn plain_text() -> Vec<u8> {
         tests: 40,
         remotes: 35,
         numbers: 30,
+        metres: 0,
         repeats: 0,
         shared: 50,
     };

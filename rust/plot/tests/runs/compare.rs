@@ -41,7 +41,7 @@ pub struct Left {
 
 impl Left {
     /// What both machines must agree in: refusal, line, finished steps, output.
-    fn in_common(&self) -> (u32, [u64; 2], &[u8]) {
+    pub fn in_common(&self) -> (u32, [u64; 2], &[u8]) {
         let numbers = [lent::LINE, lent::FINISHED].map(|place| self.answer[place]);
         (self.number, numbers, &self.buffers.output)
     }

@@ -6,5 +6,6 @@ mod common;
 mod compare;
 mod generated;
 mod inspections;
+mod metres;
 mod planned;
 mod trials;

@@ -10,6 +10,7 @@ use reference::run::Scratch;
 const BUDGETS: [u16; 10] = [0, 1, 2, 3, 10, 40, 300, 1_000, 5_000, 65_535];
 
 /// One input of a run.
+#[derive(Clone)]
 pub struct Trial {
     pub register: Vec<u8>,
     pub text: Vec<u8>,

@@ -25,7 +25,7 @@ fn refusal(text: &str) -> (u32, usize) {
 }
 
 /// The refusal number of a line in a step of its own, where it is line 2.
-fn in_step(line: &str) -> u32 {
+pub fn in_step(line: &str) -> u32 {
     match refusal(&format!("step\n{line}\nend\n")) {
         PASSES => 0,
         (number, 2) => number,

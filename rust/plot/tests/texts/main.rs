@@ -7,5 +7,6 @@ mod compare;
 mod edges;
 mod forms;
 mod generated;
+mod metres;
 mod neighbours;
 mod plans;

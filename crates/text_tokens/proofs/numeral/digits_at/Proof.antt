@@ -13,10 +13,10 @@ use Rattle.text_tokens.proofs.numeral.digits_at.Statement.{statement}
 use Rattle.text_tokens.proofs.numeral.digits_at.Tie as tie
 
 abbrev Inv-loop : tie.InvT-loop
-Inv-loop text at value₀ i₀ value i = Counted at text value i
+Inv-loop text at n value₀ i₀ value i = Counted at n text value i
 
 abbrev μ-loop : tie.MeasureT-loop
-μ-loop text at value₀ i₀ value i = length text - i
+μ-loop text at n value₀ i₀ value i = length text - i
 
 -- the loop's test, and that it looks inside the text
 a-digit : (c : tie.Then1 Inv-loop μ-loop) → startsDigit (drop (c .before .before .loop .i) (now (c .before .before .before .before .args .line))) ≡ true
@@ -26,7 +26,7 @@ inside : (c : tie.Then1 Inv-loop μ-loop) → c .before .before .loop .i < lengt
 inside c = starts-inside isDigit _ _ (a-digit c)
 
 loop-holds : tie.Need-loop-holds Inv-loop μ-loop
-loop-holds c = record { onward = record { inside = c .before .pre; place = refl }; small = omega arith; same = refl }
+loop-holds c = record { onward = record { inside = c .before .pre .0; place = refl }; small = c .before .pre .1; same = refl }
 
 digit-at-requires : tie.Need-digit-at-requires Inv-loop μ-loop
 digit-at-requires c κs = tt
