@@ -13,10 +13,10 @@ use Rattle.chain_text.specs.Text.{Form, formed, unformed, form, lettersRefusal,
 use Rattle.op_read.specs.Reading.{wordOfForm, atRecord, readingLoaded, reading}
 use Rattle.chain_text.proofs.Passing.{letters-pass}
 
-not-done : {A B : Type 0} {o : Outcome A} {a : A} {k l : ℕ} → o ≡ refused k l → o ≡ done a → B
+pub not-done : {A B : Type 0} {o : Outcome A} {a : A} {k l : ℕ} → o ≡ refused k l → o ≡ done a → B
 not-done p q = absurd (let z : _≡_ {A = ℕ} 0 1 = cc in omega arith)
 
-same-done : {A : Type 0} {o : Outcome A} {a b : A} → o ≡ done a → o ≡ done b → a ≡ b
+pub same-done : {A : Type 0} {o : Outcome A} {a b : A} → o ≡ done a → o ≡ done b → a ≡ b
 same-done p q = cc
 
 -- a chain that passes can be followed, and has at most 16 hops
