@@ -32,12 +32,12 @@ module _ (s : Sizes) (cells : List Cell) where
   reading-last w u = last-from (Value (pos u)) w
 
 -- the same path and the same reading in the cells l as in the cells of k, from reading x on
-pub record Same (s : Sizes) (k l : List Cell) (x : Reading) (w : List ℕ) : Type 0 where
+pub record SameFrom (s : Sizes) (k l : List Cell) (x : Reading) (w : List ℕ) : Type 0 where
   pub path-same : map shows (path s l x w) ≡ map shows (path s k x w)
   pub reading-same : follow s l x w ≡ follow s k x w
 
 -- cells that agree with those listed, whatever the others are: the same path and the same reading
-pub agree-same : (s : Sizes) (k l : List Cell) (x : Reading) (w : List ℕ) → AgreesOn s l (path s k x w) → Same s k l x w
+pub agree-same : (s : Sizes) (k l : List Cell) (x : Reading) (w : List ℕ) → AgreesOn s l (path s k x w) → SameFrom s k l x w
 unfolding path follow hop readCell
 agree-same s k l x [] a = record { path-same = refl; reading-same = refl }
 agree-same s k l Missing (f ∷ w) a = record { path-same = refl; reading-same = follow-missing s l w ∙ sym (follow-missing s k w) }

@@ -57,12 +57,14 @@ module _ {s : Sizes} {cells : List Cell} where
 
   module _ {goal : List Hop} {x : Reading} {w : List ℕ} {p : Path} (h : Walking s cells goal w x p) where
     -- one hop on
-    pub walking-next : {z : ℤ} {k f : ℕ} {c : Cell} {y : Reading} {r : List ℕ} → f < 16 → w ≡ f ∷ r → x ≡ Value z → k ≡ natAbs z → c ≡ fieldCell s cells k f → y ≡ readOf c
+    pub walking-next : {z : ℤ} {k f : ℕ} {c : Cell} {y : Reading} {r : List ℕ} → f < 16 → w ≡ f ∷ r → x ≡ Value z → k ≡ natAbs z
+        → c ≡ fieldCell s cells k f → y ≡ readOf c
         → Walking s cells goal r y (record { hops = set (p .hops) (p .count) (record { u = k; field = f; cell = c }); count = p .count + 1 })
     walking-next {k = k} {f} {c} {y} {r} letter split e q d o =
         let n : Hop = record { u = k; field = f; cell = c } in
         let long = ap length split in
-        let noted = ap (λ (i : ℕ). take i (set (p .hops) (p .count) n)) (add-one (p .count)) ∙ take-suc-set (p .hops) (p .count) n (omega (arith, h .places, h .room, long)) in
+        let room : p .count < length (p .hops) = omega (arith, h .places, h .room, long) in
+        let noted = ap (λ (i : ℕ). take i (set (p .hops) (p .count) n)) (add-one (p .count)) ∙ take-suc-set (p .hops) (p .count) n room in
         let behind = ap (path s cells x) split ∙ path-next s cells r e q d ∙ ap (λ (y : Reading). n ∷ path s cells y r) (sym o) in
         record {
           listed = ap (λ (l : List Hop). l ++ path s cells y r) noted ∙ append-assoc (hopsOf p) (n ∷ []) (path s cells y r)

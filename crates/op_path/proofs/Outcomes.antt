@@ -15,7 +15,7 @@ use Rattle.chain_path.specs.declared.Path.{Path}
 use Rattle.op_read.specs.Reading.{wordOfForm, refusalNumber}
 use Rattle.op_read.specs.declared.Refusal.{Refusal}
 use Rattle.op_read.specs.declared.Refusal.the-variants.{Form, Field, Kind, Hops}
-use Rattle.op_path.specs.Path.{pathOfWord, pathLoaded, readingPath, Answers}
+use Rattle.op_path.specs.Path.{pathOfWord, pathLoaded, readingPath, PathAnswers}
 use Rattle.op_path.specs.declared.PathAnswer.{PathAnswer}
 
 pub after-done : {A B : Type 0} {o : Outcome A} {a : A} (g : A → Outcome B) → o ≡ done a → after o g ≡ g a
@@ -35,21 +35,21 @@ unless-chain Kind o = refl
 unless-chain Hops o = refl
 
 -- an answer of the same outcome
-pub answers-same : {o o′ : Outcome (List Hop)} {a : PathAnswer} → Answers o a → o ≡ o′ → Answers o′ a
+pub answers-same : {o o′ : Outcome (List Hop)} {a : PathAnswer} → PathAnswers o a → o ≡ o′ → PathAnswers o′ a
 answers-same h e = record { outcome-is = h .outcome-is ∙ e; holds = h .holds }
 
 holds-own : {p : Path} {hs : List Hop} → HoldsPath p hs → HoldsPath p (hopsOf p)
 holds-own h = record { hops-are = refl; places = h .places; taken≤ = h .taken≤; lettered = h .lettered }
 
-pub answers-refused : (k l : ℕ) {p : Path} → HoldsPath p [] → Answers (unless k l (done [])) (record { refusal = k; line = l; path = p })
+pub answers-refused : (k l : ℕ) {p : Path} → HoldsPath p [] → PathAnswers (unless k l (done [])) (record { refusal = k; line = l; path = p })
 answers-refused k l h = record { outcome-is = ap (λ (hs : List Hop). unless k l (done hs)) (h .hops-are); holds = holds-own h }
 
-pub answers-listed : {p : Path} {hs : List Hop} → HoldsPath p hs → Answers (done hs) (record { refusal = 0; line = 0; path = p })
+pub answers-listed : {p : Path} {hs : List Hop} → HoldsPath p hs → PathAnswers (done hs) (record { refusal = 0; line = 0; path = p })
 unfolding unless
 answers-listed h = record { outcome-is = ap done (h .hops-are); holds = holds-own h }
 
 -- the outcome of an answer that refuses, and of one that does not
-pub answered-refused : {o : Outcome (List Hop)} {a : PathAnswer} → Answers o a → a .refusal ≢ 0 → o ≡ refused (a .refusal) (a .line)
+pub answered-refused : {o : Outcome (List Hop)} {a : PathAnswer} → PathAnswers o a → a .refusal ≢ 0 → o ≡ refused (a .refusal) (a .line)
 unfolding unless
 answered-refused {o} {a} h n = go (a .refusal) n (h .outcome-is)
   where
@@ -57,7 +57,7 @@ answered-refused {o} {a} h n = go (a .refusal) n (h .outcome-is)
     go zero n e = absurd (n refl)
     go (suc k) n e = sym e
 
-pub answered-listed : {o : Outcome (List Hop)} {a : PathAnswer} → Answers o a → a .refusal ≡ 0 → o ≡ done (hopsOf (a .path))
+pub answered-listed : {o : Outcome (List Hop)} {a : PathAnswer} → PathAnswers o a → a .refusal ≡ 0 → o ≡ done (hopsOf (a .path))
 unfolding unless
 answered-listed {o} {a} h z = sym (h .outcome-is) ∙ ap (λ (k : ℕ). unless k (a .line) (done (hopsOf (a .path)))) z
 

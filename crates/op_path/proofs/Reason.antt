@@ -30,7 +30,7 @@ use Rattle.chain_path.specs.Path.{pathAtRecord, readBehind, AgreesOn, cellPlace
 use Rattle.chain_path.proofs.Reason.{reading-last, agree-same, unfilled-at, listed-needed}
 use Rattle.op_read.specs.Reading.{wordOfForm, atRecord, readingLoaded, reading}
 use Rattle.op_read.proofs.Outcomes.{not-done, same-done, reading-refused, reading-loaded}
-use Rattle.op_path.specs.Path.{pathOfWord, pathLoaded, readingPath, shown}
+use Rattle.op_path.specs.Path.{pathOfWord, pathLoaded, readingPath, pathShows}
 use Rattle.op_path.proofs.Outcomes.{path-refused, path-loaded}
 
 -- the word that is asked for at record u, or its refusal: the same for every register of these sizes
@@ -61,7 +61,8 @@ reading-is-last file text u = go (load file) refl
     last : Outcome (List Hop) → Outcome Reading
     last o = after o (λ hs. done (readBehind (Value (pos u)) hs))
 
-    word : (s : Sizes) (o : Outcome (List ℕ)) → after o (λ w. done (valueAtRecord s (cellsOfFile s file) w u)) ≡ last (after o (λ w. done (pathAtRecord s (cellsOfFile s file) w u)))
+    word : (s : Sizes) (o : Outcome (List ℕ))
+        → after o (λ w. done (valueAtRecord s (cellsOfFile s file) w u)) ≡ last (after o (λ w. done (pathAtRecord s (cellsOfFile s file) w u)))
     word s (done w) = ap done (reading-last s (cellsOfFile s file) w u)
     word s (refused k l) = refl
 
@@ -71,14 +72,15 @@ reading-is-last file text u = go (load file) refl
 
 -- two registers in which a chain at record u has the same path and the same outcome
 pub record SameAt (file other text : List ℕ) (u : ℕ) : Type 0 where
-  pub path-same : shown (readingPath other text u) ≡ shown (readingPath file text u)
+  pub path-same : pathShows (readingPath other text u) ≡ pathShows (readingPath file text u)
   pub reading-same : reading other text u ≡ reading file text u
 
 module _ (s : Sizes) (file other text : List ℕ) (u : ℕ) (e : load file ≡ done s) (e′ : load other ≡ done s) where
   -- "Its list must be the reason": cells outside the list may be any
   pub path-reason : ((hs : List Hop) → readingPath file text u ≡ done hs → AgreesOn s (cellsOfFile s other) hs) → SameAt file other text u
   unfolding pathAtRecord valueAtRecord after
-  path-reason agrees = go (asked s text u) (path-asked s file text u e) (path-asked s other text u e′) (reading-asked s file text u e) (reading-asked s other text u e′)
+  path-reason agrees =
+      go (asked s text u) (path-asked s file text u e) (path-asked s other text u e′) (reading-asked s file text u e) (reading-asked s other text u e′)
     where
       listed : List ℕ → List ℕ → Outcome (List Hop)
       listed f w = done (pathAtRecord s (cellsOfFile s f) w u)
@@ -91,10 +93,10 @@ module _ (s : Sizes) (file other text : List ℕ) (u : ℕ) (e : load file ≡ d
       go (done w) pf po rf ro =
           let same = agree-same s (cellsOfFile s file) (cellsOfFile s other) (Value (pos u)) w (agrees _ pf) in
           record {
-            path-same = ap shown po ∙ ap done (same .path-same) ∙ sym (ap shown pf);
+            path-same = ap pathShows po ∙ ap done (same .path-same) ∙ sym (ap pathShows pf);
             reading-same = ro ∙ ap done (same .reading-same) ∙ sym rf;
           }
-      go (refused k l) pf po rf ro = record { path-same = ap shown (po ∙ sym pf); reading-same = ro ∙ sym rf }
+      go (refused k l) pf po rf ro = record { path-same = ap pathShows (po ∙ sym pf); reading-same = ro ∙ sym rf }
 
   -- no cell is listed for nothing: with any one of them unfilled, nothing is read
   unfilled-missing : {hs : List Hop} {h : Hop} → readingPath file text u ≡ done hs → List·Memᴰ h hs
@@ -128,7 +130,8 @@ unfilled-valid s cells j v =
         go (no n) = rw (getD-set-other cells j i Unfilled Unfilled n) p
 
 -- the register with a listed cell made unfilled, all else as it was: it loads, and the reading is missing
-pub listed-each-needed : (s : Sizes) (file text : List ℕ) (u : ℕ) {hs : List Hop} {h : Hop} → Bytes file → load file ≡ done s → readingPath file text u ≡ done hs → List·Memᴰ h hs
+pub listed-each-needed : (s : Sizes) (file text : List ℕ) (u : ℕ) {hs : List Hop} {h : Hop} → Bytes file → load file ≡ done s
+    → readingPath file text u ≡ done hs → List·Memᴰ h hs
     → let other = fileOf s (set (cellsOfFile s file) (cellPlace s h) Unfilled) in (load other ≡ done s) × (reading other text u ≡ done Missing)
 listed-each-needed s file text u {hs} {h} b e p m =
     let cells = set (cellsOfFile s file) (cellPlace s h) Unfilled in

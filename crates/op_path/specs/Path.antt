@@ -29,10 +29,10 @@ unfoldable pub readingPath : List ℕ → List ℕ → ℕ → Outcome (List Hop
 readingPath file text u = after (load file) (λ s. pathLoaded s file text u)
 
 -- what a path shows, of each cell its value and whether it is filled
-abbrev pub shown : Outcome (List Hop) → Outcome (List (ℕ × ℕ × Reading))
-shown o = after o (λ hs. done (map shows hs))
+abbrev pub pathShows : Outcome (List Hop) → Outcome (List (ℕ × ℕ × Reading))
+pathShows o = after o (λ hs. done (map shows hs))
 
 -- an answer of this outcome: the hops of its path, or document 01's number and line
-pub record Answers (o : Outcome (List Hop)) (a : PathAnswer) : Type 0 where
+pub record PathAnswers (o : Outcome (List Hop)) (a : PathAnswer) : Type 0 where
   pub outcome-is : unless (a .refusal) (a .line) (done (hopsOf (a .path))) ≡ o
   pub holds : HoldsPath (a .path) (hopsOf (a .path))

@@ -3,7 +3,7 @@ ghost use mathlib.Core.Path.{_≡_};
 ghost use mathlib.Core.List.{[]};
 ghost use Rattle.laws.specs.Outcome.{done, unless};
 ghost use Rattle.register.specs.Load.{load};
-ghost use Rattle.op_path.specs.Path.{pathLoaded, readingPath, Answers};
+ghost use Rattle.op_path.specs.Path.{pathLoaded, readingPath, PathAnswers};
 use chain_path::Path;
 use op_read::ChainAnswer;
 use register::LoadAnswer;
@@ -18,7 +18,7 @@ pub struct PathAnswer {
 }
 
 fn refused(refusal: u32, line: u64) -> PathAnswer
-    ensures { λ r. ⌜ Answers (unless refusal line (done [])) r ⌝ }
+    ensures { λ r. ⌜ PathAnswers (unless refusal line (done [])) r ⌝ }
 {
     PathAnswer {
         refusal,
@@ -30,7 +30,7 @@ fn refused(refusal: u32, line: u64) -> PathAnswer
 // A path over a register that loads with these sizes.
 fn path_loaded(file: &[u8], sizes: Sizes, text: &[u8], u: u64) -> PathAnswer
     requires { ⌜ load (now file) ≡ done sizes ⌝ }
-    ensures { λ r. ⌜ Answers (pathLoaded sizes (now (file .entry)) (now (text .entry)) u) r ⌝ }
+    ensures { λ r. ⌜ PathAnswers (pathLoaded sizes (now (file .entry)) (now (text .entry)) u) r ⌝ }
 {
     match op_read::chain_of(text, sizes) {
         ChainAnswer::Refused(refusal) => refused(op_read::number_of(refusal), 1),
@@ -51,7 +51,7 @@ fn path_loaded(file: &[u8], sizes: Sizes, text: &[u8], u: u64) -> PathAnswer
 
 // The path behind the reading of a chain at record u.
 pub fn reading_path(file: &[u8], text: &[u8], u: u64) -> PathAnswer
-    ensures { λ r. ⌜ Answers (readingPath (now (file .entry)) (now (text .entry)) u) r ⌝ }
+    ensures { λ r. ⌜ PathAnswers (readingPath (now (file .entry)) (now (text .entry)) u) r ⌝ }
 {
     match register::load(file) {
         LoadAnswer::Loaded(sizes) => path_loaded(file, sizes, text, u),

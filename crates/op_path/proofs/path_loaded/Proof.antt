@@ -33,7 +33,8 @@ unfolding cellsOfFile
 valid c = cells-valid _ _ (bytes c) (loaded (c .before))
 
 -- the word of a chain that passes
-word : (c : tie.After-chain) → let a = c .before .before .before .before .before .args in wordOfForm (a .sizes) (form (now (a .text))) ≡ done (unpack (c .chain .given .0 .0))
+word : (c : tie.After-chain) → let a = c .before .before .before .before .before .args in
+    wordOfForm (a .sizes) (form (now (a .text))) ≡ done (unpack (c .chain .given .0 .0))
 unfolding chainOutcome
 word c = sym (c .before .before .chain-of .ensures) ∙ ap chainOutcome (c .chain .given .1)
 

@@ -13,7 +13,9 @@ reading-path-requires : tie.Need-reading-path-requires
 reading-path-requires c κs = search needs
 
 returns : tie.Need-returns
-returns c = rw (answered-refused (c .before .before .before .reading-path .ensures) (c .before .if1 .taken)) (record { result-is = refl; answer-is = refl; arrays-stay = refl })
+returns c =
+    rw (answered-refused (c .before .before .before .reading-path .ensures) (c .before .if1 .taken))
+    (record { result-is = refl; answer-is = refl; arrays-stay = refl })
 
 fill-requires : tie.Need-fill-requires
 fill-requires c κs = c .before .before .before .before .before .before .before .reading-path .ensures .holds
