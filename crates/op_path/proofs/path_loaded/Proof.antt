@@ -1,36 +1,26 @@
 -- `op_path::path_loaded` meets its contract: each way out has its law in `Outcomes`.
 -- Assumes nothing.
 use Prim.Native.Nat.{ℕ}
-use mathlib.Core.Path.{_≡_, sym, ap, ap₂, subst₂, _∙_}
+use mathlib.Core.Path.{_≡_, sym, ap, ap₂, _∙_}
 use mathlib.Core.List.{List, []}
 use borrow.Author.Needs.{needs}
 use denote.Ref.{now}
-use Rattle.register.proofs.Roundtrip.{Bytes, Loads, loads, file-is, cells-valid}
+use Rattle.register.proofs.Roundtrip.{Bytes}
 use Rattle.laws.specs.Outcome.{done, unless}
 use Rattle.register.specs.Cells.{cellsOf}
-use Rattle.register.specs.File.{cellsOfFile, valuesPart, marksPart}
-use Rattle.register.specs.Shape.{Parts, Valid}
+use Rattle.register.specs.File.{cellsOfFile}
 use Rattle.register.specs.declared.cells.Cell.{Cell}
-use Rattle.register.proofs.Bounds.{limits}
 use Rattle.chain_text.specs.Text.{form}
 use Rattle.chain.specs.Word.{unpack}
 use Rattle.chain_path.specs.Path.{pathAtRecord}
 use Rattle.op_read.specs.Reading.{wordOfForm, chainOutcome}
-use Rattle.op_read.proofs.Outcomes.{word-passes}
+use Rattle.op_read.proofs.Outcomes.{word-passes, loaded-shape, loaded-parts}
 use Rattle.op_path.proofs.Outcomes.{unless-chain, answers-same, answers-listed, loaded-refused, loaded-record, loaded-listed}
 use Rattle.op_path.proofs.path_loaded.Statement.{statement}
 use Rattle.op_path.proofs.path_loaded.Tie as tie
 
-loaded : (c : tie.Start) → Loads (c .args .sizes) (now (c .args .file))
-loaded c = loads (c .args .sizes) (now (c .args .file)) (c .pre)
-
 bytes : (c : tie.After-shared-slice-known) → Bytes (now (c .before .args .file))
 bytes c i = let f = c .shared-slice-known .given i in f .fits
-
-valid : (c : tie.After-shared-slice-known) → let a = c .before .args in
-    Valid (a .sizes) (cellsOf (valuesPart (a .sizes) (now (a .file))) (marksPart (a .sizes) (now (a .file))))
-unfolding cellsOfFile
-valid c = cells-valid _ _ (bytes c) (loaded (c .before))
 
 -- the word of a chain that passes
 word : (c : tie.After-chain) → let a = c .before .before .before .before .before .args in
@@ -39,7 +29,7 @@ unfolding chainOutcome
 word c = sym (c .before .before .chain-of .ensures) ∙ ap chainOutcome (c .chain .given .1)
 
 chain-of-requires : tie.Need-chain-of-requires
-chain-of-requires c κs = limits _ (loaded (c .before .before) .within)
+chain-of-requires c κs = loaded-shape _ _ (c .before .before .pre) .0
 
 enum-known-refusal : tie.Need-enum-known-refusal
 enum-known-refusal c = search needs
@@ -61,22 +51,16 @@ unfolding unless
 returns c = answers-same (c .refused2 .ensures) (sym (loaded-record _ _ _ _ (word (c .before .before .before)) (c .before .if1 .taken)))
 
 values-part-requires : tie.Need-values-part-requires
-values-part-requires c κs = let l = loaded (c .before .before .before .before .before .before .before) in (limits _ (l .within), l .whole)
+values-part-requires c κs = loaded-shape _ _ (c .before .before .before .before .before .before .before .pre)
 
 marks-part-requires : tie.Need-marks-part-requires
-marks-part-requires c κs = let l = loaded (c .before .before .before .before .before .before .before .before) in (limits _ (l .within), l .whole)
+marks-part-requires c κs = loaded-shape _ _ (c .before .before .before .before .before .before .before .before .pre)
 
 path-at-record-requires : tie.Need-path-at-record-requires
 path-at-record-requires c κs =
     let k = c .before .before .before .before .before .before .before .before in
-    let s = k .before in
-    let v = sym (c .before .values-part .ensures) in
-    let m = sym (c .marks-part .ensures) in (
-      subst₂ (Parts (s .args .sizes)) v m (file-is _ _ (bytes k) (loaded s)),
-      subst₂ (λ (x y : List ℕ). Valid (s .args .sizes) (cellsOf x y)) v m (valid k),
-      c .before .before .if1 .left,
-      word-passes _ _ (word (c .before .before .before .before)),
-    )
+    let p = loaded-parts _ _ (k .before .pre) (bytes k) (c .before .values-part .ensures) (c .marks-part .ensures) in
+    (p .0, p .1, c .before .before .if1 .left, word-passes _ _ (word (c .before .before .before .before)))
 
 returns-2 : tie.Need-returns-2
 unfolding chainOutcome
