@@ -18,31 +18,31 @@ use Rattle.plan_lines.specs.declared.Plan.{Plan}
 use Rattle.plan_lines.proofs.Appending.{holds-count}
 use Rattle.api_plan.specs.PlanArrays.{kindNumber, letterOf, kindAt, lettersAt, letterAt, roundAt, PlacesHold, planLines}
 
--- the first i of n places hold the values of g, and those behind them 0
-pub record Progress (g : ℕ → ℕ) (n i : ℕ) (xs : List ℕ) : Type 0 where
+-- the first i of n places hold the values of g, and those behind them d
+pub record Progress {A : Type 0} (d : A) (g : ℕ → A) (n i : ℕ) (xs : List A) : Type 0 where
   pub places : length xs ≡ n
-  pub filled : PlacesHold g i xs
-  pub cleared : (k : ℕ) → i ≤ k → getD xs k 0 ≡ 0
+  pub filled : PlacesHold d g i xs
+  pub cleared : (k : ℕ) → i ≤ k → getD xs k d ≡ d
 
-zeros : (n k : ℕ) → _≡_ {A = ℕ} (getD (replicate n 0) k 0) 0
-zeros zero k = refl
-zeros (suc n) zero = refl
-zeros (suc n) (suc k) = zeros n k
+cleared-all : {A : Type 0} (d : A) (n k : ℕ) → getD (replicate n d) k d ≡ d
+cleared-all d zero k = refl
+cleared-all d (suc n) zero = refl
+cleared-all d (suc n) (suc k) = cleared-all d n k
 
-module _ {g : ℕ → ℕ} {n : ℕ} where
-  pub progress-none : Progress g n 0 (replicate n 0)
-  progress-none = record { places = length-replicate n 0; filled = below-none _; cleared = λ k l. zeros n k }
+module _ {A : Type 0} {d : A} {g : ℕ → A} {n : ℕ} where
+  pub progress-none : Progress d g n 0 (replicate n d)
+  progress-none = record { places = length-replicate n d; filled = below-none _; cleared = λ k l. cleared-all d n k }
 
-  pub progress-next : {i v : ℕ} {xs : List ℕ} → Progress g n i xs → i < n → v ≡ g i → Progress g n (i + 1) (set xs i v)
+  pub progress-next : {i : ℕ} {v : A} {xs : List A} → Progress d g n i xs → i < n → v ≡ g i → Progress d g n (i + 1) (set xs i v)
   progress-next {i} {v} {xs} p h e =
-      let l : i < length xs = omega arith in
+      let l : i < length xs = omega (arith, p .places) in
       record {
         places = simp length-set (p .places);
-        filled = below-more _ i (λ k b. getD-set-other xs i k v 0 (λ q. omega arith) ∙ p .filled k b) (getD-set-same xs i v 0 l ∙ e);
-        cleared = λ k b. getD-set-other xs i k v 0 (λ q. omega arith) ∙ p .cleared k (omega arith);
+        filled = below-more _ i (λ k b. getD-set-other xs i k v d (λ q. omega arith) ∙ p .filled k b) (getD-set-same xs i v d l ∙ e);
+        cleared = λ k b. getD-set-other xs i k v d (λ q. omega arith) ∙ p .cleared k (omega arith);
       }
 
-  pub progress-all : {i : ℕ} {xs : List ℕ} → Progress g n i xs → ((k : ℕ) → i ≤ k → g k ≡ 0) → PlacesHold g n xs
+  pub progress-all : {i : ℕ} {xs : List A} → Progress d g n i xs → ((k : ℕ) → i ≤ k → g k ≡ d) → PlacesHold d g n xs
   progress-all {i} p z k b = ⊎-elim (λ l. p .filled k l) (λ l. p .cleared k l ∙ sym (z k l)) (lt-or-le k i)
 
 -- the letter of a field

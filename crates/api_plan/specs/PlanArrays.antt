@@ -39,15 +39,15 @@ letterAt ls k = getD (lettersAt ls (k / 16)) (k % 16) 0
 unfoldable pub roundAt : List (Fact × ℕ) → ℕ → ℕ
 roundAt ls i = getD (map (λ l. l .1) ls) i 0
 
--- the first n places of xs hold the values of g
-abbrev pub PlacesHold : (ℕ → ℕ) → ℕ → List ℕ → Type 0
-PlacesHold g n xs = (i : ℕ) → i < n → getD xs i 0 ≡ g i
+-- the first n places of xs hold the values of g; d stands for what is not there
+abbrev pub PlacesHold : {A : Type 0} → A → (ℕ → A) → ℕ → List A → Type 0
+PlacesHold d g n xs = (i : ℕ) → i < n → getD xs i d ≡ g i
 
 -- the three arrays of the lines ls
 pub record PlanArrays (ls : List (Fact × ℕ)) (kinds chains rounds : List ℕ) : Type 0 where
-  pub kinds-are : PlacesHold (kindAt ls) 64 kinds
-  pub chains-are : PlacesHold (letterAt ls) 1024 chains
-  pub rounds-are : PlacesHold (roundAt ls) 64 rounds
+  pub kinds-are : PlacesHold 0 (kindAt ls) 64 kinds
+  pub chains-are : PlacesHold 0 (letterAt ls) 1024 chains
+  pub rounds-are : PlacesHold 0 (roundAt ls) 64 rounds
 
 -- the lines of a plan of the code, each with its fact and round
 abbrev pub planLines : Plan → List (Fact × ℕ)

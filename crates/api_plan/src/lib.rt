@@ -25,7 +25,7 @@ fn kind_number(key: u64) -> u8
 }
 
 // The letter of a field.
-fn letter(field: u64) -> u8
+pub fn letter(field: u64) -> u8
     requires { ⌜ field < 16 ⌝ }
     ensures { λ r. ⌜ r ≡ letterOf field ⌝ }
 {
@@ -50,7 +50,7 @@ fn letter_at(chain: u64, hop: u64) -> u8
 
 fn fill_kinds(plan: Plan, kinds: &mut [u8; 64])
     requires { ⌜ HoldsLines plan (facts plan) ⌝ }
-    ensures { λ _. ⌜ PlacesHold (kindAt (planLines plan)) 64 (now (kinds .exit)) ⌝ }
+    ensures { λ _. ⌜ PlacesHold 0 (kindAt (planLines plan)) 64 (now (kinds .exit)) ⌝ }
 {
     let count = plan.count;
     *kinds = [0; 64];
@@ -61,7 +61,7 @@ fn fill_kinds(plan: Plan, kinds: &mut [u8; 64])
 
 fn fill_chains(plan: Plan, chains: &mut [u8; 1024])
     requires { ⌜ HoldsLines plan (facts plan) ⌝ }
-    ensures { λ _. ⌜ PlacesHold (letterAt (planLines plan)) 1024 (now (chains .exit)) ⌝ }
+    ensures { λ _. ⌜ PlacesHold 0 (letterAt (planLines plan)) 1024 (now (chains .exit)) ⌝ }
 {
     let end = 16 * plan.count;
     *chains = [0; 1024];
@@ -73,7 +73,7 @@ fn fill_chains(plan: Plan, chains: &mut [u8; 1024])
 
 fn fill_rounds(plan: Plan, rounds: &mut [u8; 64])
     requires { ⌜ HoldsLines plan (facts plan) ⌝ }
-    ensures { λ _. ⌜ PlacesHold (roundAt (planLines plan)) 64 (now (rounds .exit)) ⌝ }
+    ensures { λ _. ⌜ PlacesHold 0 (roundAt (planLines plan)) 64 (now (rounds .exit)) ⌝ }
 {
     let count = plan.count;
     *rounds = [0; 64];

@@ -1,21 +1,10 @@
 // A reading's answer as numbers.
 ghost use mathlib.Core.Path.{_≡_};
-ghost use Rattle.op_read.specs.Reading.{readingOutcome, refusalNumber as chainNumber};
+ghost use Rattle.op_read.specs.Reading.{readingOutcome};
 ghost use Rattle.laws.specs.Outcome.{done, refused as refusedWith};
 ghost use Rattle.api_read.specs.Numbers.{readNumbers};
 use chain::reading::Reading;
 use op_read::ReadingAnswer;
-
-fn chain_number(refusal: op_read::Refusal) -> u32
-    ensures { λ r. ⌜ r ≡ chainNumber refusal ⌝ }
-{
-    match refusal {
-        op_read::Refusal::Form => 7,
-        op_read::Refusal::Field => 9,
-        op_read::Refusal::Kind => 10,
-        op_read::Refusal::Hops => 11,
-    }
-}
 
 // The numbers of a reading's answer.
 pub struct ReadNumbers {
@@ -61,7 +50,7 @@ pub fn numbers(answer: ReadingAnswer) -> ReadNumbers
     match answer {
         ReadingAnswer::Read(reading) => read(reading),
         ReadingAnswer::Register(refusal) => refused(register::number_of(refusal), 0),
-        ReadingAnswer::Chain(refusal) => refused(chain_number(refusal), 1),
+        ReadingAnswer::Chain(refusal) => refused(op_read::number_of(refusal), 1),
         ReadingAnswer::Record => refused(16, 0),
     }
 }

@@ -21,7 +21,7 @@ use Rattle.register.proofs.Bounds.{cellIndex-below}
 use Rattle.register.proofs.Arrays.{cellsOf-at}
 use Rattle.chain.specs.declared.reading.Reading.{Reading}
 use Rattle.chain.specs.declared.reading.Reading.the-variants.{Missing, Value}
-use Rattle.chain.specs.Word.{isReference, hasField, readable, column, fieldAt, readOf, readCell, hop, follow, valueAtRecord, refersTo}
+use Rattle.chain.specs.Word.{isReference, hasField, readable, column, fieldAt, fieldCell, readCell, hop, follow, valueAtRecord, refersTo}
 use Rattle.chain.proofs.Fields.{or-cases}
 use Rattle.chain.proofs.ReadOf.{read-refers}
 
@@ -49,13 +49,12 @@ field-column s l f h =
     rw (le-ltb f 8 lo, le-ltb (s .references + (f - 8)) (s .references) (omega arith)) (omega arith))
     (or-cases _ _ h)
 
--- what is read of the cell at a place of the two arrays
-pub cell-read : (s : Sizes) (values marks : List ℕ) → Parts s values marks → (u f j : ℕ) → u < s .records → hasField s f ≡ true → j ≡ cellIndex s u (column s f)
-    → readOf (cellAt values marks j) ≡ readCell s (cellsOf values marks) u f
-unfolding readCell
-cell-read s values marks p u f j hu hf e =
+-- the cell at a place of the two arrays
+pub cell-field : (s : Sizes) (values marks : List ℕ) → Parts s values marks → (u f j : ℕ) → u < s .records → hasField s f ≡ true → j ≡ cellIndex s u (column s f)
+    → cellAt values marks j ≡ fieldCell s (cellsOf values marks) u f
+cell-field s values marks p u f j hu hf e =
     let b = cellIndex-below s u (column s f) hu (column-below s (p .limits) f hf) in
-    ap readOf (ap (cellAt values marks) e ∙ sym (cellsOf-at values marks (cellIndex s u (column s f)) (omega (arith, p .marks-length))))
+    ap (cellAt values marks) e ∙ sym (cellsOf-at values marks (cellIndex s u (column s f)) (omega (arith, p .marks-length)))
 
 -- where nothing is read, nothing is read behind it
 pub follow-missing : (s : Sizes) (cells : List Cell) (w : List ℕ) → follow s cells Missing w ≡ Missing

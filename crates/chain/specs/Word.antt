@@ -47,9 +47,13 @@ unfoldable pub readOf : Cell → Reading
 readOf Unfilled = Missing
 readOf (Filled z) = Value z
 
--- what is read of the cell of record u and field f
+-- the cell of record u and field f
+abbrev pub fieldCell : Sizes → List Cell → ℕ → ℕ → Cell
+fieldCell s cells u f = getD cells (cellIndex s u (column s f)) Unfilled
+
+-- what is read of it
 unfoldable pub readCell : Sizes → List Cell → ℕ → ℕ → Reading
-readCell s cells u f = readOf (getD cells (cellIndex s u (column s f)) Unfilled)
+readCell s cells u f = readOf (fieldCell s cells u f)
 
 -- one hop: on from the record that a reading refers to; where nothing is read, nothing is read behind it
 unfoldable pub hop : Sizes → List Cell → Reading → ℕ → Reading

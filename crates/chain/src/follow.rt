@@ -5,12 +5,13 @@ ghost use Prim.Native.Nat.{_≤_, _<_};
 ghost use Rattle.register.specs.Cells.{cellsOf};
 ghost use Rattle.register.specs.File.{width};
 ghost use Rattle.register.specs.Shape.{Limits, Parts, Valid};
-ghost use Rattle.chain.specs.Word.{hasField, column as columnOf, fieldAt, readCell, readable, unpack, valueAtRecord};
+ghost use Rattle.chain.specs.Word.{hasField, column as columnOf, fieldAt, fieldCell, readCell, readable, unpack, valueAtRecord};
 use crate::packed;
 use crate::reading;
 use crate::reading::Reading;
 use register::Sizes;
 use register::cells;
+use register::cells::Cell;
 
 // Where a field stands in a record.
 pub fn column(sizes: Sizes, field: usize) -> usize
@@ -36,16 +37,24 @@ pub fn field_at(sizes: Sizes, column: usize) -> usize
     }
 }
 
+// The cell of record u and a field.
+pub fn field_cell(cells: &[u8], filled: &[u8], sizes: Sizes, u: usize, field: usize) -> Cell
+    requires { ⌜ Parts sizes (now cells) (now filled) × (u < sizes .records) × (hasField sizes field ≡ true) ⌝ }
+    ensures { λ r. ⌜ r ≡ fieldCell sizes (cellsOf (now (cells .entry)) (now (filled .entry))) u field ⌝ }
+{
+    cells::cell_at(
+        cells,
+        filled,
+        register::cell_index(sizes, u, column(sizes, field)),
+    )
+}
+
 // What is read of the cell of record u and a field.
 pub fn read_cell(cells: &[u8], filled: &[u8], sizes: Sizes, u: usize, field: usize) -> Reading
     requires { ⌜ Parts sizes (now cells) (now filled) × (u < sizes .records) × (hasField sizes field ≡ true) ⌝ }
     ensures { λ r. ⌜ r ≡ readCell sizes (cellsOf (now (cells .entry)) (now (filled .entry))) u field ⌝ }
 {
-    reading::read_of(cells::cell_at(
-        cells,
-        filled,
-        register::cell_index(sizes, u, column(sizes, field)),
-    ))
+    reading::read_of(field_cell(cells, filled, sizes, u, field))
 }
 
 // The value of a packed chain at record u.

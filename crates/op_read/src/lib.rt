@@ -4,7 +4,7 @@ ghost use Rattle.laws.specs.Outcome.{done};
 ghost use Rattle.register.specs.Load.{load};
 ghost use Rattle.register.specs.Shape.{Limits};
 ghost use Rattle.chain_text.specs.Text.{form};
-ghost use Rattle.op_read.specs.Reading.{wordOfForm, readingLoaded, reading as readingOf, chainOutcome, readingOutcome, judgedOf};
+ghost use Rattle.op_read.specs.Reading.{wordOfForm, readingLoaded, reading as readingOf, chainOutcome, readingOutcome, refusalNumber, judgedOf};
 use chain::follow;
 use chain::reading::Reading;
 use chain_text::letters::Letters;
@@ -20,6 +20,18 @@ pub enum Refusal {
     Field,
     Kind,
     Hops,
+}
+
+// Document 01's number of a refusal.
+pub fn number_of(refusal: Refusal) -> u32
+    ensures { λ r. ⌜ r ≡ refusalNumber refusal ⌝ }
+{
+    match refusal {
+        Refusal::Form => 7,
+        Refusal::Field => 9,
+        Refusal::Kind => 10,
+        Refusal::Hops => 11,
+    }
 }
 
 // A packed chain, or why it is refused.

@@ -1,8 +1,10 @@
 //! The functions of the library as they are: the result is the refusal number,
 //! 0 for none, and every call fills the lent answer whole.
 
+mod path;
 mod runs;
 
+pub use path::{MAX_HOPS, PathBuffers, path};
 pub use runs::{RunBuffers, RunBy, run_direct, run_messages};
 
 /// The numbers that a call answers; unused places are 0.
@@ -22,6 +24,8 @@ pub const RECORD: usize = 4;
 pub const FIELD: usize = 5;
 /// The place that says whether a reading is filled: 1 filled, 0 unfilled.
 pub const FILLED: usize = 6;
+/// The place of a path's number of hops.
+pub const HOPS: usize = 6;
 /// The place of a checked text's number of steps.
 pub const STEPS: usize = 6;
 /// The place of the most lines of any step of a checked text.

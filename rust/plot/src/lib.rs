@@ -5,9 +5,11 @@
 //! library's own functions, one for one, with the answer lent by the caller.
 
 pub mod lent;
+mod path;
 mod plan;
 mod run;
 
+pub use path::Hop;
 pub use plan::{Line, LineKind, Plan};
 pub use run::{End, Letters, Run, inspect, run_direct, run_messages};
 
@@ -37,6 +39,16 @@ pub fn read(register: &[u8], chain: &[u8], record: u64) -> Result<Option<i64>, R
     let number = lent::read(register, chain, record, &mut value, &mut answer);
     passed(number, &answer)?;
     Ok((answer[lent::FILLED] == 1).then_some(value))
+}
+
+/// Lists the path behind a reading: each hop's record, field and cell, up to the
+/// value or the first missing cell. At `u` alone it is empty.
+pub fn path(register: &[u8], chain: &[u8], record: u64) -> Result<Vec<Hop>, Refusal> {
+    let mut buffers = lent::PathBuffers::default();
+    let mut answer = lent::Answer::default();
+    let number = lent::path(register, chain, record, &mut buffers, &mut answer);
+    passed(number, &answer)?;
+    Ok(path::taken_from(&buffers, &answer))
 }
 
 /// Checks a rules text for a register.

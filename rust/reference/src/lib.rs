@@ -1,6 +1,6 @@
 //! A reading of document 01, "Plot registers, their rules, and the letters
-//! between records", written from the paper alone. The library is compared with
-//! it in answers and in time.
+//! between records", and of the requests of document 02 that have landed, written
+//! from the papers alone. The library is compared with it in answers and in time.
 
 pub mod apply;
 pub mod chain;
@@ -8,6 +8,7 @@ pub mod direct;
 pub mod form;
 pub mod line_check;
 pub mod messages;
+pub mod path;
 pub mod plan;
 pub mod print;
 pub mod printed;

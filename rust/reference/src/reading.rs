@@ -17,14 +17,25 @@ pub fn follow(word: &Word, record: usize, cell: impl Fn(usize, usize) -> Cell) -
     reached
 }
 
-/// A single reading: the register is looked at first, then the chain, then 16.
-pub fn reading(register: &[u8], chain: &[u8], record: u64) -> Result<Cell, Refusal> {
+/// What a single reading is asked for: the register is looked at first, then the
+/// chain, then 16.
+pub(crate) fn asked<'a>(
+    register: &'a [u8],
+    chain: &[u8],
+    record: u64,
+) -> Result<(Register<'a>, Word, usize), Refusal> {
     let register = Register::load(register)?;
     let word = read_chain(chain, &register.sizes).map_err(|reason| reason.at(1))?;
     if record >= register.sizes.records as u64 {
         return Err(Reason::NoSuchRecord.into());
     }
-    Ok(follow(&word, record as usize, |record, field| {
+    Ok((register, word, record as usize))
+}
+
+/// A single reading.
+pub fn reading(register: &[u8], chain: &[u8], record: u64) -> Result<Cell, Refusal> {
+    let (register, word, record) = asked(register, chain, record)?;
+    Ok(follow(&word, record, |record, field| {
         register.cell(record, field)
     }))
 }

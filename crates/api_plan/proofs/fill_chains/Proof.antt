@@ -10,7 +10,7 @@ use Rattle.api_plan.proofs.fill_chains.Statement.{statement}
 use Rattle.api_plan.proofs.fill_chains.Tie as tie
 
 abbrev Inv-loop : tie.InvT-loop
-Inv-loop chains₀ plan end k₀ chains k = (k ≤ end) × Progress (letterAt (planLines plan)) 1024 k chains
+Inv-loop chains₀ plan end k₀ chains k = (k ≤ end) × Progress 0 (letterAt (planLines plan)) 1024 k chains
 
 abbrev μ-loop : tie.MeasureT-loop
 μ-loop chains₀ plan end k₀ chains k = end - k

@@ -10,7 +10,7 @@ use Rattle.api_plan.proofs.fill_kinds.Statement.{statement}
 use Rattle.api_plan.proofs.fill_kinds.Tie as tie
 
 abbrev Inv-loop : tie.InvT-loop
-Inv-loop kinds₀ plan count i₀ kinds i = (i ≤ count) × Progress (kindAt (planLines plan)) 64 i kinds
+Inv-loop kinds₀ plan count i₀ kinds i = (i ≤ count) × Progress 0 (kindAt (planLines plan)) 64 i kinds
 
 abbrev μ-loop : tie.MeasureT-loop
 μ-loop kinds₀ plan count i₀ kinds i = count - i

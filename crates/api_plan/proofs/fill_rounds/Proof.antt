@@ -8,7 +8,7 @@ use Rattle.api_plan.proofs.fill_rounds.Statement.{statement}
 use Rattle.api_plan.proofs.fill_rounds.Tie as tie
 
 abbrev Inv-loop : tie.InvT-loop
-Inv-loop rounds₀ plan count i₀ rounds i = (i ≤ count) × Progress (roundAt (planLines plan)) 64 i rounds
+Inv-loop rounds₀ plan count i₀ rounds i = (i ≤ count) × Progress 0 (roundAt (planLines plan)) 64 i rounds
 
 abbrev μ-loop : tie.MeasureT-loop
 μ-loop rounds₀ plan count i₀ rounds i = count - i

@@ -2,7 +2,8 @@
 
 use crate::timing::Row;
 use generate::random::Random;
-use generate::{neighbours, padding, registers, texts};
+use generate::{chains, neighbours, padding, registers, texts};
+use reference::path::path;
 use reference::reading::reading;
 use reference::register::{MAX_FIELDS, Sizes};
 use reference::text::{MAX_BYTES, check};
@@ -12,6 +13,7 @@ use std::hint::black_box;
 pub fn rows() -> Vec<Row> {
     vec![
         load(),
+        path_of_16_hops(),
         check_text("check 8,192 bytes, plain", plain_text()),
         check_text("check 8,192 bytes, dense", dense_text()),
     ]
@@ -31,6 +33,27 @@ fn load() -> Row {
         }),
         reference: Box::new(move || {
             let _ = black_box(reading(black_box(&same), b"u", 0));
+        }),
+    }
+}
+
+/// The longest path over the largest register, which is loaded for it.
+fn path_of_16_hops() -> Row {
+    let register = registers::full_file(&mut Random::new(3), registers::LARGEST);
+    let chain = chains::text(b"MABCDEFGHABCDEFG");
+    assert_eq!(
+        plot::path(&register, &chain, 1).map(|hops| hops.len()),
+        Ok(16)
+    );
+    let (same_register, same_chain) = (register.clone(), chain.clone());
+    Row {
+        name: "path of 16 hops, 327,692 bytes".to_owned(),
+        at_most: 1.3,
+        library: Box::new(move || {
+            let _ = black_box(plot::path(black_box(&register), black_box(&chain), 1));
+        }),
+        reference: Box::new(move || {
+            let _ = black_box(path(black_box(&same_register), black_box(&same_chain), 1));
         }),
     }
 }

@@ -28,8 +28,8 @@ refused-requires c κs = search needs
 enum-known-answer-3 : tie.Need-enum-known-answer-3
 enum-known-answer-3 c = search needs
 
-chain-number-requires : tie.Need-chain-number-requires
-chain-number-requires c κs = search needs
+number-of-requires-2 : tie.Need-number-of-requires-2
+number-of-requires-2 c κs = search needs
 
 refused-requires-2 : tie.Need-refused-requires-2
 refused-requires-2 c κs = search needs
@@ -53,7 +53,7 @@ returns-2 c =
 returns-3 : tie.Need-returns-3
 unfolding readingOutcome
 returns-3 c =
-    c .refused2 .ensures ∙ ap (λ (k : ℕ). readNumbers (refused k 1)) (c .before .chain-number .ensures)
+    c .refused2 .ensures ∙ ap (λ (k : ℕ). readNumbers (refused k 1)) (c .before .number-of2 .ensures)
     ∙ sym (ap (λ (a : ReadingAnswer). readNumbers (readingOutcome a)) (c .before .before .before .answer3 .given .1))
 
 returns-4 : tie.Need-returns-4
@@ -70,7 +70,7 @@ numbers-spec =
     number-of-requires
     refused-requires
     enum-known-answer-3
-    chain-number-requires
+    number-of-requires-2
     refused-requires-2
     enum-told
     refused-requires-3

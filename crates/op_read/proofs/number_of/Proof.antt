@@ -1,10 +1,10 @@
--- `api_read::reading::chain_number` meets its contract.
+-- `op_read::number_of` meets its contract.
 -- Assumes nothing.
 use mathlib.Core.Path.{sym, ap}
 use borrow.Author.Needs.{needs}
 use Rattle.op_read.specs.Reading.{refusalNumber}
-use Rattle.api_read.proofs.reading.chain_number.Statement.{statement}
-use Rattle.api_read.proofs.reading.chain_number.Tie as tie
+use Rattle.op_read.proofs.number_of.Statement.{statement}
+use Rattle.op_read.proofs.number_of.Tie as tie
 
 enum-told : tie.Need-enum-told
 enum-told c = search needs
@@ -34,7 +34,7 @@ returns-4 : tie.Need-returns-4
 unfolding refusalNumber
 returns-4 c = sym (ap refusalNumber (c .enum-told4 .given .1))
 
-pub chain-number-spec : {M : Type 1} → statement M
-chain-number-spec =
+pub number-of-spec : {M : Type 1} → statement M
+number-of-spec =
     tie.close
     (tie.spec enum-told enum-told-2 enum-told-3 enum-told-4 returns returns-2 returns-3 returns-4)

@@ -1,0 +1,2 @@
+-- Laws of a path's arrays.
+pub mod Hops

@@ -1,0 +1,2 @@
+-- A path's hops as the arrays of the C interface.
+pub mod PathArrays

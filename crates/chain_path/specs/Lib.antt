@@ -1,0 +1,2 @@
+-- The path behind a reading.
+pub mod Path

@@ -1,0 +1,2 @@
+-- The path behind a single reading: its answer, and its outcome.
+pub mod Path

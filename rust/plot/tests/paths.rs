@@ -1,0 +1,260 @@
+//! The path behind a reading (M-109): the library and the reference agree on it,
+//! and it is the reason for the reading.
+
+mod common;
+
+use common::{any_answer, refusal_name, refused};
+use generate::on_failure::OnFailure;
+use generate::random::Random;
+use generate::tally::Tally;
+use generate::{chains, damage, registers};
+use plot::lent::{self, Answer, MAX_HOPS, PathBuffers};
+use reference::path::{Hop, path};
+use reference::refusal::Refusal;
+use reference::register::{Cell, Register, Sizes, encode};
+
+const SMALL_REGISTERS: usize = 30_000;
+const LARGE_REGISTERS: usize = 200;
+const PATHS: usize = 4;
+
+/// The answer that the library must give, whole.
+#[derive(Debug, PartialEq, Eq)]
+struct Expected {
+    refusal: u32,
+    buffers: PathBuffers,
+    answer: Answer,
+}
+
+/// For buffers that were lent as `before`, which a refusal leaves.
+fn expected(before: PathBuffers, sizes: Sizes, answer: &Result<Vec<Hop>, Refusal>) -> Expected {
+    let hops = match answer {
+        Err(refusal) => {
+            let (refusal, answer) = refused(*refusal);
+            return Expected {
+                refusal,
+                buffers: before,
+                answer,
+            };
+        }
+        Ok(hops) => hops,
+    };
+    let mut expected = Expected {
+        refusal: 0,
+        buffers: PathBuffers::default(),
+        answer: [0; 8],
+    };
+    expected.answer[lent::HOPS] = hops.len() as u64;
+    for (i, hop) in hops.iter().enumerate() {
+        expected.buffers.records[i] = hop.record as u64;
+        expected.buffers.fields[i] = sizes.letter(hop.field);
+        if let Cell::Value(value) = hop.cell {
+            expected.buffers.values[i] = i64::from(value);
+            expected.buffers.marks[i] = 1;
+        }
+    }
+    expected
+}
+
+/// Buffers full of rubbish.
+fn any_buffers(random: &mut Random) -> PathBuffers {
+    let mut buffers = PathBuffers {
+        records: std::array::from_fn(|_| random.number()),
+        values: std::array::from_fn(|_| random.number() as i64),
+        ..PathBuffers::default()
+    };
+    random.fill(&mut buffers.fields);
+    random.fill(&mut buffers.marks);
+    buffers
+}
+
+fn length_name(hops: usize) -> String {
+    format!("hops {hops:>2}")
+}
+
+fn name(answer: &Result<Vec<Hop>, Refusal>) -> String {
+    match answer {
+        Ok(hops) => length_name(hops.len()),
+        Err(refusal) => refusal_name(refusal.reason.number()),
+    }
+}
+
+/// What is read of a cell.
+fn value(cell: Cell) -> Option<i64> {
+    match cell {
+        Cell::Missing => None,
+        Cell::Value(value) => Some(i64::from(value)),
+    }
+}
+
+/// What is read at the end of a path: at `u` alone the record's own number.
+fn last(record: u64, hops: &[Hop]) -> Option<i64> {
+    hops.last()
+        .map_or(Some(record as i64), |hop| value(hop.cell))
+}
+
+/// One case: the library, lent buffers and an answer full of rubbish, sets them
+/// whole, and the buffers only where it does not refuse.
+fn compare(
+    random: &mut Random,
+    tally: &mut Tally,
+    register: &[u8],
+    chain: &[u8],
+    record: u64,
+) -> Result<Vec<Hop>, Refusal> {
+    let _failing = OnFailure::new(register)
+        .bytes("chain", chain)
+        .number("record", record);
+    let before = any_buffers(random);
+    let mut buffers = before.clone();
+    let mut answer = any_answer(random);
+    let refusal = lent::path(register, chain, record, &mut buffers, &mut answer);
+    let from_paper = path(register, chain, record);
+    let sizes = Register::load(register).map_or(registers::LARGEST, |register| register.sizes);
+    assert_eq!(
+        Expected {
+            refusal,
+            buffers,
+            answer
+        },
+        expected(before, sizes, &from_paper),
+    );
+    tally.count(&name(&from_paper));
+    tally.add("paths", u64::from(from_paper.is_ok()));
+    from_paper
+}
+
+/// A register of the same sizes that agrees on the listed cells, all else drawn
+/// anew: the same path, and the same reading.
+fn compare_other(
+    random: &mut Random,
+    tally: &mut Tally,
+    sizes: Sizes,
+    chain: &[u8],
+    record: u64,
+    hops: &[Hop],
+) {
+    let density = registers::density(random);
+    let mut cells = registers::cells(random, sizes, density);
+    for hop in hops {
+        cells[place(sizes, hop)] = hop.cell;
+    }
+    let other = encode(sizes, &cells);
+    let _failing = OnFailure::new(&other)
+        .bytes("chain", chain)
+        .number("record", record);
+    assert_eq!(path(&other, chain, record).as_deref(), Ok(hops));
+    let listed = plot::path(&other, chain, record).expect("it is not refused");
+    assert_eq!(listed.len(), hops.len());
+    for (hop, same) in listed.iter().zip(hops) {
+        assert_eq!(hop.record, same.record as u64);
+        assert_eq!(hop.letter, char::from(sizes.letter(same.field)));
+        assert_eq!(hop.value, value(same.cell));
+    }
+    assert_eq!(plot::read(&other, chain, record), Ok(last(record, hops)));
+    tally.count("others that agree");
+    if let Some(hop) = (!hops.is_empty()).then(|| random.pick(hops)) {
+        cells[place(sizes, &hop)] = Cell::Missing;
+        let gap = encode(sizes, &cells);
+        assert_eq!(plot::read(&gap, chain, record), Ok(None));
+        tally.count("others with a gap");
+    }
+}
+
+fn place(sizes: Sizes, hop: &Hop) -> usize {
+    hop.record * sizes.fields() + hop.field
+}
+
+/// A record number: mostly one of the register's.
+fn record(random: &mut Random, sizes: Sizes) -> u64 {
+    let records = sizes.records as u64;
+    match random.below(24) {
+        0 => records,
+        1 => random.pick(&[u64::MAX, 1 << 32, (1 << 32) + 1, 1 << 63]),
+        2 => records.saturating_sub(1),
+        _ => random.below(sizes.records.max(1)) as u64,
+    }
+}
+
+/// A chain: of any length that may be, or any text.
+fn chain(random: &mut Random, sizes: Sizes) -> Vec<u8> {
+    if random.percent(50) {
+        return chains::any(random, sizes);
+    }
+    let hops = random.between(0, MAX_HOPS);
+    chains::text(&chains::valid_letters(random, sizes, hops))
+}
+
+fn compare_register(random: &mut Random, tally: &mut Tally, sizes: Sizes) {
+    let mut register = registers::file(random, sizes);
+    let damaged = random.percent(20);
+    if damaged {
+        for _ in 0..random.between(1, 3) {
+            damage::damage(random, sizes, &mut register);
+        }
+    }
+    for _ in 0..PATHS {
+        let chain = chain(random, sizes);
+        let record = record(random, sizes);
+        let answer = compare(random, tally, &register, &chain, record);
+        if let (Ok(hops), false) = (answer, damaged || random.percent(50)) {
+            assert_eq!(
+                plot::read(&register, &chain, record),
+                Ok(last(record, &hops))
+            );
+            compare_other(random, tally, sizes, &chain, record, &hops);
+        }
+    }
+}
+
+#[test]
+fn paths_agree_and_are_the_reason() {
+    let mut random = Random::new(31);
+    let mut tally = Tally::default();
+    for _ in 0..SMALL_REGISTERS {
+        let sizes = registers::sizes(&mut random);
+        compare_register(&mut random, &mut tally, sizes);
+    }
+    for _ in 0..LARGE_REGISTERS {
+        let sizes = registers::large_sizes(&mut random);
+        compare_register(&mut random, &mut tally, sizes);
+    }
+    tally.print("paths behind readings");
+    tally.require(50_000, &["paths"]);
+    tally.require(10_000, &["others that agree", "others with a gap"]);
+    let lengths: Vec<String> = (0..=MAX_HOPS).map(length_name).collect();
+    tally.require(100, &lengths);
+    let refusals = [1, 2, 3, 4, 5, 7, 9, 10, 11, 16];
+    tally.require(100, &refusals.map(refusal_name));
+}
+
+#[test]
+fn bindings_answer_in_rust_values() {
+    let register = reference::printed::register();
+    let hop = |record, letter, value: Option<i64>| plot::Hop {
+        record,
+        letter,
+        value,
+        mark: u8::from(value.is_some()),
+    };
+    assert_eq!(plot::path(&register, b"u", 2), Ok(vec![]));
+    assert_eq!(
+        plot::path(&register, b"M[A[A[u]]]", 0),
+        Ok(vec![
+            hop(0, 'A', Some(1)),
+            hop(1, 'A', Some(2)),
+            hop(2, 'M', Some(180))
+        ])
+    );
+    assert_eq!(
+        plot::path(&register, b"M[A[A[u]]]", 1),
+        Ok(vec![hop(1, 'A', Some(2)), hop(2, 'A', None)])
+    );
+    assert_eq!(
+        plot::path(&register, b"M[u]", 1),
+        Ok(vec![hop(1, 'M', Some(0))])
+    );
+    let refusal = |number, line| Err(plot::Refusal { number, line });
+    assert_eq!(plot::path(&register, b"A[M[u]]", 0), refusal(10, 1));
+    assert_eq!(plot::path(&register, b"u", 3), refusal(16, 0));
+    assert_eq!(plot::path(&[], b"", 0), refusal(1, 0));
+}
