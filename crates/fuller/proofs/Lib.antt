@@ -2,4 +2,4 @@
 pub mod Readings
 pub mod Messages
 pub mod Operations
-pub mod Example
+pub mod WholeText

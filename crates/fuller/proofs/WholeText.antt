@@ -10,7 +10,7 @@ use Rattle.register.specs.File.{fileOf, cellsOfFile}
 use Rattle.register.specs.declared.cells.Cell.the-variants.{Missing, Value}
 use Rattle.chain.specs.Word.{readOf}
 use Rattle.fuller.specs.Fuller.{Retained, FullerFile}
-use Rattle.fuller.specs.Example.{pairSizes, firstCells, secondCells, cellsBehind}
+use Rattle.fuller.specs.WholeText.{pairSizes, firstCells, secondCells, cellsBehind}
 
 -- the second register is the fuller one ..
 cells-retained : (j : ℕ) → Retained (readOf (getD firstCells j Missing)) (readOf (getD secondCells j Missing))

@@ -7,7 +7,7 @@ use Rattle.laws.specs.Bytes.{bytes}
 use Rattle.laws.specs.Lists.{every}
 use Rattle.laws.specs.Outcome.{Outcome, done, unless, after, orElse, first as firstOf}
 use Rattle.integers.specs.Bytes.{word as word4, wordAt, wordBytes, valueAt, valueBytes}
-use Rattle.integers.specs.Range.{inRange, eqZ, isIndex}
+use Rattle.integers.specs.Range.{inRange, eqZ}
 use Rattle.register.specs.Cells.{valueOf, markOf, valuesOf, marksOf}
 use Rattle.register.specs.File.{width, cellCount, cellIndex, sizesOf, valuesPart, marksPart, fileOf}
 use Rattle.register.specs.Load.{withinLimits, cellRefusal, refusalAt, recordRefusal, cellsRefusal, loadSized, load}
@@ -17,18 +17,18 @@ use Rattle.register.specs.declared.cells.Cell.the-variants.{Missing, Value}
 use Rattle.chain.specs.Word.{isReference, column, readOf, readCell, hop, follow, valueAtRecord}
 use Rattle.chain_text.specs.Text as C
 use Rattle.chain_text.specs.Scan.{startsWith}
-use Rattle.plan_theory.specs.Plan.{plan, addReadings, add, withTree, listed, lineIndex, sameFact, sameWord, tree, treeWithin, half, doubled, front, rest}
+use Rattle.plan_theory.specs.Plan.{plan, addReadings, add, withTree, tree, treeWithin}
 use Rattle.program.specs.Program.{targetField, expressionReadings, testReadings, targetReadings, ruleReadings, readings, stepPlan, isLeast, isTotal, someTarget}
 use Rattle.text_forms.specs.Numeral.{isDigit, digits, decimal, isNumeral, signedForm, numberForm, numberValue, signedValue}
 use Rattle.text_forms.specs.Token.{capital, then, word, or, finished}
 use Rattle.text_forms.specs.Term.{ofNumber, ofChain, termForm}
 use Rattle.text_forms.specs.Line.{assigned, localForm, sentForms, remoteForm, actionForm, ruleLine, compared, testedForm, lineForm}
 use Rattle.text_forms.specs.Parts.{numbersInRange, termInRange, short, termShort, kinded, kindsAgree, actionKinds, areMeasures, conditionKinds, sameKind, isReferenceTerm, termKinded, named, fieldNamed, termNamed, target, everyTerm, terms, actionTerms, conditionTerms}
-use Rattle.text_rules.specs.Check.{lineRefusal, planFits, sortsAgree, oneSort, hasRoom, inPlace, openRules, isOpen, isUsed, isOutside}
+use Rattle.text_rules.specs.Check.{lineRefusal, planFits, sortsAgree, oneSort, hasRoom, inPlace, openRules, isOpen, isOutside}
 use Rattle.text_rules.specs.Text.{textProgram, readFrom, start, closedText, lineOutcome, advance, settingIn, withStep, writtenRule, writtenTarget, writtenExpression, writtenTest, writtenTerm, pieceForm, lines, onto, check}
-use Rattle.machine.specs.Value.{both, operate, combined, value, readingInRange, cellInRange, overflows, compare, compareReadings, holds}
+use Rattle.machine.specs.Value.{both, value, readingInRange, cellInRange, overflows, compare, compareReadings, holds}
 use Rattle.machine.specs.Local.{storedCell, storedTo, stored, store, localRule, localRules, localRecords, offends, sumOffends}
-use Rattle.machine.specs.Remote.{sentTo, sentBy, ruleMessages, messages, recordMessages, deliverAll}
+use Rattle.machine.specs.Remote.{sentBy, ruleMessages, messages, recordMessages, deliverAll}
 use Rattle.machine.specs.Step.{stepCells, offendsAt, someBelow, stops}
 use Rattle.machine.specs.Run.{direct, entered, following, behind, stepFirst, runFrom, run}
 
@@ -47,6 +47,6 @@ alteringText = bytes "step\nif N[u] == N[u]: M[u] := 1\nend\n"
 
 -- the cells behind its run over the register of these cells, "allowance 1,000"
 unfoldable pub cellsBehind : List Cell → Outcome (List Cell)
-unfolding textProgram readFrom start closedText lineOutcome advance settingIn withStep writtenRule writtenTarget writtenExpression writtenTest writtenTerm pieceForm lines onto check after unless lineRefusal planFits sortsAgree oneSort someTarget isTotal isLeast hasRoom inPlace openRules isOpen isUsed isOutside numbersInRange termInRange short termShort kinded kindsAgree actionKinds areMeasures conditionKinds sameKind isReferenceTerm termKinded named fieldNamed termNamed target everyTerm terms actionTerms conditionTerms lineForm testedForm compared ruleLine actionForm remoteForm sentForms localForm assigned termForm ofChain ofNumber capital then word or finished isDigit digits decimal isNumeral signedForm numberForm numberValue signedValue inRange startsWith C.isCapital C.closed C.form C.letterField C.isReferenceLetter C.names every C.innerReferences C.wordOf stepPlan readings ruleReadings targetReadings testReadings expressionReadings plan addReadings add withTree listed lineIndex sameFact sameWord tree treeWithin half doubled front rest word4 wordAt wordBytes valueAt valueBytes eqZ isIndex orElse firstOf valueOf markOf valuesOf marksOf width cellCount cellIndex sizesOf valuesPart marksPart fileOf withinLimits cellRefusal refusalAt recordRefusal cellsRefusal loadSized load isReference column readOf readCell hop follow valueAtRecord both operate combined value readingInRange cellInRange overflows compare compareReadings holds storedCell storedTo stored targetField store localRule localRules localRecords offends sumOffends sentTo sentBy ruleMessages messages recordMessages deliverAll stepCells offendsAt someBelow stops direct entered following behind stepFirst runFrom run
+unfolding textProgram readFrom start closedText lineOutcome advance settingIn withStep writtenRule writtenTarget writtenExpression writtenTest writtenTerm pieceForm lines onto check after unless lineRefusal planFits sortsAgree oneSort someTarget isTotal isLeast hasRoom inPlace openRules isOpen isOutside numbersInRange termInRange short termShort kinded kindsAgree actionKinds areMeasures conditionKinds sameKind isReferenceTerm termKinded named fieldNamed termNamed target everyTerm terms actionTerms conditionTerms lineForm testedForm compared ruleLine actionForm remoteForm sentForms localForm assigned termForm ofChain ofNumber capital then word or finished isDigit digits decimal isNumeral signedForm numberForm numberValue signedValue inRange startsWith C.isCapital C.closed C.form C.letterField C.isReferenceLetter C.names every C.innerReferences C.wordOf stepPlan readings ruleReadings targetReadings testReadings expressionReadings plan addReadings add withTree tree treeWithin word4 wordAt wordBytes valueAt valueBytes eqZ orElse firstOf valueOf markOf valuesOf marksOf width cellCount cellIndex sizesOf valuesPart marksPart fileOf withinLimits cellRefusal refusalAt recordRefusal cellsRefusal loadSized load isReference column readOf readCell hop follow valueAtRecord both value readingInRange cellInRange overflows compare compareReadings holds storedCell storedTo stored targetField store localRule localRules localRecords offends sumOffends sentBy ruleMessages messages recordMessages deliverAll stepCells offendsAt someBelow stops direct entered following behind stepFirst runFrom run
 cellsBehind cells =
     after (check (fileOf pairSizes cells) alteringText) (λ p. done (run pairSizes (direct pairSizes) p 1000 cells .cells))
