@@ -11,11 +11,11 @@ use Rattle.register.specs.declared.cells.Cell.{Cell}
 use Rattle.chain.specs.declared.reading.Reading.{Reading}
 use Rattle.chain.specs.declared.reading.Reading.the-variants.{Missing, Value}
 use Rattle.plan_theory.specs.Plan.{Fact, read, hops, backNeed, round, line}
-use Rattle.machine_messages.specs.Held.{Held, knows, writer, needed, written, sent, heldAfter}
 use Rattle.program.specs.Program.{Rule, readings, stepPlan}
+use Rattle.machine_messages.specs.Held.{Held, knows, writer, needed, written, sent, heldAfter}
 use Rattle.machine_messages.specs.Counts.{mostRounds, heldIn, isSent, lineMessages, planMessages}
 use Rattle.fuller.specs.Fuller.{Retained, Fuller}
-use Rattle.fuller.specs.Retained.{MessagesRetained}
+use Rattle.fuller.specs.Claims.{MessagesRetained}
 use Rattle.fuller.proofs.Readings.{cell-retained}
 
 -- one of two that are both retained

@@ -28,7 +28,7 @@ use Rattle.op_inspect.specs.Inspection.{stepLines, inspection}
 use Rattle.op_inspect.specs.Answer.{StepAnswered}
 use Rattle.op_inspect.specs.declared.InspectAnswer.{InspectAnswer}
 use Rattle.fuller.specs.Fuller.{Retained, Fuller, FullerFile}
-use Rattle.fuller.specs.Retained.{MessagesRetained, PlacesRetained}
+use Rattle.fuller.specs.Claims.{MessagesRetained, PlacesRetained}
 use Rattle.fuller.proofs.Readings.{readings-retained}
 use Rattle.fuller.proofs.Messages.{messages-retained}
 
@@ -55,7 +55,8 @@ at-retained s {cells} {cells′} fuller u {z} (done w) e = go (ltb u (s .records
     go false e = e
 
 -- a place that holds a message over both registers
-stored-retained : (x y : Reading) → Retained x y → {j : ℕ} {values values′ : List ℤ} {marks marks′ : List ℕ} → Stored x j values marks → Stored y j values′ marks′
+stored-retained : (x y : Reading) → Retained x y → {j : ℕ} {values values′ : List ℤ} {marks marks′ : List ℕ}
+    → Stored x j values marks → Stored y j values′ marks′
     → getD marks j 0 ≡ 1 → (getD marks′ j 0 ≡ 1) × (getD values′ j (pos 0) ≡ getD values j (pos 0))
 unfolding readingMark readingValue
 stored-retained Missing y r p q e = absurd (omega (arith, p .mark-is))

@@ -10,7 +10,7 @@ use Rattle.chain.specs.declared.reading.Reading.{Reading}
 use Rattle.chain.specs.declared.reading.Reading.the-variants.{Missing, Value}
 use Rattle.chain.specs.Word.{column, readCell, hop, follow, valueAtRecord}
 use Rattle.fuller.specs.Fuller.{Retained, Fuller}
-use Rattle.fuller.specs.Retained.{ReadingsRetained}
+use Rattle.fuller.specs.Claims.{ReadingsRetained}
 
 module _ (s : Sizes) {cells cells′ : List Cell} (fuller : Fuller cells cells′) where
   -- what is read of one cell
