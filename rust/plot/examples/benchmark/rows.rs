@@ -3,6 +3,7 @@
 use crate::timing::Row;
 use generate::random::Random;
 use generate::{neighbours, padding, registers, texts};
+use plot::lent::{self, Answer};
 use reference::reading::reading;
 use reference::register::{MAX_FIELDS, Sizes};
 use reference::text::{MAX_BYTES, check};
@@ -21,18 +22,25 @@ pub fn rows() -> Vec<Row> {
 fn load() -> Row {
     let register = registers::full_file(&mut Random::new(3), registers::LARGEST);
     assert_eq!(register.len(), 327_692);
-    assert_eq!(plot::read(&register, b"u", 0), Ok(Some(0)));
+    assert_eq!(read_own_number(&register), (0, 1));
     let same = register.clone();
     Row {
         name: "load 327,692 bytes".to_owned(),
         at_most: 1.3,
         library: Box::new(move || {
-            let _ = black_box(plot::read(black_box(&register), b"u", 0));
+            black_box(read_own_number(black_box(&register)));
         }),
         reference: Box::new(move || {
             let _ = black_box(reading(black_box(&same), b"u", 0));
         }),
     }
+}
+
+/// The cheapest reading: the refusal number, and whether it is filled.
+fn read_own_number(register: &[u8]) -> (u32, u64) {
+    let (mut value, mut answer) = (0, Answer::default());
+    let number = lent::read(register, b"u", 0, &mut value, &mut answer);
+    (number, answer[lent::FILLED])
 }
 
 /// The sizes of the register that the texts are for: all fields that there are,
@@ -47,13 +55,18 @@ const TEXT_SIZES: Sizes = Sizes {
 fn check_text(name: &str, text: Vec<u8>) -> Row {
     let register = registers::full_file(&mut Random::new(3), TEXT_SIZES);
     assert_eq!(text.len(), 8192);
-    assert!(plot::check(&register, &text).is_ok());
+    assert_eq!(lent::check(&register, &text, &mut Answer::default()), 0);
     let (same_register, same_text) = (register.clone(), text.clone());
     Row {
         name: name.to_owned(),
         at_most: 1.5,
         library: Box::new(move || {
-            let _ = black_box(plot::check(black_box(&register), black_box(&text)));
+            let mut answer = Answer::default();
+            black_box(lent::check(
+                black_box(&register),
+                black_box(&text),
+                &mut answer,
+            ));
         }),
         reference: Box::new(move || {
             let _ = black_box(check(black_box(&same_register), black_box(&same_text)));
