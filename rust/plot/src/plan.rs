@@ -47,6 +47,20 @@ impl Line {
             length => length.next_power_of_two() / 2,
         }
     }
+
+    /// The chain to the record which writes the message.
+    pub fn writer(&self) -> String {
+        let hops: Vec<char> = self.letters.chars().take(self.writer_hops()).collect();
+        chain_of(&hops)
+    }
+
+    /// The chain to the record which gets the message.
+    pub fn addressee(&self) -> String {
+        match self.kind {
+            LineKind::Back => self.chain(),
+            LineKind::Read => "u".to_owned(),
+        }
+    }
 }
 
 /// The plan of a step.
