@@ -29,7 +29,7 @@ pub enum Kind {
     TextLength,
     /// 7: a line has none of the forms; a chain is no chain.
     Form,
-    /// 8: a line stands where it may not.
+    /// 8: a line stands where it may not, or a step or loop is not closed.
     Place,
     /// 9: a letter names no field of this register.
     Field,
@@ -81,7 +81,7 @@ const KINDS: [Row; 21] = [
      "A rules text has at most 8192 bytes."),
     (Kind::Form, "this has none of the forms of a line",
      "Spaces stand exactly as the forms show them, and each line ends in a line break."),
-    (Kind::Place, "this line is out of place",
+    (Kind::Place, "a line is out of place, or the text ends too early",
      "Rules stand between step and end, steps may stand between loop and done, and a loop holds at least one step."),
     (Kind::Field, "a letter names no field of this register",
      "Use the letters of the fields that the register has."),
