@@ -8,6 +8,8 @@ use std::io;
 
 /// The most characters of a line that are shown.
 const SHOWN: usize = 100;
+/// How a chain that stands alone is called: it has no line number.
+const CHAIN: &str = "the chain";
 
 /// A register file that is refused.
 pub fn register(name: &str, bytes: &[u8], refusal: Refusal) -> Failure {
@@ -24,6 +26,9 @@ pub fn rules(name: &str, sizes: Sizes, text: &[u8], refusal: Refusal) -> Failure
     let line = line.filter(|_| !ended && !text.is_empty());
     let place = line.map(|line| (line, caret::place(sizes, refusal.kind, line, false)));
     let advice = match (refusal.kind, place) {
+        (Kind::Form, Some((line, at))) if line[at..] == *b"\r" => {
+            "The line ends as on Windows. Save the text with plain line breaks (LF).".to_owned()
+        }
         (Kind::Form, Some((line, at))) if at == line.len() && !text.ends_with(b"\n") => {
             "The line goes on, or a line break has to stand behind it.".to_owned()
         }
@@ -38,21 +43,18 @@ pub fn rules(name: &str, sizes: Sizes, text: &[u8], refusal: Refusal) -> Failure
 /// A chain that is refused, or the record that it is read at.
 pub fn reading(register: &Register, chain: &str, record: usize, refusal: Refusal) -> Failure {
     let sizes = register.sizes();
-    match refusal.kind {
-        Kind::Record => refused(&format!("record {record}"), refusal, None, &records(sizes)),
-        Kind::Form => {
-            let place = caret::place(sizes, refusal.kind, chain.as_bytes(), true);
-            let advice =
-                "A chain is u, or a field letter and a chain in square brackets, as M[A[u]].";
-            let place = Some((chain.as_bytes(), place));
-            refused("the chain", refusal, place, advice)
+    let advice = match refusal.kind {
+        Kind::Record => {
+            let advice = records(sizes);
+            return refused(&format!("record {record}"), refusal, None, &advice);
         }
-        kind => {
-            let place = caret::place(sizes, kind, chain.as_bytes(), true);
-            let place = Some((chain.as_bytes(), place));
-            refused("the chain", refusal, place, &advice(kind, sizes))
-        }
-    }
+        Kind::Form => "A chain is u, or a field letter and a chain in square brackets: M[A[u]].",
+        Kind::FieldKind => "Every field but the outermost is a reference field, A to H.",
+        kind => &advice(kind, sizes),
+    };
+    let chain = chain.as_bytes();
+    let place = (chain, caret::place(sizes, refusal.kind, chain, true));
+    refused(CHAIN, refusal, Some(place), advice)
 }
 
 /// A step that is not there.
@@ -107,13 +109,12 @@ fn records(sizes: Sizes) -> String {
 fn refused(name: &str, refusal: Refusal, place: Option<(&[u8], usize)>, advice: &str) -> Failure {
     let style = Style::of(&io::stderr());
     let number = style.paint(Look::Wrong, &format!("refused {}", refusal.number()));
-    let line = match name {
-        "the chain" => String::new(),
-        _ if refusal.line == 0 => String::new(),
-        _ => format!(" at line {}", refusal.line),
+    let line = match (name, refusal.line) {
+        (CHAIN, _) | (_, 0) => String::new(),
+        (_, line) => format!(" at line {line}"),
     };
     let meaning = match (name, refusal.kind) {
-        ("the chain", Kind::Form) => "this is no chain",
+        (CHAIN, Kind::Form) => "this is no chain",
         (_, kind) => kind.meaning(),
     };
     let mut told = format!("{name}: {number}{line}: {meaning}\n");

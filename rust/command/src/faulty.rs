@@ -24,10 +24,8 @@ pub fn told(kind: Kind, bytes: &[u8]) -> String {
 
 fn length([n, r, m]: [u32; 3], bytes: usize) -> String {
     let cells = u64::from(n) * (u64::from(r) + u64::from(m));
-    format!(
-        "It has {bytes} bytes; its sizes, {n} records of {r} references and {m} measures, ask for {}.",
-        HEADER as u64 + CELL_BYTES * cells
-    )
+    let asked = HEADER as u64 + CELL_BYTES * cells;
+    format!("It has {bytes} bytes, and its sizes (n {n}, r {r}, m {m}) ask for {asked}.")
 }
 
 /// The first cell that is wrong.

@@ -68,7 +68,7 @@ type Row = (Kind, &'static str, &'static str);
 #[rustfmt::skip]
 const KINDS: [Row; 21] = [
     (Kind::FileLength, "the register file has the wrong length",
-     "It has 12 bytes of sizes and 5 bytes for each cell. Was it cut short, or is it another file?"),
+     "A register file has 12 bytes of sizes and 5 for each cell. Was it cut short, or is it another file?"),
     (Kind::Size, "a size of the register is over its limit",
      "A register has at most 4096 records, 8 reference fields and 8 measure fields."),
     (Kind::Mark, "a mark is neither 0 nor 1",

@@ -1,0 +1,14 @@
+//! The command as a process: what it prints, writes and exits with.
+
+mod carets;
+mod files;
+mod folder;
+mod pictures;
+mod readings;
+mod rules;
+mod runs;
+mod scripts;
+mod sessions;
+mod sheets;
+mod shown;
+mod usage;
