@@ -186,8 +186,10 @@ fn number(cell: &str) -> Option<i64> {
 }
 
 fn not_a_number(cell: &str) -> String {
-    let plain = cell.parse::<i64>().map(|value| format!("; write {value}"));
-    format!("{cell:?} is no whole number{}", plain.unwrap_or_default())
+    match cell.parse::<i64>() {
+        Ok(value) => format!("write {value} instead of {cell:?}"),
+        Err(_) => format!("{cell:?} is no whole number"),
+    }
 }
 
 fn fault(row: usize, column: Option<usize>, wrong: &str) -> Fault {
