@@ -7,7 +7,7 @@ library=$here/target/staticlib/libc_api.a
 program=$here/rust/target/release/plot
 log=$here/target/cargo.log
 
-newer() { [ ! -e "$1" ] || [ -n "$(find "${@:2}" -newer "$1" -print -quit)" ]; }
+newer() { [ ! -e "$1" ] || [ -n "$(find "${@:2}" -type f -newer "$1" -print -quit)" ]; }
 
 if newer "$library" "$here"/crates/*/src; then
     # rt check proves several crates at a time, rt staticlib one by one.

@@ -31,8 +31,26 @@ use std::env;
 use std::io::{self, ErrorKind, Write};
 use std::path::Path;
 use std::process::ExitCode;
+use std::thread::{self, JoinHandle};
+
+/// The stack of the thread that works, whatever the shell allows the first one: a
+/// run needs about 700 KB.
+const STACK: usize = 8 << 20;
 
 fn main() -> ExitCode {
+    let worker = thread::Builder::new().stack_size(STACK).spawn(work);
+    match worker.map(JoinHandle::join) {
+        Ok(Ok(status)) => status,
+        // What went wrong inside has been told.
+        Ok(Err(_)) => ExitCode::from(2),
+        Err(error) => {
+            let _ = writeln!(io::stderr(), "plot: cannot begin: {error}");
+            ExitCode::from(2)
+        }
+    }
+}
+
+fn work() -> ExitCode {
     let given: Result<Vec<String>, _> = env::args_os().skip(1).map(|a| a.into_string()).collect();
     let done = match given {
         Ok(given) => commands::done(&given),

@@ -24,7 +24,8 @@ Shows a register as a table: a row for each record, a column for each field, and
 - where a cell is unfilled.
 
   --gaps      a grid that shows only which cells are filled (.) and which are not
-              (#); records without a gap are left out
+              (#), with the number of gaps behind each line; where 60 records in a
+              row have no gap it says so in one line
   --svg FILE  the same as a picture
   --json      for programs: the fields, and the cells record by record, null where
               a cell is unfilled; with --gaps the unfilled cells

@@ -119,6 +119,15 @@ fn a_run_that_is_stopped_writes_nothing() {
     assert_eq!((folder.names(), folder.read("full.register")), before);
 }
 
+#[test]
+fn a_shell_with_little_stack() {
+    let folder = Folder::with_cemetery("run-stack");
+    let plot = crate::folder::PLOT;
+    let line = format!("ulimit -s 200; exec {plot} run full.register depths.rules");
+    let said = folder.run(Command::new("bash").args(["-c", &line]), b"");
+    said.has("10 cells changed\n");
+}
+
 /// What is written is what the library gives, by either machine.
 #[test]
 fn generated_runs() {

@@ -102,6 +102,8 @@ fn each_bad_cell_is_told_and_nothing_is_written() {
         );
     }
     assert_eq!(folder.read("out"), b"as it was");
+    let over = ["pack", "sheet.csv", "-o", "sheet.csv"];
+    folder.plot(&over).fails(2, "sheet.csv is read here");
 }
 
 #[test]
