@@ -68,7 +68,7 @@ enum plot_refusal {
     PLOT_REFUSAL_UNFILLED_VALUE = 4, /* an unfilled cell has a value other than 0 */
     PLOT_REFUSAL_REFERENCE = 5,      /* a reference leads to no record */
     PLOT_REFUSAL_TEXT_LENGTH = 6,    /* the rules text is too long */
-    PLOT_REFUSAL_FORM = 7,           /* this has none of the forms of a line */
+    PLOT_REFUSAL_FORM = 7,           /* this does not have the right form */
     PLOT_REFUSAL_PLACE = 8,          /* a line is out of place, or the text ends too early */
     PLOT_REFUSAL_FIELD = 9,          /* a letter names no field of this register */
     PLOT_REFUSAL_FIELD_KIND = 10,    /* references and measures are mixed */

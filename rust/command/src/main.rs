@@ -2,6 +2,7 @@
 //! proved library.
 
 mod arguments;
+mod arrows;
 mod caret;
 mod check;
 mod commands;
@@ -16,6 +17,7 @@ mod json;
 mod pack;
 mod plan;
 mod plan_svg;
+mod pointer;
 mod read;
 mod run;
 mod scan;

@@ -12,7 +12,11 @@ pub mod colour {
     pub const FILLED: &str = "#cfe3f2";
     /// A gap.
     pub const GAP: &str = "#d55e00";
-    /// One for each round, and the last for remote writes.
+    /// Guiding lines.
+    pub const GUIDE: &str = "#d5d5d5";
+    /// The hops of a chain.
+    pub const HOP: &str = "#a8a8a8";
+    /// One for each round; six are more than a plan has.
     pub const ROUNDS: [&str; 6] = [
         "#0072b2", "#b35900", "#007a5a", "#9c4f86", "#6b5b00", "#222222",
     ];

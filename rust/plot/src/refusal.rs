@@ -79,7 +79,7 @@ const KINDS: [Row; 21] = [
      "A filled reference is the number of a record, counted from 0."),
     (Kind::TextLength, "the rules text is too long",
      "A rules text has at most 8192 bytes."),
-    (Kind::Form, "this has none of the forms of a line",
+    (Kind::Form, "this does not have the right form",
      "Spaces stand exactly as the forms show them, and each line ends in a line break."),
     (Kind::Place, "a line is out of place, or the text ends too early",
      "Rules stand between step and end, steps may stand between loop and done, and a loop holds at least one step."),

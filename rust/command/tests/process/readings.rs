@@ -41,9 +41,9 @@ fn chains_and_records_that_are_refused() {
         let read = |chain: &str, record| folder.plot(&[command, "full.register", chain, record]);
         read("M[A[u]", "0").fails(
             1,
-            "refused 7: this is no chain\n  1 | M[A[u]\n    |       ^\n",
+            "refused 7: this does not have the right form\n  1 | M[A[u]\n    |       ^\n",
         );
-        read("", "0").fails(1, "refused 7: this is no chain");
+        read("", "0").fails(1, "refused 7: this does not have the right form");
         read("M[Z[u]]", "0").fails(1, "refused 9: a letter names no field");
         read("A[M[u]]", "0").fails(1, "  1 | A[M[u]]\n    |   ^\n");
         let long = format!("{}u{}", "A[".repeat(17), "]".repeat(17));
