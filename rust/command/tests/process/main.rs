@@ -1,5 +1,6 @@
 //! The command as a process: what it prints, writes and exits with.
 
+mod any_bytes;
 mod carets;
 mod files;
 mod folder;
