@@ -25,38 +25,47 @@ pub fn picture(register: &Register) -> String {
     picture.print("plot register")
 }
 
-/// The width and height of a cell of the table, and of the record numbers.
-const CELL: (usize, usize) = (74, 24);
+/// The height of a cell of the table, its least width, the room for a digit, and
+/// for the record numbers.
+const HEIGHT: usize = 24;
+const LEAST_WIDTH: usize = 64;
+const DIGIT: usize = 9;
 const NUMBERS: usize = 60;
 
 fn table(picture: &mut Picture, register: &Register) {
-    let (width, height) = CELL;
+    let width = cell_width(register);
     for (column, field) in register.sizes().fields().enumerate() {
         let point = (EDGE + NUMBERS + column * width + width / 2, TITLE + 16);
         picture.text(point, Anchor::Middle, (14, colour::INK), &field.to_string());
     }
     for (record, cells) in show::records(register) {
-        let y = TITLE + (record + 1) * height;
+        let y = TITLE + (record + 1) * HEIGHT;
         let point = (EDGE + NUMBERS - 10, y + 16);
         picture.text(point, Anchor::End, (12, colour::GREY), &record.to_string());
         for (column, cell) in cells.into_iter().enumerate() {
-            table_cell(picture, EDGE + NUMBERS + column * width, y, cell);
+            table_cell(picture, (EDGE + NUMBERS + column * width, y, width), cell);
         }
     }
     let sizes = register.sizes();
     let right = EDGE + NUMBERS + sizes.width() * width;
-    let bottom = TITLE + (sizes.records + 1) * height;
+    let bottom = TITLE + (sizes.records + 1) * HEIGHT;
     legend(picture, bottom + 20);
     picture.reach(right + EDGE, bottom + 20 + EDGE);
 }
 
-fn table_cell(picture: &mut Picture, x: usize, y: usize, cell: Cell) {
-    let (width, height) = CELL;
+/// The width of every cell, by the longest value.
+fn cell_width(register: &Register) -> usize {
+    let cells = show::records(register).flat_map(|(_, cells)| cells);
+    let longest = cells.map(|cell| cell.to_string().len()).max();
+    LEAST_WIDTH.max(DIGIT * longest.unwrap_or(0) + 20)
+}
+
+fn table_cell(picture: &mut Picture, (x, y, width): (usize, usize, usize), cell: Cell) {
     let (fill, ink) = match cell {
         Cell::Unfilled => (colour::GAP, "#ffffff"),
         _ => (colour::FILLED, colour::INK),
     };
-    picture.rectangle(x + 1, y + 1, width - 2, height - 2, fill);
+    picture.rectangle(x + 1, y + 1, width - 2, HEIGHT - 2, fill);
     let point = (x + width - 8, y + 17);
     picture.text(point, Anchor::End, (13, ink), &cell.to_string());
 }

@@ -93,20 +93,35 @@ fn plans_are_arrows() {
     }
 }
 
-/// The picture of the manual is what the command draws.
 #[test]
-fn the_picture_of_the_manual() {
+fn long_values_fit_their_cells() {
+    let folder = Folder::new("picture-long");
+    let sheet = format!("M,N\n{},1\n", i32::MIN);
+    let packed = folder.plot_with(&["pack", "-", "-o", "long"], sheet.as_bytes());
+    assert_eq!(packed.status, 0);
+    let picture = picture(&folder, &["show", "long"], b"");
+    let cell = picture.lines().find(|shape| shape.contains("#cfe3f2"));
+    assert!(number(cell.expect("a cell is filled"), "width") > 9 * i32::MIN.to_string().len());
+}
+
+/// The pictures of the manual are what the command draws.
+#[test]
+fn the_pictures_of_the_manual() {
     let folder = Folder::with_cemetery("picture-manual");
-    let text = format!(
-        "step\nM[u] := M[{}u{}\nend\n",
-        "A[".repeat(7),
-        "]".repeat(8)
-    );
-    folder.write("eight.rules", text);
-    let picture = picture(&folder, &["plan", "full.register", "eight.rules"], b"");
-    let path = root().join("docs/plan.svg");
-    if env::var_os("UPDATE_SESSIONS").is_some() {
-        fs::write(&path, &picture).expect("it can be written");
+    let chain = format!("M[{}u{}", "A[".repeat(7), "]".repeat(8));
+    folder.write("eight.rules", format!("step\nM[u] := {chain}\nend\n"));
+    for (name, words) in [
+        (
+            "docs/plan.svg",
+            &["plan", "full.register", "eight.rules"][..],
+        ),
+        ("docs/sparse.svg", &["show", "sparse.register"]),
+    ] {
+        let picture = picture(&folder, words, b"");
+        let path = root().join(name);
+        if env::var_os("UPDATE_SESSIONS").is_some() {
+            fs::write(&path, &picture).expect("it can be written");
+        }
+        assert_eq!(fs::read_to_string(path).expect("it is there"), picture);
     }
-    assert_eq!(fs::read_to_string(path).expect("it is there"), picture);
 }
