@@ -45,9 +45,19 @@ fn rules_advice(sizes: Sizes, text: &[u8], kind: Kind, place: Option<Place<'_>>)
         (Kind::Place, None) => {
             "The text ends here, and a step or a loop is not closed by end or done."
         }
+        (Kind::FieldKind, Some(Place { line, at, .. })) => kind_advice(line, at),
         (kind, _) => return advice(kind, sizes),
     };
     advice.to_owned()
+}
+
+/// What to do about references and measures that are mixed at this place.
+fn kind_advice(line: &[u8], at: usize) -> &'static str {
+    match (line[..at].last(), &line[at..]) {
+        (Some(b'['), _) => "What stands in square brackets leads to a record: A to H, or u.",
+        (_, [b'+' | b'-', b' ' | b'=', ..]) => "Sums take measures only: M to T, and numbers.",
+        _ => "Both sides are references, or both are measures; a number is a measure.",
+    }
 }
 
 /// A chain that is refused, or the record that it is read at.
@@ -56,16 +66,17 @@ pub fn reading(register: &Register, chain: &str, record: usize, refusal: Refusal
     if refusal.kind == Kind::Record {
         return refused(&format!("record {record}"), refusal, None, &records(sizes));
     }
+    let line = chain.as_bytes();
+    let at = caret::place(sizes, refusal.kind, line, true);
     let advice = match refusal.kind {
         Kind::Form => "A chain is u, or a field letter and a chain in square brackets: M[A[u]].",
-        Kind::FieldKind => "Every field but the outermost is a reference field, A to H.",
+        Kind::FieldKind => kind_advice(line, at),
         kind => &advice(kind, sizes),
     };
-    let line = chain.as_bytes();
     let place = Place {
         number: 1,
         line,
-        at: caret::place(sizes, refusal.kind, line, true),
+        at,
     };
     // A chain has no lines to count.
     let refusal = Refusal { line: 0, ..refusal };

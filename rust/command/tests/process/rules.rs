@@ -48,6 +48,35 @@ fn a_text_that_does_not_pass() {
 }
 
 #[test]
+fn what_to_do_about_mixed_kinds() {
+    let folder = Folder::with_cemetery("check-kinds");
+    for (line, advice) in [
+        (
+            "M[u] := A[M[u]]",
+            "What stands in square brackets leads to a record",
+        ),
+        (
+            "remote M[M[u]] += 1",
+            "What stands in square brackets leads to a record",
+        ),
+        ("A[u] := A[u] + B[u]", "Sums take measures only"),
+        ("remote A[u] += u", "Sums take measures only"),
+        (
+            "A[u] := -5",
+            "Both sides are references, or both are measures",
+        ),
+        (
+            "if A[u] == 5: M[u] := 1",
+            "Both sides are references, or both are measures",
+        ),
+    ] {
+        let text = format!("step\n{line}\nend\n");
+        let said = folder.plot_with(&["check", "full.register", "-"], text.as_bytes());
+        said.fails(1, "refused 10 at line 2").fails(1, advice);
+    }
+}
+
+#[test]
 fn lines_that_are_long_or_no_text() {
     let folder = Folder::with_cemetery("check-long");
     let check = |text: &[u8]| folder.plot_with(&["check", "full.register", "-"], text);
