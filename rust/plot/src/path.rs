@@ -1,27 +1,45 @@
 //! Paths as Rust values.
 
+use crate::Cell;
 use crate::lent::{self, PathBuffers};
 
-/// A hop of a path: the cell that a reading looks at.
+/// A hop of a path: the cell that it looks at.
 #[derive(Clone, Copy, Debug, PartialEq, Eq)]
 pub struct Hop {
-    /// The record that it stands at.
-    pub record: u64,
-    /// The letter of its field.
-    pub letter: char,
-    /// The value of its cell, `None` where that is missing.
-    pub value: Option<i64>,
-    /// The mark of its cell as the file has it.
-    pub mark: u8,
+    /// The record that it looks at.
+    pub record: usize,
+    /// The field's letter.
+    pub field: char,
+    /// What the cell holds.
+    pub cell: Cell,
 }
 
-/// The path that a call has left in the buffers.
-pub(crate) fn taken_from(buffers: &PathBuffers, answer: &lent::Answer) -> Vec<Hop> {
-    let hop = |i: usize| Hop {
-        record: buffers.records[i],
-        letter: char::from(buffers.fields[i]),
-        value: (buffers.marks[i] != 0).then_some(buffers.values[i]),
-        mark: buffers.marks[i],
-    };
-    (0..answer[lent::HOPS] as usize).map(hop).collect()
+/// The path behind a reading. It is the whole reason: every register of the same
+/// sizes that agrees on its cells has the same path and the same reading.
+#[derive(Clone, Debug, PartialEq, Eq)]
+pub struct Path {
+    /// The hops from the inside out, up to the value or the first gap. There are
+    /// none for the chain `u`.
+    pub hops: Vec<Hop>,
+    /// What the reading comes to, `None` where it is unfilled.
+    pub value: Option<i32>,
+}
+
+impl Path {
+    /// The path from a record that a call has left in the buffers. The reading is
+    /// the last cell, for the chain `u` the record's own number.
+    pub(crate) fn taken_from(record: usize, buffers: &PathBuffers, answer: &lent::Answer) -> Path {
+        let hop = |i: usize| Hop {
+            record: buffers.records[i] as usize,
+            field: char::from(buffers.fields[i]),
+            cell: match buffers.marks[i] {
+                0 => Cell::Unfilled,
+                _ => Cell::Filled(buffers.values[i] as i32),
+            },
+        };
+        let hops: Vec<Hop> = (0..answer[lent::HOPS] as usize).map(hop).collect();
+        let last = hops.last();
+        let value = last.map_or(Some(record as i32), |hop| hop.cell.value());
+        Path { hops, value }
+    }
 }

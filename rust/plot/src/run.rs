@@ -1,11 +1,18 @@
-//! Runs and inspections as Rust values.
+//! Runs as Rust values.
 
-use crate::lent::{self, Answer, RunBuffers, RunBy};
-use crate::{Refusal, check, passed};
+use crate::lent::{self, Answer, RunBuffers};
+use crate::refusal::passed;
+use crate::{Kind, Refusal, Register};
 
-/// The bytes of a register file in front of its cells, and those of a cell.
-const HEADER: usize = 12;
-const CELL_BYTES: usize = 5;
+/// The machine that runs a text. Both give the same register, finished steps and
+/// end.
+#[derive(Clone, Copy, Debug, PartialEq, Eq)]
+pub enum Machine {
+    /// Follows references.
+    Direct,
+    /// Has the records send each other messages, and counts them.
+    Messages,
+}
 
 /// How a run ended.
 #[derive(Clone, Copy, Debug, PartialEq, Eq)]
@@ -17,92 +24,106 @@ pub enum End {
     /// 21: a sum for this record and field, or the total of that cell, is out of range.
     OutOfRange {
         /// The record's number.
-        record: u64,
-        /// The field, counted from 0, references first.
-        field: u64,
+        record: usize,
+        /// The field's letter.
+        field: char,
     },
+}
+
+impl End {
+    /// The kind of refusal that it is, if it is one.
+    pub fn refusal(self) -> Option<Kind> {
+        match self {
+            End::Whole => None,
+            End::BudgetExhausted => Some(Kind::Budget),
+            End::OutOfRange { .. } => Some(Kind::Range),
+        }
+    }
 }
 
 /// What a run gives.
 #[derive(Clone, Debug, PartialEq, Eq)]
 pub struct Run {
-    /// The register file at the end; after 20 and 21 a copy of the register.
-    pub register: Vec<u8>,
+    /// The register at the end; the one that was given where the run did not end whole.
+    pub register: Register,
     /// The finished steps.
     pub finished: u64,
     /// Exchanges of the finished steps, 0 in the direct run.
     pub exchanges: u64,
-    /// Letters of the finished steps, 0 in the direct run.
-    pub letters: u64,
+    /// Messages of the finished steps, 0 in the direct run.
+    pub messages: u64,
     /// How it ended.
     pub end: End,
 }
 
-/// A letter of a line for each record as origin, `None` where none was sent: the
-/// value read (Read) or the addressee (Back).
-pub type Letters = Vec<Option<i64>>;
-
-/// Runs a text over a register by the direct machine.
-pub fn run_direct(register: &[u8], text: &[u8], budget: u16) -> Result<Run, Refusal> {
-    run(lent::run_direct, register, text, budget)
+impl Register {
+    /// Checks a text and runs it over this register, at most `budget` steps.
+    /// Refusal 6 to 15; how the run ended is told in the [`Run`].
+    ///
+    /// This looks at the text once: the working arrays are long enough for every
+    /// text. [`Text::run`](crate::Text::run) lends shorter ones.
+    ///
+    /// ```
+    /// use plot::{End, Machine, Register, Sizes};
+    /// let sizes = Sizes { records: 1, references: 0, measures: 1 };
+    /// let register = Register::from_cells(sizes, &[Some(5)])?;
+    /// let text = "loop M\nstep\nM[u] := M[u] + 1\nend\ndone\n";
+    /// let run = register.run(text, Machine::Direct, 100)?;
+    /// assert_eq!((run.finished, run.end), (100, End::BudgetExhausted));
+    /// assert_eq!(run.register, register);
+    /// # Ok::<(), plot::Refusal>(())
+    /// ```
+    pub fn run(
+        &self,
+        text: impl AsRef<[u8]>,
+        machine: Machine,
+        budget: u16,
+    ) -> Result<Run, Refusal> {
+        run(self, text.as_ref(), machine, budget, self.most_places())
+    }
 }
 
-/// Runs a text over a register by the message machine.
-pub fn run_messages(register: &[u8], text: &[u8], budget: u16) -> Result<Run, Refusal> {
-    run(lent::run_messages, register, text, budget)
-}
-
-/// Inspects a step over the register as loaded, after round t: the letters of
-/// each plan line. Steps count from 1.
-pub fn inspect(register: &[u8], text: &[u8], step: u64, t: u16) -> Result<Vec<Letters>, Refusal> {
-    let mut places = buffers(register, text)?;
-    let (values, marks) = (&mut places.values, &mut places.marks);
-    let mut answer = Answer::default();
-    let number = lent::inspect(register, text, step, t, values, marks, &mut answer);
-    passed(number, &answer)?;
-    let records = records(register);
-    let letter = |place: usize| (marks[place] == 1).then_some(values[place]);
-    let line = |i: usize| (0..records).map(|u| letter(i * records + u)).collect();
-    Ok((0..answer[lent::LINES] as usize).map(line).collect())
-}
-
-fn run(run_by: RunBy, register: &[u8], text: &[u8], budget: u16) -> Result<Run, Refusal> {
-    let mut buffers = buffers(register, text)?;
-    let mut answer = Answer::default();
-    let end = match run_by(register, text, budget, &mut buffers, &mut answer) {
-        20 => End::BudgetExhausted,
-        21 => End::OutOfRange {
-            record: answer[lent::RECORD],
-            field: answer[lent::FIELD],
-        },
-        number => {
-            passed(number, &answer)?;
-            End::Whole
-        }
+/// A run with working arrays of this many places.
+pub(crate) fn run(
+    register: &Register,
+    text: &[u8],
+    machine: Machine,
+    budget: u16,
+    places: usize,
+) -> Result<Run, Refusal> {
+    let mut buffers = RunBuffers {
+        output: vec![0; register.as_bytes().len()],
+        values: vec![0; places],
+        marks: vec![0; places],
     };
+    let run_by = match machine {
+        Machine::Direct => lent::run_direct,
+        Machine::Messages => lent::run_messages,
+    };
+    let mut answer = Answer::default();
+    let number = run_by(register.as_bytes(), text, budget, &mut buffers, &mut answer);
+    let end = end_of(register, number, &answer)?;
     Ok(Run {
-        register: buffers.output,
+        register: Register::loaded(buffers.output),
         finished: answer[lent::FINISHED],
         exchanges: answer[lent::EXCHANGES],
-        letters: answer[lent::LETTERS],
+        messages: answer[lent::LETTERS],
         end,
     })
 }
 
-/// Buffers of the lengths that a text asks for: n × (L + r + m + 1) places.
-fn buffers(register: &[u8], text: &[u8]) -> Result<RunBuffers, Refusal> {
-    let lines = check(register, text)?.most_lines as usize;
-    let cells = (register.len() - HEADER) / CELL_BYTES;
-    let length = records(register) * (lines + 1) + cells;
-    Ok(RunBuffers {
-        output: vec![0; register.len()],
-        values: vec![0; length],
-        marks: vec![0; length],
-    })
-}
-
-/// n, the first size of a register that loads.
-fn records(register: &[u8]) -> usize {
-    let size = register.first_chunk().expect("it loads");
-    u32::from_le_bytes(*size) as usize
+/// How a run ended that answers this number.
+fn end_of(register: &Register, number: u32, answer: &Answer) -> Result<End, Refusal> {
+    match Kind::of(number) {
+        Kind::Budget => Ok(End::BudgetExhausted),
+        Kind::Range => {
+            let mut fields = register.sizes().fields();
+            let field = fields.nth(answer[lent::FIELD] as usize);
+            Ok(End::OutOfRange {
+                record: answer[lent::RECORD] as usize,
+                field: field.expect("21 names a field of the register"),
+            })
+        }
+        _ => passed(number, answer).map(|()| End::Whole),
+    }
 }

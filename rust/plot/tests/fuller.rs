@@ -7,6 +7,7 @@ use generate::on_failure::OnFailure;
 use generate::random::Random;
 use generate::tally::Tally;
 use generate::{chains, registers};
+use plot::{Machine, Messages, Refusal, Register, Text};
 use reference::chain::read_chain;
 use reference::register::{Cell, Sizes, encode};
 
@@ -106,12 +107,12 @@ impl Pair {
     /// What is read over the first register is read over the second.
     fn compare_readings(&self, tally: &mut Tally) {
         for reading in &self.readings {
-            let (chain, record) = (&reading.chain, reading.record as u64);
+            let (chain, record) = (&reading.chain, reading.record);
             let _failing = self
                 .on_failure()
                 .bytes("chain", chain)
-                .number("record", record);
-            let read = |register| plot::read(register, chain, record);
+                .number("record", record as u64);
+            let read = |register| loaded(register).read(chain, record);
             let first = read(&self.first).expect("it passes");
             let second = read(&self.case.register).expect("it passes");
             tally.count(READ[retained(first, second)]);
@@ -121,8 +122,8 @@ impl Pair {
     /// A step of the text, if it has one, after every round from 0 to past the last.
     fn compare_looks(&self, random: &mut Random, tally: &mut Tally) {
         let steps = self.case.program.steps().count();
-        let step = random.between(1, steps.max(1)) as u64;
-        let planned = self.case.program.step(step);
+        let step = random.between(1, steps.max(1));
+        let planned = self.case.program.step(step as u64);
         let rounds = planned.map_or(0, |step| step.plan.rounds() as u16);
         for t in 0..=rounds + 1 {
             self.compare_look(tally, step, t);
@@ -130,9 +131,12 @@ impl Pair {
     }
 
     /// What is sent over the first register is sent over the second.
-    fn compare_look(&self, tally: &mut Tally, step: u64, t: u16) {
-        let _failing = self.on_failure().number("step", step).number("t", t);
-        let look = |register| plot::inspect(register, &self.case.text, step, t);
+    fn compare_look(&self, tally: &mut Tally, step: usize, t: u16) {
+        let _failing = self.on_failure().number("step", step as u64).number("t", t);
+        let look = |register| -> Result<Vec<Messages>, Refusal> {
+            let register = loaded(register);
+            Text::check(&register, &self.case.text[..])?.inspect(step, t)
+        };
         let (first, second) = (look(&self.first), look(&self.case.register));
         let (Ok(first), Ok(second)) = (&first, &second) else {
             assert_eq!(first, second);
@@ -152,6 +156,10 @@ impl Pair {
     }
 }
 
+fn loaded(file: &[u8]) -> Register {
+    Register::from_bytes(file).expect("it loads")
+}
+
 /// These cells with some unfilled, most often one at a place of some ways.
 fn with_gaps(random: &mut Random, cells: &[Cell], ways: &[usize]) -> Vec<Cell> {
     let gaps = random.pick(&[0, 0, 3, 10, 50]);
@@ -168,7 +176,7 @@ fn with_gaps(random: &mut Random, cells: &[Cell], ways: &[usize]) -> Vec<Cell> {
 
 /// A value of the first is that of the second. Gives 0 where both have it, 1 where
 /// the second alone has one, 2 where neither has.
-fn retained(first: Option<i64>, second: Option<i64>) -> usize {
+fn retained(first: Option<i32>, second: Option<i32>) -> usize {
     if first.is_some() {
         assert_eq!(first, second);
     }
@@ -203,8 +211,8 @@ fn a_whole_text_may_alter_a_depth() {
     };
     let behind = |depths: [Cell; 2]| {
         let text = b"step\nif N[u] == N[u]: M[u] := 1\nend\n";
-        let run = plot::run_direct(&encode(sizes, &depths), text, 1_000).expect("it passes");
-        plot::read(&run.register, b"M[u]", 0)
+        let run = loaded(&encode(sizes, &depths)).run(text, Machine::Direct, 1_000);
+        run.expect("it passes").register.read("M[u]", 0)
     };
     assert_eq!(behind([Cell::Value(5), Cell::Missing]), Ok(Some(5)));
     assert_eq!(behind([Cell::Value(5), Cell::Value(7)]), Ok(Some(1)));

@@ -9,6 +9,7 @@ use generate::random::Random;
 use generate::tally::Tally;
 use generate::{chains, damage, registers};
 use plot::lent::{self, Answer, MAX_HOPS, PathBuffers};
+use plot::{Kind, Path};
 use reference::path::{Hop, path};
 use reference::refusal::Refusal;
 use reference::register::{Cell, Register, Sizes, encode};
@@ -79,17 +80,23 @@ fn name(answer: &Result<Vec<Hop>, Refusal>) -> String {
 }
 
 /// What is read of a cell.
-fn value(cell: Cell) -> Option<i64> {
+fn value(cell: Cell) -> Option<i32> {
     match cell {
         Cell::Missing => None,
-        Cell::Value(value) => Some(i64::from(value)),
+        Cell::Value(value) => Some(value),
     }
 }
 
 /// What is read at the end of a path: at `u` alone the record's own number.
-fn last(record: u64, hops: &[Hop]) -> Option<i64> {
+fn last(record: usize, hops: &[Hop]) -> Option<i32> {
     hops.last()
-        .map_or(Some(record as i64), |hop| value(hop.cell))
+        .map_or(Some(record as i32), |hop| value(hop.cell))
+}
+
+/// What the library reads over a file that loads.
+fn read(file: &[u8], chain: &[u8], record: usize) -> Result<Option<i32>, plot::Refusal> {
+    let register = plot::Register::from_bytes(file).expect("it loads");
+    register.read(chain, record)
 }
 
 /// One case: the library, lent buffers and an answer full of rubbish, sets them
@@ -130,7 +137,7 @@ fn compare_other(
     tally: &mut Tally,
     sizes: Sizes,
     chain: &[u8],
-    record: u64,
+    record: usize,
     hops: &[Hop],
 ) {
     let density = registers::density(random);
@@ -141,21 +148,23 @@ fn compare_other(
     let other = encode(sizes, &cells);
     let _failing = OnFailure::new(&other)
         .bytes("chain", chain)
-        .number("record", record);
-    assert_eq!(path(&other, chain, record).as_deref(), Ok(hops));
-    let listed = plot::path(&other, chain, record).expect("it is not refused");
-    assert_eq!(listed.len(), hops.len());
-    for (hop, same) in listed.iter().zip(hops) {
-        assert_eq!(hop.record, same.record as u64);
-        assert_eq!(hop.letter, char::from(sizes.letter(same.field)));
-        assert_eq!(hop.value, value(same.cell));
+        .number("record", record as u64);
+    assert_eq!(path(&other, chain, record as u64).as_deref(), Ok(hops));
+    let register = plot::Register::from_bytes(&other[..]).expect("it loads");
+    let listed = register.path(chain, record).expect("it is not refused");
+    assert_eq!(listed.hops.len(), hops.len());
+    for (hop, same) in listed.hops.iter().zip(hops) {
+        assert_eq!(hop.record, same.record);
+        assert_eq!(hop.field, char::from(sizes.letter(same.field)));
+        assert_eq!(hop.cell.value(), value(same.cell));
     }
-    assert_eq!(plot::read(&other, chain, record), Ok(last(record, hops)));
+    assert_eq!(listed.value, last(record, hops));
+    assert_eq!(register.read(chain, record), Ok(last(record, hops)));
     tally.count("others that agree");
     if let Some(hop) = (!hops.is_empty()).then(|| random.pick(hops)) {
         cells[place(sizes, &hop)] = Cell::Missing;
         let gap = encode(sizes, &cells);
-        assert_eq!(plot::read(&gap, chain, record), Ok(None));
+        assert_eq!(read(&gap, chain, record), Ok(None));
         tally.count("others with a gap");
     }
 }
@@ -197,10 +206,8 @@ fn compare_register(random: &mut Random, tally: &mut Tally, sizes: Sizes) {
         let record = record(random, sizes);
         let answer = compare(random, tally, &register, &chain, record);
         if let (Ok(hops), false) = (answer, damaged || random.percent(50)) {
-            assert_eq!(
-                plot::read(&register, &chain, record),
-                Ok(last(record, &hops))
-            );
+            let record = record as usize;
+            assert_eq!(read(&register, &chain, record), Ok(last(record, &hops)));
             compare_other(random, tally, sizes, &chain, record, &hops);
         }
     }
@@ -229,32 +236,25 @@ fn paths_agree_and_are_the_reason() {
 
 #[test]
 fn bindings_answer_in_rust_values() {
-    let register = reference::printed::register();
-    let hop = |record, letter, value: Option<i64>| plot::Hop {
-        record,
-        letter,
-        value,
-        mark: u8::from(value.is_some()),
+    let register = plot::Register::from_bytes(reference::printed::register()).expect("it loads");
+    let path = |chain, record| {
+        let path: Result<Path, plot::Refusal> = register.path(chain, record);
+        path.map(|path| (path.hops, path.value))
     };
-    assert_eq!(plot::path(&register, b"u", 2), Ok(vec![]));
-    assert_eq!(
-        plot::path(&register, b"M[A[A[u]]]", 0),
-        Ok(vec![
-            hop(0, 'A', Some(1)),
-            hop(1, 'A', Some(2)),
-            hop(2, 'M', Some(180))
-        ])
-    );
-    assert_eq!(
-        plot::path(&register, b"M[A[A[u]]]", 1),
-        Ok(vec![hop(1, 'A', Some(2)), hop(2, 'A', None)])
-    );
-    assert_eq!(
-        plot::path(&register, b"M[u]", 1),
-        Ok(vec![hop(1, 'M', Some(0))])
-    );
-    let refusal = |number, line| Err(plot::Refusal { number, line });
-    assert_eq!(plot::path(&register, b"A[M[u]]", 0), refusal(10, 1));
-    assert_eq!(plot::path(&register, b"u", 3), refusal(16, 0));
-    assert_eq!(plot::path(&[], b"", 0), refusal(1, 0));
+    let hop = |record, field, value: Option<i32>| plot::Hop {
+        record,
+        field,
+        cell: value.map_or(plot::Cell::Unfilled, plot::Cell::Filled),
+    };
+    assert_eq!(path("u", 2), Ok((vec![], Some(2))));
+    let whole = [(0, 'A', 1), (1, 'A', 2), (2, 'M', 180)];
+    let whole = whole.map(|(record, field, value)| hop(record, field, Some(value)));
+    assert_eq!(path("M[A[A[u]]]", 0), Ok((whole.to_vec(), Some(180))));
+    let gap = vec![hop(1, 'A', Some(2)), hop(2, 'A', None)];
+    assert_eq!(path("M[A[A[u]]]", 1), Ok((gap, None)));
+    let zero = vec![hop(1, 'M', Some(0))];
+    assert_eq!(path("M[u]", 1), Ok((zero, Some(0))));
+    let refusal = |kind, line| Err(plot::Refusal { kind, line });
+    assert_eq!(path("A[M[u]]", 0), refusal(Kind::FieldKind, 1));
+    assert_eq!(path("u", 3), refusal(Kind::Record, 0));
 }

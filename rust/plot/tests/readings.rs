@@ -8,6 +8,7 @@ use generate::random::Random;
 use generate::tally::Tally;
 use generate::{chains, damage, registers};
 use plot::lent::{self, Answer};
+use plot::{Kind, Register};
 use reference::reading::reading;
 use reference::refusal::Refusal;
 use reference::register::{Cell, Sizes};
@@ -147,13 +148,17 @@ fn numbers_are_no_chains() {
 
 #[test]
 fn bindings_answer_in_rust_values() {
-    let register = reference::printed::register();
-    assert_eq!(plot::read(&register, b"M[u]", 0), Ok(None));
-    assert_eq!(plot::read(&register, b"M[u]", 1), Ok(Some(0)));
-    assert_eq!(plot::read(&register, b"M[A[A[u]]]", 0), Ok(Some(180)));
-    assert_eq!(plot::read(&register, b"u", 2), Ok(Some(2)));
-    let refusal = |number, line| Err(plot::Refusal { number, line });
-    assert_eq!(plot::read(&register, b"A[M[u]]", 0), refusal(10, 1));
-    assert_eq!(plot::read(&register, b"u", 3), refusal(16, 0));
-    assert_eq!(plot::read(&[], b"", 0), refusal(1, 0));
+    let register = Register::from_bytes(reference::printed::register()).expect("it loads");
+    assert_eq!(register.read("M[u]", 0), Ok(None));
+    assert_eq!(register.read("M[u]", 1), Ok(Some(0)));
+    assert_eq!(register.read("M[A[A[u]]]", 0), Ok(Some(180)));
+    assert_eq!(register.read("u", 2), Ok(Some(2)));
+    let refusal = |kind, line| Err(plot::Refusal { kind, line });
+    assert_eq!(register.read("A[M[u]]", 0), refusal(Kind::FieldKind, 1));
+    assert_eq!(register.read("u", 3), refusal(Kind::Record, 0));
+    let refused = plot::Refusal {
+        kind: Kind::FileLength,
+        line: 0,
+    };
+    assert_eq!(Register::from_bytes([]), Err(refused));
 }

@@ -3,6 +3,7 @@
 use crate::timing::Row;
 use generate::random::Random;
 use generate::{chains, neighbours, padding, registers, texts};
+use plot::lent::{self, Answer, PathBuffers};
 use reference::path::path;
 use reference::reading::reading;
 use reference::register::{MAX_FIELDS, Sizes};
@@ -23,13 +24,13 @@ pub fn rows() -> Vec<Row> {
 fn load() -> Row {
     let register = registers::full_file(&mut Random::new(3), registers::LARGEST);
     assert_eq!(register.len(), 327_692);
-    assert_eq!(plot::read(&register, b"u", 0), Ok(Some(0)));
+    assert_eq!(read_own_number(&register), (0, 1));
     let same = register.clone();
     Row {
         name: "load 327,692 bytes".to_owned(),
         at_most: 1.3,
         library: Box::new(move || {
-            let _ = black_box(plot::read(black_box(&register), b"u", 0));
+            black_box(read_own_number(black_box(&register)));
         }),
         reference: Box::new(move || {
             let _ = black_box(reading(black_box(&same), b"u", 0));
@@ -37,25 +38,37 @@ fn load() -> Row {
     }
 }
 
+/// The cheapest reading: the refusal number, and whether it is filled.
+fn read_own_number(register: &[u8]) -> (u32, u64) {
+    let (mut value, mut answer) = (0, Answer::default());
+    let number = lent::read(register, b"u", 0, &mut value, &mut answer);
+    (number, answer[lent::FILLED])
+}
+
 /// The longest path over the largest register, which is loaded for it.
 fn path_of_16_hops() -> Row {
     let register = registers::full_file(&mut Random::new(3), registers::LARGEST);
     let chain = chains::text(b"MABCDEFGHABCDEFG");
-    assert_eq!(
-        plot::path(&register, &chain, 1).map(|hops| hops.len()),
-        Ok(16)
-    );
+    assert_eq!(hops_from_1(&register, &chain), (0, 16));
     let (same_register, same_chain) = (register.clone(), chain.clone());
     Row {
         name: "path of 16 hops, 327,692 bytes".to_owned(),
         at_most: 1.3,
         library: Box::new(move || {
-            let _ = black_box(plot::path(black_box(&register), black_box(&chain), 1));
+            black_box(hops_from_1(black_box(&register), black_box(&chain)));
         }),
         reference: Box::new(move || {
             let _ = black_box(path(black_box(&same_register), black_box(&same_chain), 1));
         }),
     }
+}
+
+/// The path from record 1: the refusal number, and how many hops it has.
+fn hops_from_1(register: &[u8], chain: &[u8]) -> (u32, u64) {
+    let (mut hops, mut answer) = (PathBuffers::default(), Answer::default());
+    let number = lent::path(register, chain, 1, &mut hops, &mut answer);
+    black_box(&hops);
+    (number, answer[lent::HOPS])
 }
 
 /// The sizes of the register that the texts are for: all fields that there are,
@@ -70,13 +83,18 @@ const TEXT_SIZES: Sizes = Sizes {
 fn check_text(name: &str, text: Vec<u8>) -> Row {
     let register = registers::full_file(&mut Random::new(3), TEXT_SIZES);
     assert_eq!(text.len(), 8192);
-    assert!(plot::check(&register, &text).is_ok());
+    assert_eq!(lent::check(&register, &text, &mut Answer::default()), 0);
     let (same_register, same_text) = (register.clone(), text.clone());
     Row {
         name: name.to_owned(),
         at_most: 1.5,
         library: Box::new(move || {
-            let _ = black_box(plot::check(black_box(&register), black_box(&text)));
+            let mut answer = Answer::default();
+            black_box(lent::check(
+                black_box(&register),
+                black_box(&text),
+                &mut answer,
+            ));
         }),
         reference: Box::new(move || {
             let _ = black_box(check(black_box(&same_register), black_box(&same_text)));

@@ -1,41 +1,56 @@
 //! The bindings' Rust values for the printed run and the edges of document 01.
 
-use plot::{End, Refusal, Run};
+use plot::{End, Kind, Machine, Refusal, Register, Run, Text};
 use reference::printed::{CELLS, SIZES, TEXT, register};
 use reference::register::Cell::{self, Value};
 use reference::register::{Sizes, encode};
 
+const MACHINES: [Machine; 2] = [Machine::Direct, Machine::Messages];
+
+fn loaded(bytes: Vec<u8>) -> Register {
+    Register::from_bytes(bytes).expect("it loads")
+}
+
+fn printed() -> Register {
+    loaded(register())
+}
+
 /// The register with every M missing or replaced.
-fn printed_with(measures: [Cell; 3]) -> Vec<u8> {
+fn printed_with(measures: [Cell; 3]) -> Register {
     let mut cells = CELLS;
     for (record, measure) in measures.into_iter().enumerate() {
         cells[2 * record + 1] = measure;
     }
-    encode(SIZES, &cells)
+    loaded(encode(SIZES, &cells))
 }
 
-/// What the printed run gives, with these counts of exchanges and letters.
-fn printed_run(exchanges: u64, letters: u64) -> Result<Run, Refusal> {
+/// What the printed run gives, with these counts of exchanges and messages.
+fn printed_run(exchanges: u64, messages: u64) -> Result<Run, Refusal> {
     Ok(Run {
         register: printed_with([Value(180), Value(0), Value(180)]),
         finished: 1,
         exchanges,
-        letters,
+        messages,
         end: End::Whole,
     })
 }
 
 /// Finished steps and end of a run by messages over the printed register.
 fn ends(text: &[u8], budget: u16) -> (u64, End) {
-    let run = plot::run_messages(&register(), text, budget).expect("it runs");
+    let run = printed().run(text, Machine::Messages, budget);
+    let run = run.expect("it runs");
     (run.finished, run.end)
 }
 
 #[test]
 fn printed_run_by_both_machines() {
-    let register = register();
-    assert_eq!(plot::run_messages(&register, TEXT, 1000), printed_run(3, 4));
-    assert_eq!(plot::run_direct(&register, TEXT, 1000), printed_run(0, 0));
+    let register = printed();
+    let counts = [printed_run(0, 0), printed_run(3, 4)];
+    for (machine, expected) in MACHINES.into_iter().zip(counts) {
+        assert_eq!(register.run(TEXT, machine, 1000), expected);
+        let text = Text::check(&register, TEXT).expect("it passes");
+        assert_eq!(Ok(text.run(machine, 1000)), expected);
+    }
 }
 
 #[test]
@@ -44,12 +59,11 @@ fn no_records_still_make_their_exchanges() {
         records: 0,
         ..SIZES
     };
-    let run = plot::run_messages(&encode(sizes, &[]), TEXT, 1000).expect("it runs");
-    assert_eq!((run.finished, run.exchanges, run.letters), (1, 3, 0));
-    assert_eq!(
-        plot::inspect(&encode(sizes, &[]), TEXT, 1, 9),
-        Ok(vec![vec![]; 3])
-    );
+    let register = loaded(encode(sizes, &[]));
+    let text = Text::check(&register, TEXT).expect("it passes");
+    let run = text.run(Machine::Messages, 1000);
+    assert_eq!((run.finished, run.exchanges, run.messages), (1, 3, 0));
+    assert_eq!(text.inspect(1, 9), Ok(vec![vec![]; 3]));
 }
 
 #[test]
@@ -63,7 +77,7 @@ fn runs_end() {
         end,
         End::OutOfRange {
             record: 0..3,
-            field: 1
+            field: 'M'
         }
     ));
     assert_eq!(
@@ -72,27 +86,33 @@ fn runs_end() {
     );
 }
 
-fn refused<T>(number: u32, line: u64) -> Result<T, Refusal> {
-    Err(Refusal { number, line })
+fn refused<T>(kind: Kind, line: u64) -> Result<T, Refusal> {
+    Err(Refusal { kind, line })
 }
 
 #[test]
-fn refusals_have_number_and_line() {
-    for run in [plot::run_direct, plot::run_messages] {
-        assert_eq!(run(&[], TEXT, 1), refused(1, 0));
-        assert_eq!(run(&register(), b"step\nx\n", 1), refused(7, 2));
+fn refusals_have_kind_and_line() {
+    assert_eq!(Register::from_bytes([]), refused(Kind::FileLength, 0));
+    let register = printed();
+    for machine in MACHINES {
+        let run = register.run("step\nx\n", machine, 1);
+        assert_eq!(run, refused(Kind::Form, 2));
     }
-    assert_eq!(plot::inspect(&register(), b"step\n", 1, 1), refused(8, 2));
-    assert_eq!(plot::inspect(&register(), TEXT, 2, 1), refused(17, 0));
+    let unclosed = Text::check(&register, "step\n").map(|text| text.steps());
+    assert_eq!(unclosed, refused(Kind::Place, 2));
+    let text = Text::check(&register, TEXT).expect("it passes");
+    assert_eq!(text.inspect(2, 1), refused(Kind::Step, 0));
 }
 
 #[test]
 fn inspection_after_each_round() {
+    let register = printed();
+    let text = Text::check(&register, TEXT).expect("it passes");
     let nothing = vec![None; 3];
     let back = vec![Some(1), Some(2), None];
     let back_two = vec![Some(2), None, None];
     let read = vec![Some(180), None, None];
-    let after = |t| plot::inspect(&register(), TEXT, 1, t).expect("step 1 is there");
+    let after = |t| text.inspect(1, t).expect("step 1 is there");
     assert_eq!(after(0), [&nothing, &nothing, &nothing].map(Vec::clone));
     assert_eq!(after(1), [&back, &nothing, &nothing].map(Vec::clone));
     assert_eq!(after(2), [&back, &back_two, &nothing].map(Vec::clone));

@@ -1,0 +1,80 @@
+//! The command `plot`: registers and rules texts from the terminal, over the
+//! proved library.
+
+mod arguments;
+mod arrows;
+mod caret;
+mod check;
+mod commands;
+mod explain;
+mod failure;
+mod faulty;
+mod files;
+mod gaps;
+mod gaps_svg;
+mod inspect;
+mod json;
+mod pack;
+mod plan;
+mod plan_svg;
+mod pointer;
+mod read;
+mod run;
+mod scan;
+mod sheet;
+mod show;
+mod style;
+mod svg;
+mod table;
+
+use commands::Outcome;
+use failure::Failure;
+use std::env;
+use std::io::{self, ErrorKind, Write};
+use std::path::Path;
+use std::process::ExitCode;
+use std::thread::{self, JoinHandle};
+
+/// The stack of the thread that works, whatever the shell allows the first one: a
+/// run needs about 700 KB.
+const STACK: usize = 8 << 20;
+
+fn main() -> ExitCode {
+    let worker = thread::Builder::new().stack_size(STACK).spawn(work);
+    match worker.map(JoinHandle::join) {
+        Ok(Ok(status)) => status,
+        // What went wrong inside has been told.
+        Ok(Err(_)) => ExitCode::from(2),
+        Err(error) => {
+            let _ = writeln!(io::stderr(), "plot: cannot begin: {error}");
+            ExitCode::from(2)
+        }
+    }
+}
+
+fn work() -> ExitCode {
+    let given: Result<Vec<String>, _> = env::args_os().skip(1).map(|a| a.into_string()).collect();
+    let done = match given {
+        Ok(given) => commands::done(&given),
+        Err(word) => Err(Failure::Usage(format!("{word:?} is not valid UTF-8"))),
+    };
+    match done.and_then(told) {
+        Ok(()) => ExitCode::SUCCESS,
+        Err(failure) => {
+            let _ = writeln!(io::stderr(), "plot: {failure}");
+            ExitCode::from(failure.status())
+        }
+    }
+}
+
+/// Writes what a command has to say.
+fn told(outcome: Outcome) -> Result<(), Failure> {
+    let _ = io::stderr().write_all(outcome.note.as_bytes());
+    let mut out = io::stdout().lock();
+    match out.write_all(&outcome.out).and_then(|()| out.flush()) {
+        // Who reads has had enough.
+        Err(error) if error.kind() == ErrorKind::BrokenPipe => Ok(()),
+        Err(error) => Err(Failure::file("write", Path::new("standard output"), &error)),
+        Ok(()) => outcome.failure.map_or(Ok(()), Err),
+    }
+}

@@ -1,0 +1,131 @@
+//! Plans as pictures: for each reading the records of its chain in a row, below
+//! them the messages as arrows, round by round.
+
+use crate::arrows::{self, Arrow, Round, name};
+use crate::plan::{Numbered, summary};
+use crate::svg::{Anchor, Picture, colour};
+use plot::{Line, Plan};
+
+/// The edge around everything, the room for round numbers, and the way from one
+/// record to the next.
+const EDGE: usize = 24;
+const ROUNDS: usize = 96;
+const GAP: usize = 104;
+/// The heights of a title, of the row of records, and of a message.
+const TITLE: usize = 30;
+const RECORDS: usize = 32;
+const MESSAGE: usize = 28;
+
+/// A picture of the plans of some steps.
+pub fn picture(plans: &[Numbered]) -> String {
+    let mut picture = Picture::default();
+    let mut y = EDGE;
+    for (step, plan) in plans {
+        y = step_picture(&mut picture, y, *step, plan) + EDGE;
+    }
+    picture.reach(360, y);
+    picture.print("plan")
+}
+
+/// Draws a step from this height on: the height behind it.
+fn step_picture(picture: &mut Picture, y: usize, step: usize, plan: &Plan) -> usize {
+    let title = summary(step, plan);
+    picture.text((EDGE, y + 18), Anchor::Start, (17, colour::INK), &title);
+    picture.reach(2 * EDGE + 10 * title.len(), y);
+    let mut y = y + TITLE;
+    if plan.lines.is_empty() {
+        let none = "no lines: no chain here has more than one hop";
+        y = note(picture, y, none);
+    }
+    for reading in arrows::readings(plan) {
+        y = panel(picture, y, plan, reading) + EDGE;
+    }
+    match plan.remote {
+        true => note(
+            picture,
+            y,
+            &format!("exchange {}: the remote writes", plan.exchanges()),
+        ),
+        false => y,
+    }
+}
+
+fn note(picture: &mut Picture, y: usize, text: &str) -> usize {
+    picture.text((EDGE, y + 14), Anchor::Start, (13, colour::GREY), text);
+    picture.reach(2 * EDGE + 8 * text.len(), y);
+    y + TITLE
+}
+
+fn x_of(place: usize) -> usize {
+    EDGE + ROUNDS + place * GAP
+}
+
+/// Draws a reading from this height on: the height behind it.
+fn panel(picture: &mut Picture, y: usize, plan: &Plan, reading: &Line) -> usize {
+    let chain = reading.chain();
+    let title = format!("{chain}: u knows it after round {}", reading.round);
+    picture.text((EDGE, y + 14), Anchor::Start, (14, colour::INK), &title);
+    let right = x_of(reading.letters.len()) + GAP / 2;
+    picture.reach(right.max(2 * EDGE + 9 * title.len()), y);
+    let records = y + TITLE + 16;
+    let first = records + RECORDS;
+    let rounds = arrows::rounds(plan, reading);
+    let levels: usize = rounds.iter().map(|(_, levels)| levels.len()).sum();
+    let bottom = first + MESSAGE * levels + 8;
+    for x in (0..reading.letters.len()).map(x_of) {
+        picture.line((x, records), (x, bottom), colour::GUIDE, "1");
+    }
+    chain_row(picture, records, &reading.letters);
+    messages(picture, first, right, &rounds);
+    bottom
+}
+
+/// The records of a chain, and the cell that it ends with.
+fn chain_row(picture: &mut Picture, y: usize, letters: &str) {
+    for (place, letter) in letters.char_indices() {
+        let (from, to) = (x_of(place), x_of(place + 1));
+        picture.arrow(y, from + 16, to - 16, colour::HOP);
+        let middle = ((from + to) / 2, y - 7);
+        picture.text(
+            middle,
+            Anchor::Middle,
+            (12, colour::GREY),
+            &letter.to_string(),
+        );
+        picture.circle((from, y), 15, "#ffffff", colour::INK);
+        picture.text(
+            (from, y + 4),
+            Anchor::Middle,
+            (12, colour::INK),
+            &name(place),
+        );
+    }
+    let cell = x_of(letters.len());
+    picture.rectangle(cell - 15, y - 12, 30, 24, colour::FILLED);
+    picture.text((cell, y + 4), Anchor::Middle, (11, colour::INK), "cell");
+}
+
+/// Draws the messages from this height on.
+fn messages(picture: &mut Picture, top: usize, right: usize, rounds: &[Round]) {
+    let mut y = top;
+    for (number, levels) in rounds {
+        let paint = colour::ROUNDS[usize::from(number - 1) % colour::ROUNDS.len()];
+        let label = format!("round {number}");
+        picture.text((EDGE, y + 20), Anchor::Start, (12, paint), &label);
+        picture.line((EDGE, y), (right, y), colour::GUIDE, "1");
+        for level in levels {
+            for arrow in level {
+                message(picture, y + 20, paint, arrow);
+            }
+            y += MESSAGE;
+        }
+    }
+}
+
+fn message(picture: &mut Picture, y: usize, paint: &str, arrow: &Arrow) {
+    let (from, to) = (x_of(arrow.from), x_of(arrow.to));
+    picture.circle((from, y), 3, paint, paint);
+    picture.arrow(y, from, to, paint);
+    let middle = ((from + to) / 2, y - 6);
+    picture.text(middle, Anchor::Middle, (11, paint), &arrow.text);
+}

@@ -1,0 +1,15 @@
+//! The command as a process: what it prints, writes and exits with.
+
+mod any_bytes;
+mod carets;
+mod files;
+mod folder;
+mod pictures;
+mod readings;
+mod rules;
+mod runs;
+mod scripts;
+mod sessions;
+mod sheets;
+mod shown;
+mod usage;

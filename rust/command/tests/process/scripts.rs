@@ -1,0 +1,96 @@
+//! The scripts beside the command: the header's check, and the line that counts.
+
+use crate::folder::{Folder, Said, root};
+use std::env;
+use std::fs;
+use std::os::unix::fs::PermissionsExt;
+use std::process::Command;
+
+fn check_header(folder: &Folder, header: &str) -> Said {
+    folder.write("plot.h", header);
+    let mut script = Command::new(root().join("scripts/check_header"));
+    folder.run(script.arg(folder.at("plot.h")), b"")
+}
+
+#[test]
+fn a_header_that_differs_is_found() {
+    let folder = Folder::new("header");
+    let header = fs::read_to_string(root().join("include/plot.h")).expect("it is there");
+    check_header(&folder, &header).has("functions as in crates/c_api");
+    for (old, new) in [
+        ("uint8_t rounds[64]", "uint8_t rounds[32]"),
+        ("uint64_t u,", "uint32_t u,"),
+        (
+            "uint16_t t, int64_t *values",
+            "uint16_t t, const int64_t *values",
+        ),
+        ("uint32_t plot_check", "uint64_t plot_check"),
+        ("plot_check(", "plot_checks("),
+        (
+            "uint8_t kinds[64], uint8_t chains[1024]",
+            "uint8_t chains[1024], uint8_t kinds[64]",
+        ),
+        ("uint64_t step,\n                   uint8_t", "uint8_t"),
+    ] {
+        assert!(header.contains(old), "{old}");
+        let said = check_header(&folder, &header.replacen(old, new, 1));
+        assert_eq!(said.status, 1, "{new} is not found");
+        assert!(said.err.contains("differs from"));
+    }
+}
+
+/// The script in a copy of the project that has two crates, over an `rt` that says
+/// this and ends so.
+fn proving(folder: &Folder, says: &str) -> Said {
+    for name in ["scripts", "bin"] {
+        let _ = fs::create_dir(folder.at(name));
+    }
+    let script = fs::read(root().join("scripts/proving")).expect("it is there");
+    folder.write("scripts/proving", script);
+    folder.write("crates.txt", "# room\none:\ntwo: one io\nother: two\n");
+    folder.write("bin/rt", format!("#!/bin/sh\n{says}\n"));
+    fs::set_permissions(folder.at("bin/rt"), PermissionsExt::from_mode(0o755)).expect("it is ours");
+    let path = env::var("PATH").unwrap_or_default();
+    let path = format!("{}:{path}", folder.at("bin").display());
+    let mut bash = Command::new("bash");
+    let bash = bash.args(["scripts/proving", "two", "rt", "check", "two"]);
+    folder.run(bash.env("PATH", path), b"")
+}
+
+#[test]
+fn a_line_counts_the_crates() {
+    let folder = Folder::new("proving");
+    let said = proving(
+        &folder,
+        "echo 'rt: one proved (1 s)'; echo 'rt: two proved (2 s)' >&2",
+    );
+    assert_eq!((said.status, said.out.as_str()), (0, ""));
+    assert!(
+        said.err.starts_with("proving: 0 of 2 crates, 0 s\n"),
+        "{}",
+        said.err
+    );
+    assert!(said.err.ends_with(" s, two done\n"), "{}", said.err);
+    assert_eq!(said.err.lines().count(), 2);
+}
+
+#[test]
+fn a_failure_names_the_log() {
+    let folder = Folder::new("proving-failed");
+    let said = proving(
+        &folder,
+        "echo much; echo 'rt: one NOT PROVED (exit 1)'; exit 1",
+    );
+    assert_eq!((said.status, said.out.as_str()), (1, ""));
+    assert!(
+        said.err.contains("rt: one NOT PROVED (exit 1)\n"),
+        "{}",
+        said.err
+    );
+    assert!(said.err.contains("The log is "), "{}", said.err);
+    assert!(!said.err.contains("much"));
+    assert_eq!(
+        folder.read("target/proving.log"),
+        b"much\nrt: one NOT PROVED (exit 1)\n"
+    );
+}
