@@ -16,7 +16,9 @@ pub extern "C" fn plot_path(
     marks: &mut [u8; 16],
     answer: &mut [u64; 8],
 ) -> u32
-    ensures { λ r. ⌜ PathCalled (readingPath (now (file .entry)) (now (text .entry)) u) r (now (answer .exit)) (record { records = now (records .entry); fields = now (fields .entry); values = now (values .entry); marks = now (marks .entry) }) (record { records = now (records .exit); fields = now (fields .exit); values = now (values .exit); marks = now (marks .exit) }) ⌝ }
+    ensures { λ r. ⌜ PathCalled (readingPath (now (file .entry)) (now (text .entry)) u) r (now (answer .exit))
+        (record { records = now (records .entry); fields = now (fields .entry); values = now (values .entry); marks = now (marks .entry) })
+        (record { records = now (records .exit); fields = now (fields .exit); values = now (values .exit); marks = now (marks .exit) }) ⌝ }
 {
     let found = op_path::reading_path(file, text, u);
     if found.refusal != 0 {

@@ -16,7 +16,9 @@ use Rattle.program.specs.declared.rule.Sort.{Sort}
 use Rattle.program.specs.declared.rule.Sort.the-variants.{Least, Total}
 use Rattle.program.specs.Program.{Target, own, remote, Rule, Step, Program}
 use Rattle.machine.specs.declared.message.Message.{Message}
-use Rattle.machine.specs.Filled.{isFilled, StayFilled}
+use Rattle.chain.specs.Word.{readOf}
+use Rattle.chain.specs.Way.{isFilled}
+use Rattle.machine.specs.Filled.{StayFilled}
 use Rattle.machine.specs.Value.{value, holds}
 use Rattle.machine.specs.Local.{storedOver, assign, localRule, localRules, localRecords}
 use Rattle.machine.specs.Remote.{recordMessages, smaller, increased, merged, deliver, deliverAll}
@@ -25,23 +27,23 @@ use Rattle.machine.specs.Run.{Reader, Pass, Run, behind, stepFirst, runF
 use Rattle.machine.proofs.Refers.{change-keeps}
 
 -- a filled cell is filled behind `:=`
-storedOver-filled : (x : Reading) (c : Cell) → isFilled c ≡ true → isFilled (storedOver x c) ≡ true
-unfolding storedOver isFilled
+storedOver-filled : (x : Reading) (c : Cell) → isFilled (readOf c) ≡ true → isFilled (readOf (storedOver x c)) ≡ true
+unfolding storedOver readOf isFilled
 storedOver-filled R.Missing c h = h
 storedOver-filled (R.Value z) c h = refl
 
 -- "`<?=` keeps the smaller", and `+=` adds to what is there
-merged-filled : (k : Sort) (c : Cell) (a : ℤ) → isFilled c ≡ true → isFilled (merged k c a) ≡ true
-unfolding isFilled merged smaller increased
+merged-filled : (k : Sort) (c : Cell) (a : ℤ) → isFilled (readOf c) ≡ true → isFilled (readOf (merged k c a)) ≡ true
+unfolding readOf isFilled merged smaller increased
 merged-filled k Missing a h = true-false h refl
-merged-filled Least (Value z) a h = cond-both (λ c. isFilled c ≡ true) (ltZ a z) _ _ refl refl
+merged-filled Least (Value z) a h = cond-both (λ c. isFilled (readOf c) ≡ true) (ltZ a z) _ _ refl refl
 merged-filled Total (Value z) a h = refl
 
 module _ (s : Sizes) where
   -- local rules
   assign-fills : (u : ℕ) (t : Target) (x : Reading) (cells : List Cell) → StayFilled cells (assign s u t x cells)
   unfolding assign
-  assign-fills u (own f) x cells j h = change-keeps (λ c. isFilled c ≡ true) (storedOver x) (storedOver-filled x) cells _ j h
+  assign-fills u (own f) x cells j h = change-keeps (λ c. isFilled (readOf c) ≡ true) (storedOver x) (storedOver-filled x) cells _ j h
   assign-fills u (remote k f w) x cells j h = h
 
   rules-fill : (read : List ℕ → Reading) (u : ℕ) (rs : List Rule) (cells : List Cell) → StayFilled cells (localRules s read u rs cells)
@@ -61,7 +63,7 @@ module _ (s : Sizes) where
   unfolding deliverAll deliver
   delivered-fill cells [] j h = h
   delivered-fill cells (m ∷ ms) j h =
-      delivered-fill _ ms j (change-keeps (λ c. isFilled c ≡ true) (λ c. merged (m .sort) c (m .amount)) (λ c. merged-filled (m .sort) c (m .amount)) cells _ j h)
+      delivered-fill _ ms j (change-keeps (λ c. isFilled (readOf c) ≡ true) (λ c. merged (m .sort) c (m .amount)) (λ c. merged-filled (m .sort) c (m .amount)) cells _ j h)
 
   -- a step, whatever its records read
   pub step-fills : (read : ℕ → List ℕ → Reading) (rs : List Rule) (cells : List Cell) → StayFilled cells (stepCells s read rs cells)
@@ -75,7 +77,7 @@ module _ (s : Sizes) where
   runFrom-fills reader zero (x ∷ rest) p cells j h = h
   runFrom-fills reader (suc budget) [] p cells j h = h
   runFrom-fills reader (suc budget) (x ∷ rest) p cells j h =
-      cond-both (λ (r : Run). isFilled (getD (r .cells) j Missing) ≡ true) (stops s (reader (x .rules) cells) (x .rules) cells) _ _ h
+      cond-both (λ (r : Run). isFilled (readOf (getD (r .cells) j Missing)) ≡ true) (stops s (reader (x .rules) cells) (x .rules) cells) _ _ h
       (runFrom-fills reader budget _ _ _ j (step-fills (reader (x .rules) cells) (x .rules) cells j h))
 
   pub run-fills : (reader : Reader) (p : Program) (budget : ℕ) (cells : List Cell) → StayFilled cells (run s reader p budget cells .cells)

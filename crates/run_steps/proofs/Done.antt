@@ -21,7 +21,7 @@ use Rattle.machine.proofs.Folding.{stepCells-length}
 use Rattle.machine_messages.specs.declared.Machine.{Machine}
 use Rattle.scratch.specs.Places.{Kept}
 use Rattle.scratch.proofs.Placed.{kept-again}
-use Rattle.step_cells.specs.Work.{HoldsCells, Proper, Same}
+use Rattle.step_cells.specs.Work.{HoldsCells, CanonicalCells, Same}
 use Rattle.step_cells.specs.declared.stop.Stop.{Stop}
 use Rattle.step_cells.specs.declared.stop.Stop.the-variants.{Nowhere, At}
 use Rattle.step_cells.proofs.Working.{same-then, proper-held}
@@ -92,7 +92,7 @@ module _ {m : Machine} {s : Sizes} {p : R.Program} {budget : ℕ} {file : List �
     unfolding direct
     after-held = d .all .holds
 
-    pub after-proper : Proper (base a) (cellCount s) values₄ marks₄
+    pub after-proper : CanonicalCells (base a) (cellCount s) values₄ marks₄
     after-proper = proper-held after-count after-held
 
     -- no other column than those of the step's fields has changed

@@ -19,7 +19,7 @@ use Rattle.chain.specs.declared.reading.Reading.the-variants as R
 use Rattle.chain.specs.Word.{readingValue}
 use Rattle.scratch.specs.Places.{storedAt, readingMark, Kept}
 use Rattle.scratch.proofs.Placed.{storedAt-kept}
-use Rattle.step_cells.specs.Work.{Room, HoldsCells, Proper, Same, Put, Small}
+use Rattle.step_cells.specs.Work.{Room, HoldsCells, CanonicalCells, Same, Put, Small}
 
 -- nothing is stored
 pub same-refl : {base : ℕ} {values : List ℤ} {marks : List ℕ} → Same base values marks values marks
@@ -156,7 +156,7 @@ unfolding storedAt
 held-at {d = d} h j l = ap₂ cellOf (h .value-is j l) (h .mark-is j l) ∙ cellOf-kept (getD d j Missing)
 
 -- places that hold cells hold values and marks of a file
-pub proper-held : {base k : ℕ} {d : List Cell} {values : List ℤ} {marks : List ℕ} → length d ≡ k → HoldsCells base d values marks → Proper base k values marks
+pub proper-held : {base k : ℕ} {d : List Cell} {values : List ℤ} {marks : List ℕ} → length d ≡ k → HoldsCells base d values marks → CanonicalCells base k values marks
 proper-held l h = record { each = λ j j<. rw (h .value-is j (omega arith), h .mark-is j (omega arith)) (cell-canonical _) }
 
 -- cells of 32 bits

@@ -29,7 +29,7 @@ pub record Same (base : ℕ) (values : List ℤ) (marks : List ℕ) (values′ :
   pub marks-same : take base marks′ ≡ take base marks
 
 -- the k working cells are such as a file may hold
-pub record Proper (base k : ℕ) (values : List ℤ) (marks : List ℕ) : Type 0 where
+pub record CanonicalCells (base k : ℕ) (values : List ℤ) (marks : List ℕ) : Type 0 where
   pub each : (j : ℕ) → j < k → Canonical (getD values (base + j) (pos 0)) (getD marks (base + j) 0)
 
 -- place j now holds cell c, and a value and a mark that a file may hold where it did so before

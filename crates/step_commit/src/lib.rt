@@ -4,7 +4,7 @@ ghost use lib.ListN.{length};
 ghost use mathlib.Core.Path.{_≡_};
 ghost use Rattle.register.specs.File.{width, cellCount};
 ghost use Rattle.register.specs.Shape.{Limits};
-ghost use Rattle.step_cells.specs.Work.{Room, Proper};
+ghost use Rattle.step_cells.specs.Work.{Room, CanonicalCells};
 ghost use Rattle.step_commit.specs.Committed.{OneCommitted, ColumnCommitted, Committed};
 use chain::follow;
 use integers::Sum;
@@ -21,7 +21,8 @@ fn commit_cell(
     base: usize,
     j: usize,
 ) -> bool
-    requires { ⌜ Limits sizes × (length (now out) ≡ 12 + 5 * cellCount sizes) × Room base (cellCount sizes) (now values) (now marks) × (j < cellCount sizes) × Proper base (cellCount sizes) (now values) (now marks) ⌝ }
+    requires { ⌜ Limits sizes × (length (now out) ≡ 12 + 5 * cellCount sizes)
+        × Room base (cellCount sizes) (now values) (now marks) × (j < cellCount sizes) × CanonicalCells base (cellCount sizes) (now values) (now marks) ⌝ }
     ensures { λ r. ⌜ OneCommitted sizes base j (now (values .entry)) (now (marks .entry)) (now (out .entry)) (now (out .exit)) r ⌝ }
 {
     match integers::in_range(values[base + j]) {
@@ -42,7 +43,8 @@ fn commit_column(
     base: usize,
     column: usize,
 ) -> Stop
-    requires { ⌜ Limits sizes × (length (now out) ≡ 12 + 5 * cellCount sizes) × Room base (cellCount sizes) (now values) (now marks) × (column < width sizes) × Proper base (cellCount sizes) (now values) (now marks) ⌝ }
+    requires { ⌜ Limits sizes × (length (now out) ≡ 12 + 5 * cellCount sizes)
+        × Room base (cellCount sizes) (now values) (now marks) × (column < width sizes) × CanonicalCells base (cellCount sizes) (now values) (now marks) ⌝ }
     ensures { λ r. ⌜ ColumnCommitted sizes base column (now (values .entry)) (now (marks .entry)) (now (out .entry)) (now (out .exit)) r ⌝ }
 {
     for u in 0..sizes.records {
@@ -63,7 +65,8 @@ pub fn commit(
     base: usize,
     fields: [bool; 16],
 ) -> Stop
-    requires { ⌜ Limits sizes × (length (now out) ≡ 12 + 5 * cellCount sizes) × Room base (cellCount sizes) (now values) (now marks) × Proper base (cellCount sizes) (now values) (now marks) ⌝ }
+    requires { ⌜ Limits sizes × (length (now out) ≡ 12 + 5 * cellCount sizes)
+        × Room base (cellCount sizes) (now values) (now marks) × CanonicalCells base (cellCount sizes) (now values) (now marks) ⌝ }
     ensures { λ r. ⌜ Committed sizes base fields (now (values .entry)) (now (marks .entry)) (now (out .entry)) (now (out .exit)) r ⌝ }
 {
     for column in 0..sizes.references + sizes.measures {

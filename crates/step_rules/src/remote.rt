@@ -32,7 +32,8 @@ fn apply_rule(
     requires { ⌜ Parts sizes (now cells) (now filled) × (u < sizes .records) × Room base (length (now filled)) (now values) (now marks) ⌝ }
     requires { ⌜ RuleReady sizes (cellsOf (now cells) (now filled)) (take base (now values)) (take base (now marks)) rule ⌝ }
     requires { ⌜ Small 4611686018427387904 base (length (now filled)) (now values) (now marks) × (sent < 131072) ⌝ }
-    ensures { λ r. ⌜ RuleDelivered sizes (cellsOf (now (cells .entry)) (now (filled .entry))) base u rule (now (values .entry)) (now (marks .entry)) (now (values .exit)) (now (marks .exit)) sent r ⌝ }
+    ensures { λ r. ⌜ RuleDelivered sizes (cellsOf (now (cells .entry)) (now (filled .entry))) base u rule
+        (now (values .entry)) (now (marks .entry)) (now (values .exit)) (now (marks .exit)) sent r ⌝ }
 {
     match sent::message_of(
         cells,

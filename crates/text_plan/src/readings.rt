@@ -80,7 +80,8 @@ fn with_reading(
     chain: u64,
 ) -> usize
     requires { ⌜ Growing (planOf (now keys) (now rounds) (now backs) (now reads) count) × (length (unpack chain) ≤ 16) ⌝ }
-    ensures { λ r. ⌜ GrownBy (planOf (now (keys .entry)) (now (rounds .entry)) (now (backs .entry)) (now (reads .entry)) count) (unpack chain ∷ []) (planOf (now (keys .exit)) (now (rounds .exit)) (now (backs .exit)) (now (reads .exit)) r) ⌝ }
+    ensures { λ r. ⌜ GrownBy (planOf (now (keys .entry)) (now (rounds .entry)) (now (backs .entry)) (now (reads .entry)) count) (unpack chain ∷ [])
+        (planOf (now (keys .exit)) (now (rounds .exit)) (now (backs .exit)) (now (reads .exit)) r) ⌝ }
 {
     if 64 < count {
         return count;
@@ -97,7 +98,8 @@ fn with_pair(
     pair: Pair,
 ) -> usize
     requires { ⌜ Growing (planOf (now keys) (now rounds) (now backs) (now reads) count) × Short (pairWords pair) ⌝ }
-    ensures { λ r. ⌜ GrownBy (planOf (now (keys .entry)) (now (rounds .entry)) (now (backs .entry)) (now (reads .entry)) count) (pairWords pair) (planOf (now (keys .exit)) (now (rounds .exit)) (now (backs .exit)) (now (reads .exit)) r) ⌝ }
+    ensures { λ r. ⌜ GrownBy (planOf (now (keys .entry)) (now (rounds .entry)) (now (backs .entry)) (now (reads .entry)) count) (pairWords pair)
+        (planOf (now (keys .exit)) (now (rounds .exit)) (now (backs .exit)) (now (reads .exit)) r) ⌝ }
 {
     let first = with_reading(keys, rounds, backs, reads, count, pair.first);
     with_reading(keys, rounds, backs, reads, first, pair.second)
@@ -114,7 +116,9 @@ pub fn add_rule(
     slot: Slot,
 )
     requires { ⌜ Sound (addedOf (now keys) (now rounds) (now backs) (now reads) (now count) (now full)) × Short (words (slotChains slot)) ⌝ }
-    ensures { λ _. ⌜ PlannedWith (addedOf (now (keys .entry)) (now (rounds .entry)) (now (backs .entry)) (now (reads .entry)) (now (count .entry)) (now (full .entry))) (words (slotChains slot)) (addedOf (now (keys .exit)) (now (rounds .exit)) (now (backs .exit)) (now (reads .exit)) (now (count .exit)) (now (full .exit))) ⌝ }
+    ensures { λ _. ⌜ PlannedWith (addedOf (now (keys .entry)) (now (rounds .entry)) (now (backs .entry)) (now (reads .entry)) (now (count .entry)) (now (full .entry)))
+        (words (slotChains slot))
+        (addedOf (now (keys .exit)) (now (rounds .exit)) (now (backs .exit)) (now (reads .exit)) (now (count .exit)) (now (full .exit))) ⌝ }
 {
     if *full {
         return;
