@@ -1,9 +1,8 @@
 -- `plan_keys::word::split_at` meets its contract: it calls itself on the chain behind the first hop, for one hop less.
 -- Assumes nothing.
-use Prim.Native.Nat.{ℕ, suc, _-_, _≤_, _<_}
+use Prim.Native.Nat.{ℕ, suc, _-_, _<_}
 use mathlib.Core.Path.{_≡_, refl, ap, _∙_}
 use native.Mathlib.Omega.{arith}
-use borrow.Author.Needs.{needs}
 use borrow.Fn.Kinds.{In}
 use borrow.Fn.PlainCycle.{Measures, is, falls, and}
 use lib.ListN.{length, length-take, length-drop}
@@ -66,7 +65,9 @@ module _ (t : ℕ) where
   push-requires c κs =
       let e = c .before .before .before in
       let few = ap length (c .split-at .ensures .front-is) in
-      let small = packed-small (c .split-at .result .front) 15 (omega (arith, few, length-take (e .before .args .h - 1) (unpack (c .before .rest-hops .result)), e .before .pre .1 .0)) in
+      let h = e .before .args .h in
+      let taken = length-take (h - 1) (unpack (c .before .rest-hops .result)) in
+      let small = packed-small (c .split-at .result .front) 15 (omega (arith, few, taken, e .before .pre .1 .0)) in
       omega (arith, small, c .before .before .first-hop .ensures .below)
 
   returns-2 : split-at-lts.Need-returns-2 (called t) (split-at-at t) split-at.Post
