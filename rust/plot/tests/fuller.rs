@@ -54,13 +54,13 @@ impl Reading {
     /// The places of the cells that it passes, the first unfilled one being the last.
     fn way(&self, sizes: Sizes, cells: &[Cell]) -> Vec<usize> {
         let word = read_chain(&self.chain, &sizes).expect("the chain is valid");
-        let mut reached = Cell::Value(self.record as i32);
+        let mut reached = Some(self.record as i32);
         let mut places = Vec::new();
         for &field in word.fields() {
-            let Cell::Value(at) = reached else { break };
+            let Some(at) = reached else { break };
             let place = at as usize * sizes.fields() + usize::from(field);
             places.push(place);
-            reached = cells[place];
+            reached = cells[place].value();
         }
         places
     }
@@ -214,6 +214,6 @@ fn a_whole_text_may_alter_a_depth() {
         let run = loaded(&encode(sizes, &depths)).run(text, Machine::Direct, 1_000);
         run.expect("it passes").register.read("M[u]", 0)
     };
-    assert_eq!(behind([Cell::Value(5), Cell::Missing]), Ok(Some(5)));
-    assert_eq!(behind([Cell::Value(5), Cell::Value(7)]), Ok(Some(1)));
+    assert_eq!(behind([Cell::Measured(5), Cell::Missing]), Ok(Some(5)));
+    assert_eq!(behind([Cell::Measured(5), Cell::Measured(7)]), Ok(Some(1)));
 }

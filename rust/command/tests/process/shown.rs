@@ -85,7 +85,8 @@ fn words(line: &str) -> Vec<&str> {
 fn expected(cell: Cell) -> String {
     match cell {
         Cell::Missing => "-".to_owned(),
-        Cell::Value(value) => value.to_string(),
+        Cell::Measured(value) => value.to_string(),
+        Cell::WorkedOut(value) => format!("{value}~"),
     }
 }
 
