@@ -56,7 +56,14 @@ fn runs_agree() {
     tally.require(LEAST, &[0, 20, 21].map(refusal_name));
     tally.require(LEAST, &["letters 1 to 99", "letters 100 to 9,999"]);
     tally.require(100, &["letters 10,000 and more", REPEATED]);
+}
+
+/// What rules make of marks, each transition in many runs.
+#[test]
+fn runs_over_marks_agree() {
+    let tally = tallied("runs over marks", 107, 10_000, trials::with_marks);
     tally.require(LEAST, &Transition::ALL.map(|(_, name)| name));
+    tally.require(LEAST, &[0, 20].map(refusal_name));
 }
 
 #[test]
