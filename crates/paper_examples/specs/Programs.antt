@@ -21,12 +21,12 @@ use Rattle.text_rules.specs.Check.{lineRefusal, planFits, sortsAgree, oneSort, 
 use Rattle.program.specs.declared.rule.Operator.the-variants.{Plus}
 use Rattle.program.specs.declared.rule.Sort.the-variants.{Total}
 use Rattle.program.specs.Program.{Expression, reading, constant, operation, always, Target, own, remote, Rule, Step, Program, expressionReadings, testReadings, targetReadings, ruleReadings, readings, stepPlan, isLeast, isTotal, someTarget}
-use Rattle.text_rules.specs.Text.{textProgram, readFrom, start, closedText, lineOutcome, advance, settingIn, withStep, writtenRule as programRule, writtenTarget, writtenExpression, writtenTest, writtenTerm, pieceForm, lines, onto}
+use Rattle.text_rules.specs.Text.{textProgram, readFrom, start, closedText, lineOutcome, advance, closeLoop, lastOf, settingIn, withStep, writtenRule as programRule, writtenTarget, writtenExpression, writtenTest, writtenTerm, pieceForm, lines, onto}
 use Rattle.program.specs.declared.setting.Setting.the-variants.{Single, Looped}
 
 -- the program of a text over a register of n records with the fields A and M
 unfoldable pub exampleProgram : ℕ → String → Outcome Program
-unfolding textProgram readFrom start closedText lineOutcome advance settingIn withStep programRule writtenTarget writtenExpression writtenTest writtenTerm pieceForm lines onto after unless lineRefusal planFits sortsAgree oneSort someTarget isTotal isLeast hasRoom inPlace openRules isOpen isUsed isOutside numbersInRange termInRange short termShort kinded kindsAgree actionKinds areMeasures conditionKinds sameKind isReferenceTerm termKinded named fieldNamed termNamed target everyTerm terms actionTerms conditionTerms lineForm testedForm compared ruleLine actionForm remoteForm sentForms localForm assigned termForm ofChain ofNumber capital then literal or finished isDigit digits decimal allDigits centimetres wholeDigits noLeadingZero twoDecimals isNumeral withDecimals numeral printedNumeral signedForm numberForm numberValue signedValue inRange startsWith C.isCapital C.closed C.form C.letterField C.isReferenceLetter C.names every C.innerReferences C.wordOf stepPlan readings ruleReadings targetReadings testReadings expressionReadings plan addReadings add planLines listed lineIndex sameFact sameWord tree treeWithin half doubled front rest
+unfolding textProgram readFrom start closedText lineOutcome advance closeLoop lastOf settingIn withStep programRule writtenTarget writtenExpression writtenTest writtenTerm pieceForm lines onto after unless lineRefusal planFits sortsAgree oneSort someTarget isTotal isLeast hasRoom inPlace openRules isOpen isUsed isOutside numbersInRange termInRange short termShort kinded kindsAgree actionKinds areMeasures conditionKinds sameKind isReferenceTerm termKinded named fieldNamed termNamed target everyTerm terms actionTerms conditionTerms lineForm testedForm compared ruleLine actionForm remoteForm sentForms localForm assigned termForm ofChain ofNumber capital then literal or finished isDigit digits decimal allDigits centimetres wholeDigits noLeadingZero twoDecimals isNumeral withDecimals numeral printedNumeral signedForm numberForm numberValue signedValue inRange startsWith C.isCapital C.closed C.form C.letterField C.isReferenceLetter C.names every C.innerReferences C.wordOf stepPlan readings ruleReadings targetReadings testReadings expressionReadings plan addReadings add planLines listed lineIndex sameFact sameWord tree treeWithin half doubled front rest
 exampleProgram n t = textProgram (record { records = n; references = 1; measures = 1 }) (bytes t)
 
 -- a rule without a test, and a step outside loops

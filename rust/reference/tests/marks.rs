@@ -160,10 +160,10 @@ fn a_loop_that_only_marks_is_at_rest() {
 fn after_20_and_21_marks_are_as_loaded() {
     let before = [Measured(5), WorkedOut(5), Missing];
     for text in [
-        "step\nM[u] := 1\nend\nstep\nM[u] := 2147483647 + 1\nend\n".to_owned(),
-        "step\nM[u] := 1\nend\n".repeat(32) + &"loop M\nstep\nM[u] := 1 - M[u]\nend\ndone\n",
+        "step\nM[u] := 1\nend\nstep\nM[u] := 2147483647 + 1\nend\n",
+        "step\nM[u] := 1\nend\nloop M\nstep\nM[u] := 1 - M[u]\nend\ndone\n",
     ] {
-        let left = left(before, &text);
+        let left = left(before, text);
         assert_ne!(left.run.end.number(), 0);
         assert_eq!([1, 3, 5].map(|place| left.cells[place]), before);
     }
