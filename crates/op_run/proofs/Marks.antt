@@ -1,14 +1,13 @@
 -- Where the marks of the output come from, by either machine and however the run ends (M-107).
-use Prim.Native.Nat.{ℕ, _*_, _<_}
+use Prim.Native.Nat.{ℕ}
 use mathlib.Core.Path.{_≡_, refl, sym, ap, _∙_}
 use mathlib.Core.List.{List}
 use native.Mathlib.Omega.{arith}
 use lib.IntN.{ℤ}
 use lib.ListN.{getD}
-use Rattle.integers.specs.Bytes.{valueAt}
 use Rattle.laws.specs.Outcome.{done}
 use Rattle.register.specs.Cells.{valueOf, markOf}
-use Rattle.register.specs.File.{cellCount, sizesOf, valuesPart, marksPart, cellsOfFile, fileOf}
+use Rattle.register.specs.File.{sizesOf, cellsOfFile, fileOf}
 use Rattle.register.specs.Shape.{Valid, Register}
 use Rattle.register.specs.declared.Sizes.{Sizes}
 use Rattle.register.specs.declared.cells.Cell.{Cell}
@@ -73,7 +72,8 @@ module _ (m : Machine) (file text : List ℕ) {p : Program} (e : check file text
   valid : Valid s (end .cells)
   valid = run-valid s (passed file text e) (register file text e bytes .valid) budget
 
-  module _ {out : List ℕ} {values values′ : List ℤ} {marks marks′ : List ℕ} {r : RunAnswer} (a : RunAnswered m end file out values marks values′ marks′ r) where
+  module _ {out : List ℕ} {values values′ : List ℤ} {marks marks′ : List ℕ} {r : RunAnswer}
+      (a : RunAnswered m end file out values marks values′ marks′ r) where
     -- a cell marked 1 in the output was marked 1 in the register as loaded, with the same value
     pub output-measured : MeasuredBefore s file out
     output-measured =

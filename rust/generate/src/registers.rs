@@ -64,6 +64,14 @@ pub fn cells(random: &mut Random, sizes: Sizes, density: usize) -> Vec<Cell> {
     cells
 }
 
+/// The same cell, with a mark drawn anew where it is filled.
+pub fn marked_anew(random: &mut Random, cell: Cell) -> Cell {
+    match cell.value() {
+        None => Cell::Missing,
+        Some(value) => filled(random, value),
+    }
+}
+
 /// A filled cell with this value: measured, seldom worked out.
 fn filled(random: &mut Random, value: i32) -> Cell {
     match random.percent(25) {

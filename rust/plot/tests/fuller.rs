@@ -87,9 +87,10 @@ impl Pair {
         let ways = readings.iter().flat_map(|r| r.way(sizes, &second));
         let ways: Vec<usize> = ways.collect();
         let first = with_gaps(random, &second, &ways);
-        let differ = if ways.iter().any(|&place| first[place] != second[place]) {
+        let differs = |&place: &usize| first[place].value() != second[place].value();
+        let differ = if ways.iter().any(differs) {
             ON_THE_WAY
-        } else if first != second {
+        } else if (0..first.len()).any(|place| differs(&place)) {
             ELSEWHERE
         } else {
             EQUAL
@@ -160,12 +161,13 @@ fn loaded(file: &[u8]) -> Register {
     Register::from_bytes(file).expect("it loads")
 }
 
-/// These cells with some unfilled, most often one at a place of some ways.
+/// These cells with marks drawn anew and some unfilled, most often one at a place of
+/// some ways.
 fn with_gaps(random: &mut Random, cells: &[Cell], ways: &[usize]) -> Vec<Cell> {
     let gaps = random.pick(&[0, 0, 3, 10, 50]);
     let kept = |&cell: &Cell| match random.percent(gaps) {
         true => Cell::Missing,
-        false => cell,
+        false => registers::marked_anew(random, cell),
     };
     let mut cells: Vec<Cell> = cells.iter().map(kept).collect();
     if !ways.is_empty() && random.percent(80) {

@@ -122,8 +122,8 @@ fn compare(
     from_paper
 }
 
-/// A register of the same sizes that agrees on the listed cells, all else drawn
-/// anew: the same path, and the same reading.
+/// A register of the same sizes that agrees on the listed cells, values and whether
+/// filled, all else drawn anew: the same path, and the same reading.
 fn compare_other(
     random: &mut Random,
     tally: &mut Tally,
@@ -135,13 +135,15 @@ fn compare_other(
     let density = registers::density(random);
     let mut cells = registers::cells(random, sizes, density);
     for hop in hops {
-        cells[place(sizes, hop)] = hop.cell;
+        cells[place(sizes, hop)] = registers::marked_anew(random, hop.cell);
     }
     let other = encode(sizes, &cells);
     let _failing = OnFailure::new(&other)
         .bytes("chain", chain)
         .number("record", record as u64);
-    assert_eq!(path(&other, chain, record as u64).as_deref(), Ok(hops));
+    let same = path(&other, chain, record as u64).expect("it is not refused");
+    let shows = |hop: &Hop| (hop.record, hop.field, hop.cell.value());
+    assert!(same.iter().map(shows).eq(hops.iter().map(shows)));
     let register = plot::Register::from_bytes(&other[..]).expect("it loads");
     let listed = register.path(chain, record).expect("it is not refused");
     assert_eq!(listed.hops.len(), hops.len());

@@ -67,6 +67,9 @@ pub fn folders() -> Vec<Folder> {
 /// What the program prints of the printed register as it is.
 const UNTOUCHED: &str = "3 records 0 steps 0 exchanges 0 letters\n0 1 -\n1 2 0\n2 - 180\n";
 
+/// The same with the last depth worked out.
+const WORKED_OUT: &str = "3 records 0 steps 0 exchanges 0 letters\n0 1 -\n1 2 0\n2 - 180~\n";
+
 /// Files that are missing, empty and as printed.
 fn files() -> Vec<Folder> {
     let row = |name, text| Folder::refused(name, b"", text, (1, 0));
@@ -74,6 +77,7 @@ fn files() -> Vec<Folder> {
         Folder::new("printed example", &register(), TEXT, OUTPUT),
         Folder::new("no rules", &register(), b"", UNTOUCHED).without_text(),
         Folder::new("empty rules", &register(), b"", UNTOUCHED),
+        Folder::new("a mark of 2", &with_byte(41, 2), b"", WORKED_OUT),
         row("no register", TEXT).without_register(),
         row("no files", b"").without_register().without_text(),
         row("empty register", TEXT),
