@@ -1,10 +1,13 @@
 -- The product of a value and the factor of a mark.
-use Prim.Native.Nat.{ℕ, zero, suc, _+_, _/_, _≤_}
+use Prim.Native.Nat.{ℕ, zero, suc, _≤_}
 use mathlib.Core.Path.{_≡_, refl}
+use mathlib.Core.Bool.{not}
 use native.Mathlib.Omega.{arith}
+use borrow.Author.Tests.{ne-eqb}
+use lib.Dec.{eqb}
 use lib.IntN.{ℤ, pos, one, _*ℤ_, *ℤ-zero, *ℤ-one}
 use mir.Syntax.{w32}
-use mir.Val.{SFits}
+use mir.Val.{SFits, boolByte}
 use Rattle.integers.specs.Factor.{factor}
 
 -- value × 0 is 0, and value × 1 is the value
@@ -21,8 +24,13 @@ unfolding factor
 times-fits z zero fits = rw times-zero (record { sfits = omega arith })
 times-fits z (suc mark) fits = rw times-one fits
 
--- half of a mark, rounded up, is its factor
-pub half-factor : (mark : ℕ) → mark ≤ 2 → (mark + 1) / 2 ≡ factor mark
+-- whether a mark is not 0, as a byte, is its factor
+pub byte-factor : (mark : ℕ) → boolByte (not (eqb mark 0)) ≡ factor mark
 unfolding factor
-half-factor zero h = refl
-half-factor (suc mark) h = omega arith
+byte-factor zero = refl
+byte-factor (suc mark) = simp (ne-eqb (suc mark) 0 (omega arith))
+
+pub factor≤ : (mark : ℕ) → factor mark ≤ 1
+unfolding factor
+factor≤ zero = omega arith
+factor≤ (suc mark) = omega arith

@@ -89,7 +89,7 @@ pub fn times_mark(value: i32, mark: u8) -> i32
     requires { ⌜ mark ≤ 2 ⌝ }
     ensures { λ r. ⌜ r ≡ value *ℤ pos (factor mark) ⌝ }
 {
-    value * ((mark + 1) / 2) as i32
+    value * (mark != 0) as i32
 }
 
 pub fn in_range(sum: i64) -> Sum
