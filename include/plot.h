@@ -2,7 +2,9 @@
  * plot.h: plot registers and their rules, for programs in C and C++.
  *
  * Link with target/staticlib/libc_api.a (x86-64 Linux); nothing else is needed.
- * docs/MANUAL.md says what a register, a chain and a rules text are.
+ * docs/MANUAL.md says what a register, a chain and a rules text are. The mark of a
+ * cell in a register file is 0 unfilled, 1 measured, 2 worked out by a rule; a cell
+ * with mark 1 or 2 is filled.
  *
  * Every function takes every input: any bytes, any numbers, any lengths. The
  * result is 0, or the number of a refusal (enum plot_refusal).
@@ -66,7 +68,7 @@ enum plot_kind {
 enum plot_refusal {
     PLOT_REFUSAL_FILE_LENGTH = 1,    /* the register file has the wrong length */
     PLOT_REFUSAL_SIZE = 2,           /* a size of the register is over its limit */
-    PLOT_REFUSAL_MARK = 3,           /* a mark is neither 0 nor 1 */
+    PLOT_REFUSAL_MARK = 3,           /* a mark is none of 0, 1 and 2 */
     PLOT_REFUSAL_UNFILLED_VALUE = 4, /* an unfilled cell has a value other than 0 */
     PLOT_REFUSAL_REFERENCE = 5,      /* a reference leads to no record */
     PLOT_REFUSAL_TEXT_LENGTH = 6,    /* the rules text is too long */
@@ -103,8 +105,8 @@ uint32_t plot_read(const uint8_t *file, size_t file_length, const uint8_t *text,
  *
  * Refused as plot_read is. Otherwise answer[PLOT_ANSWER_HOPS] is the number of hops, 0
  * for the chain u, and for each hop i: records[i] is its record, fields[i] the letter of
- * its field, marks[i] the mark of that cell (0 unfilled), and values[i] its value, 0
- * where it is unfilled. Places behind the last hop become 0. On a refusal the four
+ * its field, marks[i] 1 where that cell is filled, measured or worked out, and 0 where it
+ * is not, and values[i] its value, 0 where it is unfilled. Places behind the last hop become 0. On a refusal the four
  * arrays stay as they were.
  *
  * The list is the whole reason: every register of the same sizes that agrees on these

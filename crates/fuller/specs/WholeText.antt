@@ -13,7 +13,7 @@ use Rattle.register.specs.File.{width, cellCount, cellIndex, sizesOf, valuesPar
 use Rattle.register.specs.Load.{withinLimits, cellRefusal, refusalAt, recordRefusal, cellsRefusal, loadSized, load}
 use Rattle.register.specs.declared.Sizes.{Sizes}
 use Rattle.register.specs.declared.cells.Cell.{Cell}
-use Rattle.register.specs.declared.cells.Cell.the-variants.{Missing, Value}
+use Rattle.register.specs.declared.cells.Cell.the-variants.{Missing, Measured}
 use Rattle.chain.specs.Word.{isReference, column, readOf, readCell, hop, follow, valueAtRecord}
 use Rattle.chain_text.specs.Text as C
 use Rattle.chain_text.specs.Scan.{startsWith}
@@ -36,10 +36,10 @@ abbrev pub pairSizes : Sizes
 pairSizes = record { records = 1; references = 0; measures = 2 }
 
 abbrev pub firstCells : List Cell
-firstCells = Value (pos 5) ∷ Missing ∷ []
+firstCells = Measured (pos 5) ∷ Missing ∷ []
 
 abbrev pub secondCells : List Cell
-secondCells = Value (pos 5) ∷ Value (pos 7) ∷ []
+secondCells = Measured (pos 5) ∷ Measured (pos 7) ∷ []
 
 -- the text that alters M where N is filled
 abbrev pub alteringText : List ℕ

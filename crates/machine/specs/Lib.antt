@@ -5,3 +5,4 @@ pub mod Remote
 pub mod Step
 pub mod Run
 pub mod Filled
+pub mod Marks

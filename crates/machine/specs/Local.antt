@@ -7,7 +7,7 @@ use lib.ListN.{getD, set as put}
 use Rattle.register.specs.File.{cellIndex}
 use Rattle.register.specs.declared.Sizes.{Sizes}
 use Rattle.register.specs.declared.cells.Cell.{Cell}
-use Rattle.register.specs.declared.cells.Cell.the-variants.{Missing as Unfilled, Value as Filled}
+use Rattle.register.specs.declared.cells.Cell.the-variants.{Missing as Unfilled, WorkedOut}
 use Rattle.chain.specs.declared.reading.Reading.{Reading}
 use Rattle.chain.specs.declared.reading.Reading.the-variants.{Missing, Value}
 use Rattle.chain.specs.Word.{column}
@@ -15,9 +15,10 @@ use Rattle.program.specs.Program.{Target, own, remote, Rule, targetField}
 use Rattle.machine.specs.Value.{value, overflows, holds}
 
 -- what `:=` makes of a cell: "`:=` with an unfilled reading or sum now leaves the cell as earlier rules of that step left it"
+-- (M-103), and "Any stored `:=` .. leaves mark 2" (M-107)
 unfoldable pub storedOver : Reading → Cell → Cell
 storedOver Missing c = c
-storedOver (Value z) c = Filled z
+storedOver (Value z) c = WorkedOut z
 
 -- the cells with a reading stored for record u; a remote rule stores nothing here
 unfoldable pub assign : Sizes → ℕ → Target → Reading → List Cell → List Cell

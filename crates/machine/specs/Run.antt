@@ -23,7 +23,7 @@ Reader = List Rule → List Cell → ℕ → List ℕ → Reading
 unfoldable pub direct : Sizes → Reader
 direct s rs cells u w = valueAtRecord s cells w u
 
--- "the same, values and marks"
+-- "Loops compare values and whether filled, not 1 against 2" (M-107)
 unfoldable pub sameReading : Reading → Reading → Bool
 sameReading Missing Missing = true
 sameReading Missing (Value b) = false

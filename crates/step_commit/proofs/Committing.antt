@@ -8,7 +8,6 @@ use native.Mathlib.Omega.{arith}
 use native.Mathlib.Numerals.{add-one}
 use native.Mathlib.Decide.{ℕ-discrete}
 use borrow.Author.Count.{below-none, below-more}
-use borrow.Author.Tests.{ne-eqb}
 use lib.IntN.{ℤ}
 use lib.ListN.{length, getD, set, length-set}
 use lib.Seq.{getD-set-same, getD-set-other, ext-getD}
@@ -28,6 +27,7 @@ use Rattle.laws.proofs.Cases.{true-or-false, lt-or-le}
 use Rattle.step_cells.specs.Work.{HoldsCells}
 use Rattle.step_cells.proofs.Working.{held-at}
 use Rattle.chain.specs.Word.{readOf}
+use Rattle.chain.proofs.ReadOf.{read-filled}
 use Rattle.machine.specs.Value.{readingInRange, cellInRange}
 use Rattle.machine.proofs.Keeping.{fits-in-range}
 use Rattle.step_commit.specs.Committed.{OneCommitted, working, putColumn, isWritten, putColumns, OneColumn, AllCommitted, CommitStops}
@@ -49,7 +49,7 @@ total-told z = go (inRange z) refl
 pub cell-in-range : (z : ℤ) (mark : ℕ) → Canonical z mark → cellInRange (cellOf z mark) ≡ inRange z
 unfolding cellInRange readingInRange readOf cellOf inRange
 cell-in-range z zero h = rw (h .missing refl) refl
-cell-in-range z (suc k) h = rw (ne-eqb (suc k) 0 (λ e. omega arith)) refl
+cell-in-range z (suc k) h = rw (read-filled z (suc k) (λ e. omega arith)) refl
 
 -- one of the first n, or the one behind them
 below-or-last : (i n : ℕ) → i < suc n → (i < n) ⊎ (i ≡ n)

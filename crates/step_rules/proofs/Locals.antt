@@ -17,7 +17,7 @@ use Rattle.register.specs.File.{cellCount, cellIndex}
 use Rattle.register.specs.Shape.{Limits}
 use Rattle.register.specs.declared.Sizes.{Sizes}
 use Rattle.register.specs.declared.cells.Cell.{Cell}
-use Rattle.register.specs.declared.cells.Cell.the-variants.{Value}
+use Rattle.register.specs.declared.cells.Cell.the-variants.{WorkedOut}
 use Rattle.register.proofs.Bounds.{cellIndex-below}
 use Rattle.chain.specs.declared.reading.Reading.{Reading}
 use Rattle.chain.specs.Word.{hasField, column}
@@ -70,7 +70,7 @@ module _ (s : Sizes) (cells : List Cell) (u : ℕ) (r : Rule) where
 
     pub rule-stores : (f : ℕ) (z : ℤ) {values′ : List ℤ} {marks′ : List ℕ} → writeOf read r ≡ Store f z → Limits s → u < s .records
         → hasField s (targetField (r .target)) ≡ true → Room base (cellCount s) values marks
-        → Put (base + cellIndex s u (column s f)) (Value z) values marks values′ marks′ → SFits w32 z
+        → Put (base + cellIndex s u (column s f)) (WorkedOut z) values marks values′ marks′ → SFits w32 z
         → LocalRule s cells base u r values marks values′ marks′ Nowhere
     unfolding valueOf
     rule-stores f z e limits row field room p fits =

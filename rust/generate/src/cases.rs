@@ -1,5 +1,6 @@
 //! Registers that load, each with a text that passes for it.
 
+use crate::marks;
 use crate::random::Random;
 use crate::registers;
 use crate::texts::{self, Shape};
@@ -58,6 +59,24 @@ impl Case {
                 case.register = encode(sizes, &registers::cells(random, sizes, density));
                 return case;
             }
+        }
+    }
+
+    /// A small case whose values are all near 0, so that rules often store what is there, add nothing
+    /// and offer what is not smaller.
+    pub fn with_marks(random: &mut Random) -> Case {
+        let sizes = Sizes {
+            records: random.between(1, 4),
+            references: 1,
+            measures: 1,
+        };
+        let text = marks::text(random).into_bytes();
+        let program = read_text(&text, &sizes).expect("the text passes");
+        Case {
+            sizes,
+            register: encode(sizes, &marks::cells(random, sizes)),
+            text,
+            program,
         }
     }
 

@@ -1,6 +1,7 @@
 //! What a step does with its readings: local rules, then remote writes. Both
 //! machines do it alike; they differ in how a record comes to know a reading.
 
+use crate::marks::{Transition, Transitions};
 use crate::program::{PlannedRule, Reading, Step};
 use crate::register::{Cell, Sizes};
 use crate::rule::{Action, Comparison, Sort, Stored, Term, Test};
@@ -8,7 +9,7 @@ use crate::rule::{Action, Comparison, Sort, Stored, Term, Test};
 /// What the records know of the cells as they stood before a step.
 pub trait Knowledge {
     /// A reading at a record.
-    fn read(&self, reading: &Reading, record: usize) -> Cell;
+    fn read(&self, reading: &Reading, record: usize) -> Option<i32>;
 }
 
 /// A record and a field.
@@ -29,9 +30,12 @@ pub struct Work {
     sizes: Sizes,
     /// The cells, which stand as the step leaves them once it has been applied.
     pub cells: Vec<Cell>,
-    amounts: Vec<i64>,
+    /// For each cell the amounts of the `+=` letters that reached it.
+    amounts: Vec<Option<i64>>,
     /// How often a gap has left what an earlier rule of its step had stored.
     pub kept: u64,
+    /// What rules made of cells and their marks.
+    pub transitions: Transitions,
 }
 
 impl Work {
@@ -40,8 +44,9 @@ impl Work {
         Work {
             sizes,
             cells: vec![Cell::Missing; sizes.cells()],
-            amounts: vec![0; sizes.cells()],
+            amounts: vec![None; sizes.cells()],
             kept: 0,
+            transitions: Transitions::default(),
         }
     }
 
@@ -81,7 +86,7 @@ impl Work {
                     }
                     Written::Value(value) => {
                         let place = self.place(record, field);
-                        self.cells[place] = Cell::Value(value);
+                        self.assign(place, value);
                     }
                     Written::OutOfRange => outside.push(Place { record, field }),
                 }
@@ -103,7 +108,7 @@ impl Work {
                     continue;
                 }
                 let (target, x) = (known.read(target, record), value(x, record, known));
-                if let (Cell::Value(target), Cell::Value(x)) = (target, x) {
+                if let (Some(target), Some(x)) = (target, x) {
                     self.deliver(*sort, self.place(target as usize, rule.field), x);
                     letters += 1;
                 }
@@ -112,25 +117,59 @@ impl Work {
         letters
     }
 
-    /// `<?=` keeps the smaller, and fills a missing cell; `+=` collects amounts.
+    /// `:=` leaves mark 2, whatever was there and whatever was read.
+    fn assign(&mut self, place: usize, value: i32) {
+        let cell = &mut self.cells[place];
+        self.transitions.count(match *cell {
+            Cell::Missing => Transition::AssignedUnfilled,
+            Cell::Measured(same) if same == value => Transition::AssignedSame,
+            Cell::Measured(_) => Transition::AssignedMeasured,
+            Cell::WorkedOut(_) => Transition::AssignedWorkedOut,
+        });
+        *cell = Cell::WorkedOut(value);
+    }
+
     fn deliver(&mut self, sort: Sort, place: usize, x: i32) {
-        match (sort, self.cells[place]) {
-            (Sort::Least, Cell::Missing) => self.cells[place] = Cell::Value(x),
-            (Sort::Least, Cell::Value(cell)) => self.cells[place] = Cell::Value(cell.min(x)),
-            (Sort::Add, _) => self.amounts[place] += i64::from(x),
+        match sort {
+            Sort::Least => self.keep_least(place, x),
+            Sort::Add => *self.amounts[place].get_or_insert(0) += i64::from(x),
         }
     }
 
+    /// `<?=` keeps the smaller, and fills a missing cell; it leaves mark 2 where it
+    /// does one or the other, and the cell as it is where it is not smaller.
+    fn keep_least(&mut self, place: usize, x: i32) {
+        let cell = &mut self.cells[place];
+        let (transition, left) = match *cell {
+            Cell::Missing => (Transition::LeastFills, Cell::WorkedOut(x)),
+            Cell::Measured(value) if x < value => (Transition::LeastChanges, Cell::WorkedOut(x)),
+            Cell::WorkedOut(value) if x < value => (Transition::LeastAgain, Cell::WorkedOut(x)),
+            Cell::Measured(_) => (Transition::LeastLeavesMeasured, *cell),
+            Cell::WorkedOut(_) => (Transition::LeastLeavesWorkedOut, *cell),
+        };
+        self.transitions.count(transition);
+        *cell = left;
+    }
+
     /// All amounts go to their cells as one whole number; only this total must be
-    /// in range. A missing cell stays missing and has no total.
+    /// in range. A filled cell that one of them reached is left with mark 2, also
+    /// where they come to 0. A missing cell stays missing and has no total.
     fn add_amounts(&mut self) -> Result<(), OutOfRange> {
         let fields = self.sizes.fields();
         let mut outside = Vec::new();
         for (place, (cell, amount)) in self.cells.iter_mut().zip(&mut self.amounts).enumerate() {
-            let amount = std::mem::take(amount);
-            if let Cell::Value(value) = cell {
-                match i32::try_from(i64::from(*value) + amount) {
-                    Ok(total) => *value = total,
+            let Some(amount) = amount.take() else {
+                continue;
+            };
+            self.transitions.count(match *cell {
+                Cell::Missing => Transition::AddedUnfilled,
+                Cell::Measured(_) if amount == 0 => Transition::AddedNothing,
+                Cell::Measured(_) => Transition::AddedMeasured,
+                Cell::WorkedOut(_) => Transition::AddedWorkedOut,
+            });
+            if let Some(value) = cell.value() {
+                match i32::try_from(i64::from(value) + amount) {
+                    Ok(total) => *cell = Cell::WorkedOut(total),
                     Err(_) => outside.push(Place {
                         record: place / fields,
                         field: place % fields,
@@ -160,7 +199,7 @@ fn passes(test: &Option<Test<Reading>>, record: usize, known: &impl Knowledge) -
         value(&test.right, record, known),
     );
     match sides {
-        (Cell::Value(left), Cell::Value(right)) => match test.comparison {
+        (Some(left), Some(right)) => match test.comparison {
             Comparison::Less => left < right,
             Comparison::Equal => left == right,
             Comparison::NotEqual => left != right,
@@ -169,10 +208,10 @@ fn passes(test: &Option<Test<Reading>>, record: usize, known: &impl Knowledge) -
     }
 }
 
-fn value(term: &Term<Reading>, record: usize, known: &impl Knowledge) -> Cell {
+fn value(term: &Term<Reading>, record: usize, known: &impl Knowledge) -> Option<i32> {
     match term {
         Term::Chain(reading) => known.read(reading, record),
-        Term::Number(number) => Cell::Value(*number as i32),
+        Term::Number(number) => Some(*number as i32),
     }
 }
 
@@ -195,19 +234,16 @@ fn written(rule: &PlannedRule, record: usize, known: &impl Knowledge) -> Written
     }
     let value = |term| value(term, record, known);
     match stored {
-        Stored::Term(x) => match value(x) {
-            Cell::Missing => Written::Gap,
-            Cell::Value(x) => Written::Value(x),
-        },
+        Stored::Term(x) => value(x).map_or(Written::Gap, Written::Value),
         Stored::Sum(x, y) => combine(value(x), value(y), i32::checked_add),
         Stored::Difference(x, y) => combine(value(x), value(y), i32::checked_sub),
     }
 }
 
 /// A sum with a missing side is missing.
-fn combine(x: Cell, y: Cell, sum: impl Fn(i32, i32) -> Option<i32>) -> Written {
+fn combine(x: Option<i32>, y: Option<i32>, sum: impl Fn(i32, i32) -> Option<i32>) -> Written {
     match (x, y) {
-        (Cell::Value(x), Cell::Value(y)) => sum(x, y).map_or(Written::OutOfRange, Written::Value),
+        (Some(x), Some(y)) => sum(x, y).map_or(Written::OutOfRange, Written::Value),
         _ => Written::Gap,
     }
 }

@@ -7,6 +7,7 @@ pub mod chain;
 pub mod direct;
 pub mod form;
 pub mod line_check;
+pub mod marks;
 pub mod messages;
 pub mod path;
 pub mod plan;

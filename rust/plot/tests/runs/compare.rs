@@ -8,6 +8,7 @@ use generate::random::Random;
 use plot::lent::{self, Answer, RunBuffers};
 use reference::apply::Place;
 use reference::direct::run_direct;
+use reference::marks::Transitions;
 use reference::messages::run_messages;
 use reference::run::{End, Run, RunBy};
 
@@ -36,6 +37,8 @@ pub struct Left {
     pub answer: Answer,
     /// How often a gap left what an earlier rule of its step had stored.
     pub kept: u64,
+    /// What rules made of cells and their marks.
+    pub transitions: Transitions,
     buffers: RunBuffers,
 }
 
@@ -73,6 +76,7 @@ impl Machine {
             }
             Ok(run) => {
                 left.kept = run.kept;
+                left.transitions = run.transitions;
                 answered(run, &left.answer)
             }
         };
@@ -90,6 +94,7 @@ impl Machine {
             number,
             answer,
             kept: 0,
+            transitions: Transitions::default(),
             buffers,
         }
     }

@@ -6,6 +6,7 @@ use crate::trials::{self, Trial};
 use generate::random::Random;
 use generate::tally::Tally;
 use plot::lent;
+use reference::marks::Transition;
 use reference::text::MAX_STEPS;
 
 /// Runs of texts that pass, by each machine.
@@ -32,6 +33,11 @@ fn tallied(title: &str, seed: u64, runs: usize, trial: fn(&mut Random) -> Trial)
         if left.kept > 0 {
             tally.count(KEPT);
         }
+        for (transition, name) in Transition::ALL {
+            if left.transitions.of(transition) > 0 {
+                tally.count(name);
+            }
+        }
         tally.count(match left.answer[lent::LETTERS] {
             0 => "letters 0",
             1..100 => "letters 1 to 99",
@@ -50,6 +56,14 @@ fn runs_agree() {
     tally.require(LEAST, &[0, 20, 21].map(refusal_name));
     tally.require(LEAST, &["letters 1 to 99", "letters 100 to 9,999"]);
     tally.require(100, &["letters 10,000 and more", REPEATED]);
+}
+
+/// What rules make of marks, each transition in many runs.
+#[test]
+fn runs_over_marks_agree() {
+    let tally = tallied("runs over marks", 107, 10_000, trials::with_marks);
+    tally.require(LEAST, &Transition::ALL.map(|(_, name)| name));
+    tally.require(LEAST, &[0, 20].map(refusal_name));
 }
 
 #[test]

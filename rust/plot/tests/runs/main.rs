@@ -6,6 +6,7 @@ mod common;
 mod compare;
 mod generated;
 mod inspections;
+mod marks;
 mod metres;
 mod planned;
 mod trials;

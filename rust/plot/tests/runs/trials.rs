@@ -86,6 +86,12 @@ pub fn with_gaps(random: &mut Random) -> Trial {
     Trial::new(random, case, 40)
 }
 
+/// The same with few values, which rules store, add and compare again and again.
+pub fn with_marks(random: &mut Random) -> Trial {
+    let case = Case::with_marks(random);
+    Trial::new(random, case, 20)
+}
+
 /// The same with as many records as may be, and a small budget.
 pub fn large(random: &mut Random) -> Trial {
     let sizes = registers::large_sizes(random);
