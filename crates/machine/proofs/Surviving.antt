@@ -22,9 +22,10 @@ use Rattle.machine.specs.Filled.{StayFilled}
 use Rattle.machine.specs.Value.{value, holds}
 use Rattle.machine.specs.Local.{storedOver, assign, localRule, localRules, localRecords}
 use Rattle.machine.specs.Remote.{recordMessages, smaller, increased, merged, deliver, deliverAll}
-use Rattle.machine.specs.Step.{stepCells, stops}
+use Rattle.machine.specs.Step.{stepCells, offence}
 use Rattle.machine.specs.Run.{Reader, Pass, Run, behind, stepFirst, runFrom, run}
 use Rattle.machine.proofs.Refers.{change-keeps}
+use Rattle.machine.proofs.Stops.{offended-cases}
 
 -- a filled cell is filled behind `:=`
 storedOver-filled : (x : Reading) (c : Cell) → isFilled (readOf c) ≡ true → isFilled (readOf (storedOver x c)) ≡ true
@@ -77,8 +78,8 @@ module _ (s : Sizes) where
   runFrom-fills reader zero (x ∷ rest) p cells j h = h
   runFrom-fills reader (suc budget) [] p cells j h = h
   runFrom-fills reader (suc budget) (x ∷ rest) p cells j h =
-      cond-both (λ (r : Run). isFilled (readOf (getD (r .cells) j Missing)) ≡ true) (stops s (reader (x .rules) cells) (x .rules) cells) _ _ h
-      (runFrom-fills reader budget _ _ _ j (step-fills (reader (x .rules) cells) (x .rules) cells j h))
+      offended-cases (λ (r : Run). isFilled (readOf (getD (r .cells) j Missing)) ≡ true) (offence s (reader (x .rules) cells) (x .rules) cells) cells _ (λ o e. h)
+      (λ e. runFrom-fills reader budget _ _ _ j (step-fills (reader (x .rules) cells) (x .rules) cells j h))
 
   pub run-fills : (reader : Reader) (p : Program) (budget : ℕ) (cells : List Cell) → StayFilled cells (run s reader p budget cells .cells)
   unfolding run
