@@ -3,5 +3,6 @@ pub mod Value
 pub mod Local
 pub mod Remote
 pub mod Step
+pub mod Named
 pub mod Run
 pub mod Filled
