@@ -47,8 +47,8 @@ enum plot_answer {
     PLOT_ANSWER_FINISHED = 1,   /* runs: the finished steps, for 20 and 21 too */
     PLOT_ANSWER_EXCHANGES = 2,  /* plot_run_messages: the exchanges of these steps */
     PLOT_ANSWER_MESSAGES = 3,   /* plot_run_messages: the messages of these steps */
-    PLOT_ANSWER_RECORD = 4,     /* runs, for 21: the record, counted from 0 */
-    PLOT_ANSWER_FIELD = 5,      /* runs, for 21: the field, counted from 0, references first */
+    PLOT_ANSWER_RECORD = 4,     /* runs, for 21: the record of the first overflow, from 0 */
+    PLOT_ANSWER_FIELD = 5,      /* runs, for 21: its field, counted from 0, references first */
     PLOT_ANSWER_FILLED = 6,     /* plot_read: 1 filled, 0 unfilled */
     PLOT_ANSWER_HOPS = 6,       /* plot_path: the number of hops */
     PLOT_ANSWER_STEPS = 6,      /* plot_check: the number of steps */
@@ -161,14 +161,18 @@ uint32_t plot_inspect(const uint8_t *file, size_t file_length, const uint8_t *te
  * Refusals 1 to 5; 6 to 15; 18; 19: nothing is written but answer. Otherwise out is the
  * register at the end and the result 0; or the run was stopped, 20 or 21, and out is a
  * copy of file. What the working arrays hold afterwards means nothing.
+ *
+ * 21 names the first overflow: the lowest record at which a rule forms a sum out of range
+ * and the field that the earliest such rule writes; only where no record has one, the
+ * lowest record and in it the first field with a remote total out of range.
  */
 uint32_t plot_run_direct(const uint8_t *file, size_t file_length, const uint8_t *text, size_t text_length,
                          uint16_t budget, uint8_t *out, size_t out_length, int64_t *values, size_t values_length,
                          uint8_t *marks, size_t marks_length, uint64_t answer[8]);
 
 /*
- * The same by messages between the records: the same register, finished steps and
- * refusal, and answer has the exchanges and the messages too.
+ * The same by messages between the records: the same register, finished steps, refusal
+ * and place, and answer has the exchanges and the messages too.
  */
 uint32_t plot_run_messages(const uint8_t *file, size_t file_length, const uint8_t *text, size_t text_length,
                            uint16_t budget, uint8_t *out, size_t out_length, int64_t *values, size_t values_length,

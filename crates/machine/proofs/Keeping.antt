@@ -3,6 +3,7 @@ use Prim.Native.Nat.{ℕ, zero, suc, _<_}
 use mathlib.Core.Path.{_≡_, refl, sym, _∙_}
 use mathlib.Core.Bool.{true, false}
 use mathlib.Core.List.{List, [], _∷_}
+use mathlib.Core.Option.{none}
 use native.Mathlib.Omega.{arith}
 use lib.IntN.{ℤ}
 use mir.Syntax.{w32}
@@ -29,7 +30,7 @@ use Rattle.machine.specs.declared.message.Message.{Message}
 use Rattle.machine.specs.Value.{both, value, holds, readingInRange, cellInRange}
 use Rattle.machine.specs.Local.{storedOver, assign, localRule, localRules, localRecords}
 use Rattle.machine.specs.Remote.{sentTo, sentBy, ruleMessages, messages, recordMessages, isLowered, smaller, merged, deliver, deliverAll}
-use Rattle.machine.specs.Step.{stepCells, stops}
+use Rattle.machine.specs.Step.{stepCells, offence}
 use Rattle.machine.proofs.Folding.{stepCells-length}
 use Rattle.machine.proofs.Stops.{in-range-each}
 use Rattle.machine.proofs.Refers.{Refers, Change, change-refers}
@@ -150,7 +151,7 @@ module _ (s : Sizes) (lim : Limits s) (read : ℕ → List ℕ → Reading) (rs 
 -- the cells behind a step
 pub stepCells-valid : {s : Sizes} {cells : List Cell} → Valid s cells → {rs : List Rule} → RulesPass s rs → (read : ℕ → List ℕ → Reading)
     → ((u : ℕ) (w : List ℕ) → u < s .records → Passes s w → isReferenceWord w ≡ true → refersTo (s .records) (read u w) ≡ true)
-    → stops s read rs cells ≡ false → Valid s (stepCells s read rs cells)
+    → offence s read rs cells ≡ none → Valid s (stepCells s read rs cells)
 unfolding stepCells
 stepCells-valid {s} {cells} v {rs} k read within go-on = record {
   limits = v .limits;

@@ -25,9 +25,10 @@ use Rattle.machine.specs.Marks.{WereMeasured, WereUnfilled}
 use Rattle.machine.specs.Value.{value, holds}
 use Rattle.machine.specs.Local.{storedOver, assign, localRule, localRules, localRecords}
 use Rattle.machine.specs.Remote.{recordMessages, isLowered, smaller, added, increased, merged, deliver, deliverAll}
-use Rattle.machine.specs.Step.{stepCells, stops}
+use Rattle.machine.specs.Step.{stepCells, offence}
 use Rattle.machine.specs.Run.{Reader, Pass, Run, behind, stepFirst, runFrom, run}
 use Rattle.machine.proofs.Refers.{change-keeps}
+use Rattle.machine.proofs.Stops.{offended-cases}
 
 -- what `:=` and remote writes keep of a cell
 record Lasting (P : Cell → Type 0) : Type 0 where
@@ -75,8 +76,8 @@ module _ {P : Cell → Type 0} (k : Lasting P) (s : Sizes) (j : ℕ) where
   runFrom-keeps reader zero (x ∷ rest) p cells h = h
   runFrom-keeps reader (suc budget) [] p cells h = h
   runFrom-keeps reader (suc budget) (x ∷ rest) p cells h =
-      cond-both (λ (r : Run). At (r .cells)) (stops s (reader (x .rules) cells) (x .rules) cells) _ _ h
-      (runFrom-keeps reader budget _ _ _ (step-keeps (reader (x .rules) cells) (x .rules) cells h))
+      offended-cases (λ (r : Run). At (r .cells)) (offence s (reader (x .rules) cells) (x .rules) cells) cells _ (λ o e. h)
+      (λ e. runFrom-keeps reader budget _ _ _ (step-keeps (reader (x .rules) cells) (x .rules) cells h))
 
   run-keeps : (reader : Reader) (p : Program) (budget : ℕ) (cells : List Cell) → At cells → At (run s reader p budget cells .cells)
   unfolding run

@@ -59,7 +59,7 @@ output-is : (P : List ℕ → Type 0) (s : Sizes) (cells : List Cell) (file : Li
     → Ended s e cells file out r → P (fileOf s cells) → P file → P out
 output-is P s cells file complete out r h whole loaded = rw (h .1) whole
 output-is P s cells file exhausted out r h whole loaded = rw (h .1) loaded
-output-is P s cells file (offended rs before) out r h whole loaded = rw (h .2) loaded
+output-is P s cells file (offended o) out r h whole loaded = rw (h .1) loaded
 
 -- for every register that loads, text that passes and budget
 module _ (m : Machine) (file text : List ℕ) {p : Program} (e : check file text ≡ done p) (bytes : Bytes file) (budget : ℕ) where

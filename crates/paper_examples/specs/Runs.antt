@@ -12,16 +12,16 @@ use Rattle.register.specs.declared.cells.Cell.the-variants.{Missing, Measured, 
 use Rattle.chain.specs.Word.{isReference, column, readOf, readCell, hop, follow, valueAtRecord}
 use Rattle.program.specs.Program.{Step, Program, targetField}
 use Rattle.machine.specs.Value.{both, operate, combined, value, readingInRange, cellInRange, overflows, holds}
-use Rattle.machine.specs.Local.{storedOver, assign, localRule, localRules, localRecords, offends, sumOffends}
+use Rattle.machine.specs.Local.{storedOver, assign, localRule, localRules, localRecords, offends, sumColumn}
 use Rattle.machine.specs.Remote.{sentTo, sentBy, ruleMessages, messages, recordMessages, added, increased, merged, deliver, deliverAll}
-use Rattle.machine.specs.Step.{stepCells, offendsAt, someBelow, stops}
-use Rattle.machine.specs.Run.{Run, complete, exhausted, offended, direct, sameReading, sameColumn, entered, following, behind, stepFirst, runFrom, run}
+use Rattle.machine.specs.Step.{stepCells, earlier, firstSome, inRecord, sumOffence, totalColumn, totalOffence, offence}
+use Rattle.machine.specs.Run.{Run, complete, exhausted, offended, direct, sameReading, sameColumn, entered, following, behind, unlessOffended, stepFirst, runFrom, run}
 use Rattle.paper_examples.specs.Printed.{printedSizes, printedCells}
 use Rattle.paper_examples.specs.Programs.{printedStep, earlierStep, ownStep, aboveStep, mostStep, amountsStep, markingStep}
 
 -- the run of the direct machine: a program with a budget over the cells of a register
 unfoldable pub exampleRun : Sizes → Program → ℕ → List Cell → Run
-unfolding inRange eqZ width cellIndex isReference column readOf readCell hop follow valueAtRecord both operate combined value readingInRange cellInRange overflows holds targetField storedOver assign localRule localRules localRecords offends sumOffends sentTo sentBy ruleMessages messages recordMessages added increased merged deliver deliverAll stepCells offendsAt someBelow stops direct sameReading sameColumn entered following behind stepFirst runFrom run
+unfolding inRange eqZ width cellIndex isReference column readOf readCell hop follow valueAtRecord both operate combined value readingInRange cellInRange overflows holds targetField storedOver assign localRule localRules localRecords offends sumColumn sentTo sentBy ruleMessages messages recordMessages added increased merged deliver deliverAll stepCells earlier firstSome inRecord sumOffence totalColumn totalOffence offence direct sameReading sameColumn entered following behind unlessOffended stepFirst runFrom run
 exampleRun s program budget cells = run s (direct s) program budget cells
 
 -- over the printed register, "allowance 1,000"
@@ -68,9 +68,9 @@ pub own-filled : overPrinted (ownStep ∷ [])
 unfolding overPrinted
 own-filled = refl
 
--- "2147483647 + 1 stops"
+-- "2147483647 + 1 stops": at every record, so the lowest is named, and M is column 1
 pub above-stops : overPrinted (aboveStep ∷ [])
-    ≡ record { cells = printedCells; trace = []; ending = offended (aboveStep .rules) printedCells }
+    ≡ record { cells = printedCells; trace = []; ending = offended (record { row = 0; column = 1 }) }
 unfolding overPrinted
 above-stops = refl
 

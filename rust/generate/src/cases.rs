@@ -47,15 +47,25 @@ impl Case {
 
     /// A small case whose steps write a field again and again, over a register with gaps.
     pub fn with_gaps(random: &mut Random) -> Case {
+        Case::filled(random, texts::gap_shape, &[50, 80, 90])
+    }
+
+    /// A small case whose sums and totals go out of range at many places.
+    pub fn out_of_range(random: &mut Random) -> Case {
+        Case::filled(random, texts::overflow_shape, &[90, 100])
+    }
+
+    /// A small case of a shape, with one of these densities.
+    fn filled(random: &mut Random, shape: fn(&mut Random) -> Shape, densities: &[usize]) -> Case {
         let sizes = Sizes {
             records: random.between(2, 12),
             references: random.between(1, 3),
             measures: random.between(1, 3),
         };
         loop {
-            let shape = texts::gap_shape(random);
+            let shape = shape(random);
             if let Some(mut case) = Case::of_shape(random, sizes, shape) {
-                let density = random.pick(&[50, 80, 90]);
+                let density = random.pick(densities);
                 case.register = encode(sizes, &registers::cells(random, sizes, density));
                 return case;
             }

@@ -21,8 +21,28 @@ pub struct Place {
     pub field: usize,
 }
 
-/// All places where a sum or a total is out of range; 21 may name any of them.
-pub type OutOfRange = Vec<Place>;
+/// All places where a sum or a total is out of range.
+#[derive(Clone, Debug, Default, PartialEq, Eq)]
+pub struct OutOfRange {
+    /// The sums that rules form, in each record from the top.
+    pub sums: Vec<Place>,
+    /// The totals, of cells without such a sum.
+    pub totals: Vec<Place>,
+}
+
+impl OutOfRange {
+    /// What 21 names: the lowest record with such a sum and, in it, the field
+    /// that the earliest such rule writes; only where there is no such sum, the
+    /// lowest record, then first field, with such a total.
+    pub fn named(&self) -> Option<Place> {
+        let sum = self.sums.iter().min_by_key(|place| place.record);
+        let total = || {
+            let order = |place: &&Place| (place.record, place.field);
+            self.totals.iter().min_by_key(order)
+        };
+        sum.or_else(total).copied()
+    }
+}
 
 /// A step in work: the cells that it leaves, and the amounts added to them.
 #[derive(Clone, Debug)]
@@ -58,12 +78,17 @@ impl Work {
         known: &impl Knowledge,
     ) -> Result<u64, OutOfRange> {
         self.cells.copy_from_slice(before);
-        self.local_writes(step, known)?;
+        let sums = self.local_writes(step, known);
         let letters = self.remote_writes(step, known);
+        let mut totals = Vec::new();
         if step.has_additions() {
-            self.add_amounts()?;
+            totals = self.add_amounts();
+            totals.retain(|place| !sums.contains(place));
         }
-        Ok(letters)
+        match sums.is_empty() && totals.is_empty() {
+            true => Ok(letters),
+            false => Err(OutOfRange { sums, totals }),
+        }
     }
 
     fn place(&self, record: usize, field: usize) -> usize {
@@ -72,8 +97,9 @@ impl Work {
 
     /// For each record, each local rule in order; later ones overwrite earlier
     /// ones, but a sum out of range stops the run even where overwritten. A rule
-    /// that reads nothing leaves the cell as earlier rules left it.
-    fn local_writes(&mut self, step: &Step, known: &impl Knowledge) -> Result<(), OutOfRange> {
+    /// that reads nothing leaves the cell as earlier rules left it. Gives the
+    /// places of sums out of range.
+    fn local_writes(&mut self, step: &Step, known: &impl Knowledge) -> Vec<Place> {
         let mut outside = Vec::new();
         for record in 0..self.sizes.records {
             for (index, rule) in step.rules.iter().enumerate() {
@@ -92,7 +118,7 @@ impl Work {
                 }
             }
         }
-        none_outside(outside)
+        outside
     }
 
     /// One letter for each remote write whose test, if any, holds and whose C
@@ -153,8 +179,9 @@ impl Work {
 
     /// All amounts go to their cells as one whole number; only this total must be
     /// in range. A filled cell that one of them reached is left with mark 2, also
-    /// where they come to 0. A missing cell stays missing and has no total.
-    fn add_amounts(&mut self) -> Result<(), OutOfRange> {
+    /// where they come to 0. A missing cell stays missing and has no total. Gives
+    /// the places of totals out of range.
+    fn add_amounts(&mut self) -> Vec<Place> {
         let fields = self.sizes.fields();
         let mut outside = Vec::new();
         for (place, (cell, amount)) in self.cells.iter_mut().zip(&mut self.amounts).enumerate() {
@@ -177,14 +204,7 @@ impl Work {
                 }
             }
         }
-        none_outside(outside)
-    }
-}
-
-fn none_outside(outside: OutOfRange) -> Result<(), OutOfRange> {
-    match outside.is_empty() {
-        true => Ok(()),
-        false => Err(outside),
+        outside
     }
 }
 

@@ -38,7 +38,8 @@ pub enum End {
     Whole,
     /// 20: the finished steps equal the budget and there is a step to do.
     BudgetExhausted,
-    /// 21: a sum or a total is out of range, at each of these places.
+    /// 21: a sum or a total is out of range, at each of these places, of which it
+    /// names the first.
     OutOfRange(OutOfRange),
 }
 

@@ -4,11 +4,11 @@
 mod common;
 
 use common::{AMPLE, Left, measured, run};
-use reference::apply::Place;
+use reference::apply::{OutOfRange, Place};
 use reference::direct::run_direct;
 use reference::messages::run_messages;
 use reference::printed;
-use reference::register::Sizes;
+use reference::register::{Cell, Sizes};
 use reference::run::{End, Scratch};
 
 const MAX: i32 = i32::MAX;
@@ -21,6 +21,14 @@ fn printed_run(text: &str, budget: u16) -> Left {
 /// A step of these rules over the printed register.
 fn step(rules: &str) -> Left {
     printed_run(&format!("step\n{rules}\nend\n"), 1)
+}
+
+/// The record and field that 21 names, where a run ends so.
+fn named(left: &Left) -> Option<(usize, usize)> {
+    let End::OutOfRange(outside) = &left.run.end else {
+        return None;
+    };
+    outside.named().map(|place| (place.record, place.field))
 }
 
 /// The field of every record after a step over the printed register.
@@ -127,8 +135,13 @@ fn test_with_a_missing_side_does_not_hold() {
 #[test]
 fn sum_out_of_range_stops() {
     let left = step("M[u] := 2147483647 + 1");
-    let places: Vec<Place> = (0..3).map(|record| Place { record, field: 1 }).collect();
-    assert_eq!(left.run.end, End::OutOfRange(places));
+    let sums: Vec<Place> = (0..3).map(|record| Place { record, field: 1 }).collect();
+    let outside = OutOfRange {
+        sums,
+        totals: Vec::new(),
+    };
+    assert_eq!(left.run.end, End::OutOfRange(outside));
+    assert_eq!(named(&left), Some((0, 1)));
     assert_eq!(left.run.finished, 0);
     assert_eq!(left.cells, printed::CELLS);
     assert_eq!(column(1, "M[u] := 2147483647 + 0"), [Some(MAX); 3]);
@@ -148,16 +161,53 @@ fn overwritten_sum_stops_and_undone_sum_does_not() {
         [None, Some(0), Some(180)]
     );
     let left = step("M[u] := 2147483647 + M[u]");
-    assert_eq!(
-        left.run.end,
-        End::OutOfRange(vec![Place {
-            record: 2,
-            field: 1
-        }])
-    );
+    assert_eq!(named(&left), Some((2, 1)));
     assert_eq!(
         column(1, "if M[u] == 0: M[u] := 2147483647 + M[u]"),
         [None, Some(MAX), Some(180)]
+    );
+}
+
+/// A step over two records, a reference and two measures, all filled.
+fn full(cells: [i32; 6], rules: &str) -> Left {
+    let sizes = Sizes {
+        records: 2,
+        references: 1,
+        measures: 2,
+    };
+    run(
+        sizes,
+        &cells.map(Cell::Measured),
+        &format!("step\n{rules}\nend\n"),
+        9,
+    )
+}
+
+/// M-101: the lowest record with a sum, and the field of the earliest rule; only
+/// where there is none, the lowest record, then first field, with a total.
+#[test]
+fn the_first_overflow_is_named() {
+    let (sum, high) = ("2147483647 + 1", [0, MAX, MAX, 1, MAX, MAX]);
+    let at = |cells, rules: &str| named(&full(cells, rules));
+    let both = format!("N[u] := {sum}\nM[u] := {sum}\nN[u] := 0");
+    assert_eq!(at(high, &both), Some((0, 2)), "the earliest rule");
+    let done = format!("if A[u] != u: M[u] := {sum}");
+    assert_eq!(at([0; 6], &done), Some((1, 1)), "a rule that is done");
+    let later = "remote M[u] += 1\nN[u] := N[u] + 1";
+    let cells = [0, MAX, 0, 1, 0, MAX];
+    assert_eq!(at(cells, later), Some((1, 2)), "a sum before totals");
+    let totals = "remote M[u] += 1\nremote N[u] += 1";
+    assert_eq!(at(high, totals), Some((0, 1)), "the first field");
+    assert_eq!(
+        at([0, 0, MAX, 1, MAX, 0], totals),
+        Some((0, 2)),
+        "the lowest record"
+    );
+    let crossed = "remote M[A[u]] += 1";
+    assert_eq!(
+        at([1, 0, 0, 0, MAX, 0], crossed),
+        Some((1, 1)),
+        "the target of a total"
     );
 }
 
@@ -216,22 +266,10 @@ fn only_the_final_total_must_be_in_range() {
         [Some(MAX), Some(i32::MIN)]
     );
     let left = two([Some(MAX), Some(0)], "remote M[u] += 1");
-    assert_eq!(
-        left.run.end,
-        End::OutOfRange(vec![Place {
-            record: 0,
-            field: 0
-        }])
-    );
+    assert_eq!(named(&left), Some((0, 0)));
     assert_eq!(left.values, [Some(MAX), Some(0)]);
     let left = two([Some(i32::MIN), Some(0)], "remote M[u] += -1");
-    assert_eq!(
-        left.run.end,
-        End::OutOfRange(vec![Place {
-            record: 0,
-            field: 0
-        }])
-    );
+    assert_eq!(named(&left), Some((0, 0)));
 }
 
 #[test]
@@ -339,13 +377,7 @@ fn finished_steps_before_a_sum_out_of_range_count() {
     );
     // 180 × 2^23 is the last that fits; the next sum is out of range.
     assert_eq!(left.run.finished, 24);
-    assert_eq!(
-        left.run.end,
-        End::OutOfRange(vec![Place {
-            record: 2,
-            field: 1
-        }])
-    );
+    assert_eq!(named(&left), Some((2, 1)));
     assert_eq!(left.cells, printed::CELLS);
 }
 

@@ -15,7 +15,7 @@ use Rattle.program.specs.Kept.{stepsIn, programOf}
 use Rattle.step_cells.specs.Work.{Same}
 use Rattle.step_cells.specs.declared.stop.Stop.{Stop}
 use Rattle.step_cells.specs.declared.stop.Stop.the-variants.{Nowhere}
-use Rattle.step_cells.proofs.Working.{same-refl, same-then}
+use Rattle.step_cells.proofs.Working.{same-then}
 use Rattle.run_steps.proofs.Loops.{nearer, Taken, RulesDone, RecordsDone, rules-first, rules-next, records-first, records-next, left-behind}
 use Rattle.run_steps.proofs.Loops.{left-within}
 use Rattle.run_steps.proofs.Standing.{lines-end, scratch-behind, Stands, stands-start, stands-complete, stands-exhausted}
@@ -406,8 +406,8 @@ applied c stop =
     ⊎-elim
     (λ w. left-behind i stop (w .0 .left) (w .1) (w .2) (w .3))
     (λ w.
-    left-within i stop (limits (turn (turningOfLeft c))) (w .0 .taken) (w .1 .inv) (w .2 .taken) (rules-fit b)
-    (w .12 .given .1) (w .13) (w .14) (w .15) _ (w .7 .ensures) (rule-ready b same-refl (w .1 .k) _ (w .2 .taken)))
+    left-within i stop (w .0 .taken) (w .1 .inv) (w .2 .taken) (rules-fit b)
+    (w .12 .given .1) (w .13) (w .14) (w .15) _ (w .7 .ensures))
     (c .records-test .came)
 
 enum-known-stop : Of tie.Need-enum-known-stop

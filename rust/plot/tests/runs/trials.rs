@@ -92,6 +92,12 @@ pub fn with_marks(random: &mut Random) -> Trial {
     Trial::new(random, case, 20)
 }
 
+/// The same with sums and totals that go out of range at many places.
+pub fn out_of_range(random: &mut Random) -> Trial {
+    let case = Case::out_of_range(random);
+    Trial::new(random, case, 40)
+}
+
 /// The same with as many records as may be, and a small budget.
 pub fn large(random: &mut Random) -> Trial {
     let sizes = registers::large_sizes(random);
