@@ -12,6 +12,7 @@ use Rattle.register.specs.declared.Sizes.{Sizes}
 use Rattle.register.specs.declared.cells.Cell.{Cell}
 use Rattle.register.specs.declared.cells.Cell.the-variants.{Missing}
 use Rattle.program.specs.declared.location.Located.{Located}
+use Rattle.program.specs.declared.frame.Frame.{Frame}
 use Rattle.program.specs.Kept.{programOf}
 use Rattle.program.specs.declared.Program as R
 use Rattle.machine.specs.Run.{begins, direct}
@@ -52,7 +53,7 @@ kept-below {base} {j} {values} {values′} {marks} {marks′} h a =
     }
 
 module _ {m : Machine} {s : Sizes} {p : R.Program} {budget : ℕ} {file : List ℕ} {step first finished : ℕ} {counts : Counts}
-    {out : List ℕ} {values : List ℤ} {marks : List ℕ} {a : Turn m s p budget file step first finished counts out values marks}
+    {out : List ℕ} {values : List ℤ} {marks : List ℕ} {f : Frame} {a : Turn m s p budget file step first finished counts out values marks f}
     {places : List Located} {values₁ values₂ : List ℤ} {marks₁ marks₂ : List ℕ} {r : Counts} where
   -- a local sum is out of range
   pub ends-local : (b : Prepared a places values₁ marks₁ values₂ marks₂ r) {values₃ : List ℤ} {marks₃ : List ℕ} {u c : ℕ}
