@@ -173,9 +173,9 @@ fn check_filled(
         match mark {
             0 if value == 0 => (),
             0 => return Err(Reason::MissingWithValue),
-            1 | 2 if may_be(value) => (),
-            1 | 2 => return Err(Reason::ReferenceOutside),
-            _ => return Err(Reason::MarkAboveTwo),
+            3.. => return Err(Reason::MarkAboveTwo),
+            _ if may_be(value) => (),
+            _ => return Err(Reason::ReferenceOutside),
         }
     }
     Ok(())
