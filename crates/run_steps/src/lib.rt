@@ -58,8 +58,8 @@ fn out_of_range(finished: u16, counts: Counts, row: usize, column: usize) -> Run
     }
 }
 
-// The steps, over working cells that hold the register's. The function holds the program's arrays and takes a step's rules out
-// without a call.
+// The steps, over working cells that hold the register's. The function holds the program's arrays and takes a step's frame and
+// rules out without a call, once for a step that is done again and again.
 fn run_steps(
     out: &mut [u8],
     values: &mut [i64],
