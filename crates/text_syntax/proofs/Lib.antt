@@ -1,0 +1,3 @@
+-- Laws of the definitions of `specs/`, for the crates above.
+pub mod Lexing
+pub mod Spellings
