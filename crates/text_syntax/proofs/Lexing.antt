@@ -25,7 +25,7 @@ use Rattle.text_forms.proofs.Tokens.{all-some, word-all, word-begins}
 use Rattle.text_forms.proofs.Numerals.{numeral-text, numeral-digits, whole-bound}
 use Rattle.text_syntax.specs.Token.{Token, stepWord, endWord, doneWord, loopWord, ifWord, remoteWord, own, letter, number, becomes, colon, write, operator, comparison, openSquare, closeSquare, openRound, closeRound, unknown, plus, smaller}
 use Rattle.text_syntax.specs.Lexing.{spelled, words, signs, First, first, none, fixedToken, numberToken, firstToken, operandBehind, isSpace, unlessEmpty, skipped, followed, tokensFrom, tokensAt}
-use Rattle.text_syntax.specs.Spelling.{Stands, spaces}
+use Rattle.text_syntax.specs.Spelling.{Stands, spaces, Known}
 
 pub not-first : {A : Type 0} {k : Token} {r : List ℕ} → none ≡ first k r → A
 not-first e = absurd (let z : _≡_ {A = ℕ} 0 1 = cc in omega arith)
@@ -250,6 +250,12 @@ pub first-shorter : (operand : Bool) (t : List ℕ) {k : Token} {r : List ℕ} �
 first-shorter operand t {k} {r} e =
     let w = first-began operand t e in
     omega (arith, w .some-byte, ap length (w .text), length-append (spelled k) r, skipped-bound r)
+
+pub first-known : (operand : Bool) (t : List ℕ) {k : Token} {r : List ℕ} → firstToken operand t ≡ first k r → Known k
+unfolding spelled
+first-known operand t {k} {r} e same =
+    let none-left : 0 < length (spelled unknown) = subst (λ (j : Token). 0 < length (spelled j)) same (first-began operand t e .some-byte) in
+    omega arith
 
 -- more than the text's length changes nothing
 tokens-enough : (n m : ℕ) (operand : Bool) (t : List ℕ) → length t ≤ n → length t ≤ m → tokensFrom n operand t ≡ tokensFrom m operand t

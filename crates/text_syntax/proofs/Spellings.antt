@@ -47,7 +47,7 @@ module _ (operand : Bool) (r : List ℕ) where
   number-read false (metres (d ∷ ds) cs) h = digit-read d _ (and-both (isDigit d) _ (h .digits) .0) ∙ ap numberToken (signed-read false (metres (d ∷ ds) cs) h)
 
 -- a letter
-letter-read : (operand : Bool) (l : ℕ) (r : List ℕ) → isCapital l ≡ true → firstToken operand (l ∷ r) ≡ first (letter l) r
+pub letter-read : (operand : Bool) (l : ℕ) (r : List ℕ) → isCapital l ≡ true → firstToken operand (l ∷ r) ≡ first (letter l) r
 unfolding firstToken isDigit
 letter-read operand l r h =
     let low = capital-low l h in
@@ -59,7 +59,7 @@ unfolding opensWith startsWith
 short-read long short [] h = refl
 short-read long short (c ∷ r) h = rw h
 
-less-read : (r : List ℕ) → startsWith 63 r ≡ false
+pub less-read : (r : List ℕ) → startsWith 63 r ≡ false
     → cond (opensWith (63 ∷ 61 ∷ []) r) (first (write Least) (drop 2 r)) (cond (opensWith (63 ∷ []) r) (first (operator smaller) (drop 1 r)) (first (comparison Less) r))
     ≡ first (comparison Less) r
 unfolding opensWith startsWith
