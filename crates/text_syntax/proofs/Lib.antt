@@ -1,0 +1,6 @@
+-- Laws of the definitions of `specs/`, for the crates above.
+pub mod TokenKinds
+pub mod Readers
+pub mod Chains
+pub mod Expressions
+pub mod Lines

@@ -1,0 +1,67 @@
+-- What holds of all that a reader may answer, for the ways in which readers are put together.
+use Prim.Native.Nat.{ℕ}
+use mathlib.Core.Path.{_≡_, refl, sym, ap, ap₂, subst, _∙_}
+use mathlib.Core.Bool.{Bool, true, false, cond}
+use mathlib.Core.List.{List, [], _∷_, _++_}
+use mathlib.Core.Option.{Option, none, some}
+use native.Mathlib.Omega.{arith}
+use Rattle.text_syntax.specs.Token.{Token}
+use Rattle.text_syntax.specs.Kind.{Kind, kind, is}
+use Rattle.text_syntax.specs.Form.{Form, formed, unformed, held, oneOf, past, then, thenOr, or, whole}
+use Rattle.text_syntax.proofs.TokenKinds.{tokenOf, token-kind, is-true}
+
+-- P holds of the form and of what stands behind it, if there is one
+abbrev pub All : {A : Type 0} → (A → List Token → Type 0) → Form A → Type 0
+All P unformed = Unit {0}
+All P (formed a r) = P a r
+
+pub all-formed : {A : Type 0} (P : A → List Token → Type 0) {f : Form A} {a : A} {r : List Token} → All P f → f ≡ formed a r → P a r
+all-formed P h e = subst (All P) e h
+
+pub then-all : {A B : Type 0} (P : B → List Token → Type 0) (g : Form A) (f : A → List Token → Form B)
+    → ((a : A) (r : List Token) → g ≡ formed a r → All P (f a r)) → All P (then g f)
+unfolding then
+then-all P unformed f k = tt
+then-all P (formed a r) f k = k a r refl
+
+-- behind a form of which Q holds
+pub behind-all : {A B : Type 0} (Q : A → List Token → Type 0) (P : B → List Token → Type 0) (g : Form A) (f : A → List Token → Form B)
+    → All Q g → ((a : A) (r : List Token) → Q a r → All P (f a r)) → All P (then g f)
+unfolding then
+behind-all Q P unformed f h k = tt
+behind-all Q P (formed a r) f h k = k a r h
+
+pub or-all : {A : Type 0} (P : A → List Token → Type 0) (x y : Form A) → All P x → All P y → All P (or x y)
+unfolding or
+or-all P unformed y hx hy = hy
+or-all P (formed a r) y hx hy = hx
+
+-- behind one token
+pub past-all : {A : Type 0} (P : A → List Token → Type 0) (w : Token) (ts : List Token) (f : List Token → Form A)
+    → ((r : List Token) → ts ≡ w ∷ r → All P (f r)) → All P (past w ts f)
+unfolding past
+past-all P w [] f k = tt
+past-all {A} P w (t ∷ r) f k = go (is w t) refl
+  where
+    go : (x : Bool) → is w t ≡ x → All P (cond x (f r) unformed)
+    go true e = k r (ap (λ (u : Token). u ∷ r) (is-true w t e))
+    go false e = tt
+
+-- one token of a kind, by the token that holds a
+pub one-all : {A : Type 0} (P : A → List Token → Type 0) (f : Kind → Option A) (token : A → Token)
+    → ((k : Kind) (a : A) → f k ≡ some a → tokenOf k ≡ token a)
+    → (ts : List Token) → ((a : A) (r : List Token) → ts ≡ token a ∷ r → P a r) → All P (oneOf f ts)
+unfolding oneOf held
+one-all P f token is [] k = tt
+one-all {A} P f token is (t ∷ r) k = go (f (kind t)) refl
+  where
+    go : (o : Option A) → f (kind t) ≡ o → All P (held o r)
+    go none e = tt
+    go (some a) e = k a r (ap (λ (u : Token). u ∷ r) (sym (token-kind t) ∙ is (kind t) a e))
+
+-- a whole list
+pub whole-all : {A : Type 0} (P : A → List Token → Type 0) (f : Form A) (a : A) → All P f → whole f ≡ some a → P a []
+unfolding whole
+whole-all P unformed a h e = absurd (let z : _≡_ {A = ℕ} 0 1 = cc in omega arith)
+whole-all {A} P (formed b []) a h e = let same : b ≡ a = cc in subst (λ (x : A). P x []) same h
+whole-all P (formed b (t ∷ r)) a h e = absurd (let z : _≡_ {A = ℕ} 0 1 = cc in omega arith)
