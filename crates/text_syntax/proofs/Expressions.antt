@@ -26,10 +26,10 @@ abbrev pub NoOperator : List Token → Type 0
 NoOperator r = oneOf operatorIn r ≡ unformed
 
 -- an operator of a rank stands first
-abbrev Begins : (Sign → Bool) → List Token → Sign → List Token → Type 0
+abbrev pub Begins : (Sign → Bool) → List Token → Sign → List Token → Type 0
 Begins rank ts o r = (ts ≡ operator o ∷ r) × (rank o ≡ true)
 
-operator-all : (rank : Sign → Bool) (ts : List Token) → All (Begins rank ts) (operatorForm rank ts)
+pub operator-all : (rank : Sign → Bool) (ts : List Token) → All (Begins rank ts) (operatorForm rank ts)
 unfolding operatorForm
 operator-all rank ts =
     behind-all (λ (o : Sign) r. ts ≡ operator o ∷ r) (Begins rank ts) _ _ (one-all _ operatorIn operator operator-token ts (λ o r e. e)) (λ o r e. go o r e (rank o) refl)
@@ -92,10 +92,10 @@ binds-smaller minus h = true-false h refl
 binds-smaller smaller h = refl
 
 -- operands: terms and groups
-abbrev Anything : List Token → Type 0
+abbrev pub Anything : List Token → Type 0
 Anything r = Unit {0}
 
-operand-all : (inner : List Token → Form Expression) → ((ts : List Token) → All (Reads 0 NoOperator ts) (inner ts)) → (ts : List Token)
+pub operand-all : (inner : List Token → Form Expression) → ((ts : List Token) → All (Reads 0 NoOperator ts) (inner ts)) → (ts : List Token)
     → All (Reads 2 Anything ts) (operandForm inner ts)
 unfolding operandForm groupForm printedExpression bound
 operand-all inner each ts =
@@ -106,6 +106,11 @@ operand-all inner each ts =
     behind-all (Reads 0 NoOperator r) P (inner r) _ (each r) (λ x r₁ w.
     past-all P closeRound r₁ _ (λ r₂ e₂.
     (record { text = e ∙ rw (w .0 .text, e₂, append-assoc (printedExpression x) (closeRound ∷ []) r₂); proper = w .0 .proper; tight = omega arith }, tt)))))
+
+-- operands joined by `<?`
+pub product-all : (element : List Token → Form Expression) → ((ts : List Token) → All (Reads 2 Anything ts) (element ts)) → (n : ℕ) (ts : List Token)
+    → All (Reads 1 (Ends isSmaller) ts) (joined n isSmaller element ts)
+product-all element each n ts = joined-all 1 isSmaller element Anything (Ends isSmaller) binds-smaller (λ r e h. e) each n ts
 
 no-operator : (r : List Token) → Ends isSum r → Ends isSmaller r → NoOperator r
 unfolding operatorForm then isSmaller
@@ -124,10 +129,11 @@ pub expression-all : (n : ℕ) (ts : List Token) → All (Reads 0 NoOperator ts)
 unfolding expressionForm
 expression-all zero ts = tt
 expression-all (suc n) ts =
-    joined-all 0 isSum _ (Ends isSmaller) NoOperator binds-sum no-operator
-    (joined-all 1 isSmaller _ Anything (Ends isSmaller) binds-smaller (λ r e h. e) (operand-all (expressionForm n) (expression-all n)) (suc n))
-    (suc n)
-    ts
+    joined-all 0 isSum _ (Ends isSmaller) NoOperator binds-sum no-operator (product-all (operandForm (expressionForm n)) (operand-all (expressionForm n) (expression-all n)) (suc n)) (suc n) ts
+
+pub read-all : (ts : List Token) → All (Reads 0 NoOperator ts) (expression ts)
+unfolding expression
+read-all ts = expression-all (length ts) ts
 
 -- and the tokens of a proper expression are read, where the numbers suffice
 chain-nonempty : (ls : List ℕ) → 0 < length (printedChain ls)

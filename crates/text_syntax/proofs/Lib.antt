@@ -4,3 +4,7 @@ pub mod Readers
 pub mod Chains
 pub mod Expressions
 pub mod Lines
+pub mod Turns
+pub mod Depths
+pub mod Trees
+pub mod Scans

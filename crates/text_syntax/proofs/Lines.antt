@@ -6,7 +6,6 @@ use mathlib.Core.Bool.{true}
 use mathlib.Core.List.{List, [], _∷_, _++_, append-assoc, append-nil}
 use mathlib.Core.Option.{Option, none, some}
 use native.Mathlib.Omega.{arith}
-use lib.ListN.{length}
 use Rattle.program.specs.declared.rule.Comparison.{Comparison}
 use Rattle.program.specs.declared.rule.Sort.{Sort}
 use Rattle.text_syntax.specs.Token.{Token, stepWord, endWord, doneWord, loopWord, ifWord, remoteWord, own, letter, becomes, colon, write, comparison, openSquare, closeSquare}
@@ -18,7 +17,7 @@ use Rattle.text_syntax.specs.Printed.{printedChain, printedExpression, p
 use Rattle.text_syntax.proofs.TokenKinds.{letter-token, write-token, comparison-token}
 use Rattle.text_syntax.proofs.Readers.{All, behind-all, or-all, past-all, one-all, whole-all}
 use Rattle.text_syntax.proofs.Chains.{ChainSpelled, chain-all, chain-read}
-use Rattle.text_syntax.proofs.Expressions.{Spelled, Reads, NoOperator, expression-all, expression-read}
+use Rattle.text_syntax.proofs.Expressions.{Spelled, Reads, NoOperator, read-all, expression-read}
 
 -- the tokens of an expression, of an action, of a line, all proper, and what stands behind them
 pub record SpelledAction (ts : List Token) (a : Action) (r : List Token) : Type 0 where
@@ -28,10 +27,6 @@ pub record SpelledAction (ts : List Token) (a : Action) (r : List Token) : Type 
 pub record SpelledLine (ts : List Token) (l : Line) (r : List Token) : Type 0 where
   pub text : ts ≡ printedLine l ++ r
   pub proper : Proper l
-
-pub read-all : (ts : List Token) → All (Reads 0 NoOperator ts) (expression ts)
-unfolding expression
-read-all ts = expression-all (length ts) ts
 
 -- what is known behind one token, and behind an expression
 module _ {A : Type 0} (P : A → List Token → Type 0) (ts : List Token) where

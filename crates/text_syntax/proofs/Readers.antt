@@ -1,10 +1,11 @@
 -- What holds of all that a reader may answer, for the ways in which readers are put together.
-use Prim.Native.Nat.{ℕ}
+use Prim.Native.Nat.{ℕ, _<_}
 use mathlib.Core.Path.{_≡_, refl, sym, ap, ap₂, subst, _∙_}
 use mathlib.Core.Bool.{Bool, true, false, cond}
 use mathlib.Core.List.{List, [], _∷_, _++_}
 use mathlib.Core.Option.{Option, none, some}
 use native.Mathlib.Omega.{arith}
+use lib.ListN.{length}
 use Rattle.text_syntax.specs.Token.{Token}
 use Rattle.text_syntax.specs.Kind.{Kind, kind, is}
 use Rattle.text_syntax.specs.Form.{Form, formed, unformed, held, oneOf, past, then, thenOr, or, whole}
@@ -30,6 +31,32 @@ pub behind-all : {A B : Type 0} (Q : A → List Token → Type 0) (P : B → Lis
 unfolding then
 behind-all Q P unformed f h k = tt
 behind-all Q P (formed a r) f h k = k a r h
+
+pub all-map : {A : Type 0} (P Q : A → List Token → Type 0) (f : Form A) → ((a : A) (r : List Token) → P a r → Q a r) → All P f → All Q f
+all-map P Q unformed k h = tt
+all-map P Q (formed a r) k h = k a r h
+
+-- two ways to read on behind a form
+pub then-same : {A B : Type 0} (g : Form A) (f h : A → List Token → Form B) → All (λ a r. f a r ≡ h a r) g → then g f ≡ then g h
+unfolding then
+then-same unformed f h k = refl
+then-same (formed a r) f h k = k
+
+pub thenOr-same : {A B : Type 0} (g : Form A) (f h : A → List Token → Form B) (y z : Form B) → All (λ a r. f a r ≡ h a r) g → y ≡ z → thenOr g f y ≡ thenOr g h z
+unfolding thenOr
+thenOr-same unformed f h y z k e = e
+thenOr-same (formed a r) f h y z k e = k
+
+pub past-same : {A : Type 0} (w : Token) (ts : List Token) (f h : List Token → Form A) → ((r : List Token) → length r < length ts → f r ≡ h r) → past w ts f ≡ past w ts h
+unfolding past
+past-same w [] f h k = refl
+past-same w (t ∷ r) f h k = rw (k r (omega arith))
+
+-- reading on behind what was read behind a form
+pub then-then : {A B C : Type 0} (g : Form A) (f : A → List Token → Form B) (h : B → List Token → Form C) → then (then g f) h ≡ then g (λ a r. then (f a r) h)
+unfolding then
+then-then unformed f h = refl
+then-then (formed a r) f h = refl
 
 pub or-all : {A : Type 0} (P : A → List Token → Type 0) (x y : Form A) → All P x → All P y → All P (or x y)
 unfolding or
