@@ -1,13 +1,13 @@
 -- How deep and how long what is joined grows: for a reader that stops where groups are too deep.
-use Prim.Native.Nat.{ℕ, zero, suc, _+_, _≤_, _<_, max}
-use mathlib.Core.Path.{_≡_, refl, sym, ap, _∙_}
-use mathlib.Core.Bool.{Bool, true, false}
-use mathlib.Core.List.{List, [], _∷_}
+use Prim.Native.Nat.{ℕ, zero, suc, _≤_, _<_}
+use mathlib.Core.Path.{_≡_}
+use mathlib.Core.Bool.{Bool, true}
+use mathlib.Core.List.{List, _∷_}
 use native.Mathlib.Omega.{arith}
 use lib.ListN.{length}
 use Rattle.text_syntax.specs.Token.{Token, Sign, operator, openRound, closeRound}
-use Rattle.text_syntax.specs.Form.{Form, formed, unformed, past, then, thenOr}
-use Rattle.text_syntax.specs.Written.{Expression, term, group, operation}
+use Rattle.text_syntax.specs.Form.{Form, formed, unformed, then, thenOr}
+use Rattle.text_syntax.specs.Written.{Expression, operation}
 use Rattle.text_syntax.specs.Grammar.{isSum, isSmaller, operatorForm, joinedTo, expression, operand, product, productFrom, expressionFrom}
 use Rattle.text_syntax.specs.Parts.{depth, operators}
 use Rattle.text_syntax.proofs.Readers.{All, all-map, then-all, behind-all, past-all}
@@ -32,7 +32,8 @@ joined-grows rank element (suc n) x ts = go (joined-grows rank element n) (opera
         → All (λ e r. Grows x e) (thenOr f (λ o r. then (element r) (λ y. joinedTo n rank element (operation o x y))) (formed x ts))
     go ih unformed = record { deep = omega arith; long = omega arith }
     go ih (formed o r) = then-all (λ e s. Grows x e) (element r) _ (λ y s q.
-        all-map (λ e t. Grows (operation o x y) e) (λ e t. Grows x e) (joinedTo n rank element (operation o x y) s) (λ e t w. grows-on o x y e w) (ih (operation o x y) s))
+        all-map (λ e t. Grows (operation o x y) e) (λ e t. Grows x e) (joinedTo n rank element (operation o x y) s) (λ e t w. grows-on o x y e w)
+        (ih (operation o x y) s))
 
 pub product-grows : (x : Expression) (ts : List Token) → All (λ e r. Grows x e) (productFrom x ts)
 unfolding productFrom
@@ -49,7 +50,8 @@ Deep k f = All (λ e r. k < depth e) f
 -- an element makes what it is joined to as deep as itself
 module _ (k : ℕ) (element : Form Expression) (from : Expression → List Token → Form Expression)
     (grows : (x : Expression) (ts : List Token) → All (λ e r. Grows x e) (from x ts)) where
-  deep-then : (joins : Expression → Expression) → ((y : Expression) → depth y ≤ depth (joins y)) → Deep k element → Deep k (then element (λ y. from (joins y)))
+  deep-then : (joins : Expression → Expression) → ((y : Expression) → depth y ≤ depth (joins y)) → Deep k element
+      → Deep k (then element (λ y. from (joins y)))
   deep-then joins up h =
       behind-all (λ y r. k < depth y) (λ e r. k < depth e) element _ h (λ y r d.
       all-map (λ e s. Grows (joins y) e) (λ e s. k < depth e) (from (joins y) r) (λ e s w. omega (arith, w .deep, up y)) (grows (joins y) r))
@@ -64,13 +66,15 @@ module _ (k : ℕ) (element : Form Expression) (from : Expression → List Token
 pub product-deep : (k : ℕ) (ts : List Token) → Deep k (operand ts) → Deep k (product ts)
 product-deep k ts h = rw (product-joined ts) (deep-first k (operand ts) productFrom product-grows h)
 
-pub product-deep-more : (k : ℕ) (o : Sign) (x : Expression) (r : List Token) → isSmaller o ≡ true → Deep k (operand r) → Deep k (productFrom x (operator o ∷ r))
+pub product-deep-more : (k : ℕ) (o : Sign) (x : Expression) (r : List Token) → isSmaller o ≡ true → Deep k (operand r)
+    → Deep k (productFrom x (operator o ∷ r))
 product-deep-more k o x r s h = rw (product-more o x r s) (deep-joined k (operand r) productFrom product-grows o x h)
 
 pub expression-deep : (k : ℕ) (ts : List Token) → Deep k (product ts) → Deep k (expression ts)
 expression-deep k ts h = rw (expression-joined ts) (deep-first k (product ts) expressionFrom expression-grows h)
 
-pub expression-deep-more : (k : ℕ) (o : Sign) (x : Expression) (r : List Token) → isSum o ≡ true → Deep k (product r) → Deep k (expressionFrom x (operator o ∷ r))
+pub expression-deep-more : (k : ℕ) (o : Sign) (x : Expression) (r : List Token) → isSum o ≡ true → Deep k (product r)
+    → Deep k (expressionFrom x (operator o ∷ r))
 expression-deep-more k o x r s h = rw (expression-more o x r s) (deep-joined k (product r) expressionFrom expression-grows o x h)
 
 -- a group is one deeper than what it holds
@@ -78,7 +82,8 @@ pub group-deep : (k : ℕ) (r : List Token) → Deep k (expression r) → Deep (
 unfolding depth
 group-deep k r h =
     rw (operand-group r) (
-    behind-all (λ e s. k < depth e) (λ e s. suc k < depth e) (expression r) _ h (λ e s d. past-all (λ e s. suc k < depth e) closeRound s _ (λ t q. omega arith)))
+    behind-all (λ e s. k < depth e) (λ e s. suc k < depth e) (expression r) _ h
+    (λ e s d. past-all (λ e s. suc k < depth e) closeRound s _ (λ t q. omega arith)))
 
 pub group-deep-first : (r : List Token) → Deep 0 (operand (openRound ∷ r))
 unfolding depth

@@ -1,21 +1,20 @@
 -- A line has a form exactly when its tokens are those of that form.
-use Prim.Native.Nat.{ℕ, _≤_}
+use Prim.Native.Nat.{ℕ}
 use mathlib.Core.Path.{_≡_, refl, sym, ap, _∙_}
 use mathlib.Core.Logic.{_↔_}
-use mathlib.Core.Bool.{true}
 use mathlib.Core.List.{List, [], _∷_, _++_, append-assoc, append-nil}
-use mathlib.Core.Option.{Option, none, some}
+use mathlib.Core.Option.{some}
 use native.Mathlib.Omega.{arith}
 use Rattle.program.specs.declared.rule.Comparison.{Comparison}
 use Rattle.program.specs.declared.rule.Sort.{Sort}
 use Rattle.text_syntax.specs.Token.{Token, stepWord, endWord, doneWord, loopWord, ifWord, remoteWord, own, letter, becomes, colon, write, comparison, openSquare, closeSquare}
 use Rattle.text_syntax.specs.Kind.{kind, letterIn, writeIn, operatorIn, comparisonIn, fixedIn, same, is}
-use Rattle.text_syntax.specs.Form.{Form, formed, unformed, held, oneOf, past, then, or, whole}
+use Rattle.text_syntax.specs.Form.{Form, formed, held, oneOf, past, then, or, whole}
 use Rattle.text_syntax.specs.Written.{Expression, Condition, always, when, Action, set, remote, Line, step, end, done, loop, rule}
 use Rattle.text_syntax.specs.Grammar.{chainForm, expression, localForm, sentForm, remoteForm, ruleForm, comparedForm, testedForm, anyForm, lineForm}
-use Rattle.text_syntax.specs.Printed.{printedChain, printedExpression, printedAction, printedLine, ProperExpression, ProperAction, ProperCondition, Proper}
+use Rattle.text_syntax.specs.Printed.{printedChain, printedExpression, printedAction, printedLine, ProperExpression, ProperAction, Proper}
 use Rattle.text_syntax.proofs.TokenKinds.{letter-token, write-token, comparison-token}
-use Rattle.text_syntax.proofs.Readers.{All, behind-all, or-all, past-all, one-all, whole-all}
+use Rattle.text_syntax.proofs.Readers.{All, or-none, behind-all, or-all, past-all, one-all, whole-all}
 use Rattle.text_syntax.proofs.Chains.{ChainSpelled, chain-all, chain-read}
 use Rattle.text_syntax.proofs.Expressions.{Spelled, Reads, NoOperator, read-all, expression-read}
 
@@ -36,10 +35,12 @@ module _ {A : Type 0} (P : A → List Token → Type 0) (ts : List Token) where
   write-all : (f : Sort → List Token → Form A) → ((w : Sort) (r : List Token) → ts ≡ write w ∷ r → All P (f w r)) → All P (then (oneOf writeIn ts) f)
   write-all f k = behind-all (λ (w : Sort) r. ts ≡ write w ∷ r) P _ f (one-all _ writeIn write write-token ts (λ w r e. e)) k
 
-  comparison-all : (f : Comparison → List Token → Form A) → ((c : Comparison) (r : List Token) → ts ≡ comparison c ∷ r → All P (f c r)) → All P (then (oneOf comparisonIn ts) f)
+  comparison-all : (f : Comparison → List Token → Form A) → ((c : Comparison) (r : List Token) → ts ≡ comparison c ∷ r → All P (f c r))
+      → All P (then (oneOf comparisonIn ts) f)
   comparison-all f k = behind-all (λ (c : Comparison) r. ts ≡ comparison c ∷ r) P _ f (one-all _ comparisonIn comparison comparison-token ts (λ c r e. e)) k
 
-  expression-then : (f : Expression → List Token → Form A) → ((e : Expression) (r : List Token) → Spelled 0 ts e r → All P (f e r)) → All P (then (expression ts) f)
+  expression-then : (f : Expression → List Token → Form A) → ((e : Expression) (r : List Token) → Spelled 0 ts e r → All P (f e r))
+      → All P (then (expression ts) f)
   expression-then f k = behind-all (Reads 0 NoOperator ts) P _ f (read-all ts) (λ e r w. k e r (w .0))
 
 local-all : (ts : List Token) → All (SpelledAction ts) (localForm ts)
@@ -105,7 +106,8 @@ pub record Spells (ts : List Token) (l : Line) : Type 0 where
 
 pub line-spelled : (ts : List Token) (l : Line) → lineForm ts ≡ some l → Spells ts l
 unfolding lineForm
-line-spelled ts l e = let w = whole-all (SpelledLine ts) (anyForm ts) l (any-all ts) e in record { text = w .text ∙ append-nil (printedLine l); proper = w .proper }
+line-spelled ts l e = let w = whole-all (SpelledLine ts) (anyForm ts) l (any-all ts) e in record
+    { text = w .text ∙ append-nil (printedLine l); proper = w .proper }
 
 -- and the printed tokens of a proper line are read
 read-first : (e : Expression) (r : List Token) → ProperExpression e → NoOperator r → expression (printedExpression e ++ r) ≡ formed e r
@@ -116,35 +118,78 @@ read-last : (e : Expression) → ProperExpression e → expression (printedExpre
 unfolding oneOf
 read-last e p = ap expression (sym (append-nil (printedExpression e))) ∙ read-first e [] p refl
 
+-- lines and rules by their first token
+pub step-first : (r : List Token) → anyForm (stepWord ∷ r) ≡ formed step r
+unfolding anyForm past is same fixedIn kind or
+step-first r = refl
+
+pub end-first : (r : List Token) → anyForm (endWord ∷ r) ≡ formed end r
+unfolding anyForm past is same fixedIn kind or
+end-first r = refl
+
+pub done-first : (r : List Token) → anyForm (doneWord ∷ r) ≡ formed done r
+unfolding anyForm past is same fixedIn kind or
+done-first r = refl
+
+pub loop-first : (r : List Token) → anyForm (loopWord ∷ r) ≡ then (oneOf letterIn r) (λ f. formed (loop f))
+unfolding anyForm testedForm ruleForm remoteForm localForm past is same fixedIn kind oneOf held letterIn then or
+loop-first r = or-none _
+
+pub if-first : (r : List Token) → anyForm (ifWord ∷ r) ≡ then (expression r) (λ x r. then (oneOf comparisonIn r) (comparedForm x))
+unfolding anyForm testedForm ruleForm remoteForm localForm past is same fixedIn kind oneOf held letterIn then or
+if-first r = or-none _
+
+pub letter-first : (f : ℕ) (r : List Token) → anyForm (letter f ∷ r) ≡ ruleForm always (letter f ∷ r)
+unfolding anyForm testedForm past is same fixedIn kind or
+letter-first f r = refl
+
+pub remote-first : (r : List Token) → anyForm (remoteWord ∷ r) ≡ ruleForm always (remoteWord ∷ r)
+unfolding anyForm testedForm past is same fixedIn kind or
+remote-first r = refl
+
+-- `F[u] :=` stands before X
+pub local-rule : (c : Condition) (f : ℕ) (r : List Token) → ruleForm c (letter f ∷ r) ≡ then (localForm (letter f ∷ r)) (λ a. formed (rule c a))
+unfolding ruleForm remoteForm past is same fixedIn kind or
+local-rule c f r = refl
+
+pub local-first : (f : ℕ) (r : List Token)
+    → localForm (letter f ∷ openSquare ∷ own ∷ closeSquare ∷ becomes ∷ r) ≡ then (expression r) (λ e. formed (set f e))
+unfolding localForm past is same fixedIn kind oneOf held letterIn then
+local-first f r = refl
+
+pub remote-rule : (c : Condition) (r : List Token) → ruleForm c (remoteWord ∷ r) ≡ then (then (chainForm r) sentForm) (λ a. formed (rule c a))
+unfolding ruleForm remoteForm localForm past is same fixedIn kind oneOf held letterIn then or
+remote-rule c r = ap (λ (f : Form Action). then f (λ a. formed (rule c a))) (or-none (then (chainForm r) sentForm))
+
 rule-read : (c : Condition) (a : Action) → ProperAction a → ruleForm c (printedAction a) ≡ formed (rule c a) []
-unfolding ruleForm printedAction remoteForm localForm sentForm past is same fixedIn kind oneOf held letterIn writeIn then or
-rule-read c (set f e) p = rw (read-last e p)
-rule-read c (remote k f w e) p = rw (chain-read (f ∷ w) (write k ∷ printedExpression e), read-last e p)
+unfolding printedAction sentForm kind oneOf held writeIn then
+rule-read c (set f e) p = local-rule c f _ ∙ rw (local-first f (printedExpression e), read-last e p)
+rule-read c (remote k f w e) p = remote-rule c _ ∙ rw (chain-read (f ∷ w) (write k ∷ printedExpression e), read-last e p)
 
 tested-read : (x y : Expression) (c : Comparison) (a : Action) → ProperExpression x → ProperExpression y → ProperAction a
-    → testedForm (printedLine (rule (when x c y) a)) ≡ formed (rule (when x c y) a) []
-unfolding testedForm printedLine comparedForm past is same fixedIn kind oneOf held comparisonIn operatorIn then
+    → anyForm (printedLine (rule (when x c y) a)) ≡ formed (rule (when x c y) a) []
+unfolding printedLine comparedForm past is same fixedIn kind oneOf held comparisonIn operatorIn then
 tested-read x y c a px py pa =
-    rw (
+    if-first _
+    ∙ rw (
       read-first x (comparison c ∷ (printedExpression y ++ (colon ∷ printedAction a))) px refl,
       read-first y (colon ∷ printedAction a) py refl,
       rule-read (when x c y) a pa,
     )
 
--- an action's first token begins no other line
-only-rule : (a : Action) → ProperAction a → anyForm (printedAction a) ≡ ruleForm always (printedAction a)
-unfolding anyForm testedForm printedAction past is same fixedIn kind or
-only-rule (set f e) p = refl
-only-rule (remote k f c e) p = refl
+only-rule : (a : Action) → anyForm (printedAction a) ≡ ruleForm always (printedAction a)
+unfolding printedAction
+only-rule (set f e) = letter-first f _
+only-rule (remote k f c e) = remote-first _
 
 any-read : (l : Line) → Proper l → anyForm (printedLine l) ≡ formed l []
-unfolding anyForm printedLine past is same fixedIn kind oneOf held letterIn then or
-any-read step p = refl
-any-read end p = refl
-any-read done p = refl
-any-read (loop f) p = refl
-any-read (rule always a) p = only-rule a (p .1) ∙ rule-read always a (p .1)
-any-read (rule (when x c y) a) p = rw (tested-read x y c a (p .0 .0) (p .0 .1) (p .1))
+unfolding printedLine oneOf held letterIn kind then
+any-read step p = step-first []
+any-read end p = end-first []
+any-read done p = done-first []
+any-read (loop f) p = loop-first (letter f ∷ [])
+any-read (rule always a) p = only-rule a ∙ rule-read always a (p .1)
+any-read (rule (when x c y) a) p = tested-read x y c a (p .0 .0) (p .0 .1) (p .1)
 
 pub printed-line : (l : Line) → Proper l → lineForm (printedLine l) ≡ some l
 unfolding lineForm whole

@@ -1,8 +1,8 @@
 -- What holds of all that a reader may answer, for the ways in which readers are put together.
 use Prim.Native.Nat.{ℕ, _<_}
-use mathlib.Core.Path.{_≡_, refl, sym, ap, ap₂, subst, _∙_}
+use mathlib.Core.Path.{_≡_, refl, sym, ap, subst, _∙_}
 use mathlib.Core.Bool.{Bool, true, false, cond}
-use mathlib.Core.List.{List, [], _∷_, _++_}
+use mathlib.Core.List.{List, [], _∷_}
 use mathlib.Core.Option.{Option, none, some}
 use native.Mathlib.Omega.{arith}
 use lib.ListN.{length}
@@ -32,6 +32,10 @@ unfolding then
 behind-all Q P unformed f h k = tt
 behind-all Q P (formed a r) f h k = k a r h
 
+pub all-always : {A : Type 0} (P : A → List Token → Type 0) (f : Form A) → ((a : A) (r : List Token) → P a r) → All P f
+all-always P unformed k = tt
+all-always P (formed a r) k = k a r
+
 pub all-map : {A : Type 0} (P Q : A → List Token → Type 0) (f : Form A) → ((a : A) (r : List Token) → P a r → Q a r) → All P f → All Q f
 all-map P Q unformed k h = tt
 all-map P Q (formed a r) k h = k a r h
@@ -42,12 +46,14 @@ unfolding then
 then-same unformed f h k = refl
 then-same (formed a r) f h k = k
 
-pub thenOr-same : {A B : Type 0} (g : Form A) (f h : A → List Token → Form B) (y z : Form B) → All (λ a r. f a r ≡ h a r) g → y ≡ z → thenOr g f y ≡ thenOr g h z
+pub thenOr-same : {A B : Type 0} (g : Form A) (f h : A → List Token → Form B) (y z : Form B) → All (λ a r. f a r ≡ h a r) g → y ≡ z → thenOr g f y
+    ≡ thenOr g h z
 unfolding thenOr
 thenOr-same unformed f h y z k e = e
 thenOr-same (formed a r) f h y z k e = k
 
-pub past-same : {A : Type 0} (w : Token) (ts : List Token) (f h : List Token → Form A) → ((r : List Token) → length r < length ts → f r ≡ h r) → past w ts f ≡ past w ts h
+pub past-same : {A : Type 0} (w : Token) (ts : List Token) (f h : List Token → Form A) → ((r : List Token) → length r < length ts → f r ≡ h r) → past w ts f
+    ≡ past w ts h
 unfolding past
 past-same w [] f h k = refl
 past-same w (t ∷ r) f h k = rw (k r (omega arith))
@@ -57,6 +63,21 @@ pub then-then : {A B C : Type 0} (g : Form A) (f : A → List Token → Form B) 
 unfolding then
 then-then unformed f h = refl
 then-then (formed a r) f h = refl
+
+pub then-past : {A B : Type 0} (w : Token) (ts : List Token) (f : List Token → Form A) (h : A → List Token → Form B) → then (past w ts f) h
+    ≡ past w ts (λ r. then (f r) h)
+unfolding then past
+then-past w [] f h = refl
+then-past {A} {B} w (t ∷ r) f h = go (is w t)
+  where
+    go : (x : Bool) → then (cond x (f r) unformed) h ≡ cond x (then (f r) h) unformed
+    go true = refl
+    go false = refl
+
+pub or-none : {A : Type 0} (x : Form A) → or x unformed ≡ x
+unfolding or
+or-none unformed = refl
+or-none (formed a r) = refl
 
 pub or-all : {A : Type 0} (P : A → List Token → Type 0) (x y : Form A) → All P x → All P y → All P (or x y)
 unfolding or

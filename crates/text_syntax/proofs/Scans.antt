@@ -1,28 +1,56 @@
--- The scan of an expression in one pass answers what its tree answers.
+-- Chains and expressions in one pass: the scan of an expression answers what its tree answers.
 use Prim.Native.Nat.{ℕ, zero, suc, _+_, _≤_, _<_, max}
 use mathlib.Core.Path.{_≡_, refl, sym, ap, _∙_}
-use mathlib.Core.Bool.{Bool, true, false, cond, _&&_, _||_, and-assoc, or-assoc}
-use mathlib.Core.List.{List, [], _∷_, _++_}
+use mathlib.Core.Bool.{Bool, true, false, cond, and-assoc, or-assoc}
+use mathlib.Core.List.{List, [], _∷_, _++_, append-assoc, append-nil}
 use native.Mathlib.Omega.{arith}
-use lib.ListN.{length}
+use lib.ListN.{length, length-append}
 use Rattle.register.specs.declared.Sizes.{Sizes}
-use Rattle.text_syntax.specs.Token.{Token, Sign, operator, openRound, closeRound}
+use Rattle.text_syntax.specs.Token.{Token, Sign, own, letter, operator, openSquare, closeSquare, openRound, closeRound}
 use Rattle.text_syntax.specs.Kind.{kind, operatorIn, fixedIn, same, is}
 use Rattle.text_syntax.specs.Form.{Form, formed, unformed, held, oneOf, past, then, thenOr, or}
 use Rattle.text_syntax.specs.Written.{Term, Expression, term, group, operation}
-use Rattle.text_syntax.specs.Grammar.{termForm, groupForm, operandForm, isSum, isSmaller, operatorForm, joinedTo, expression, operand, product, productFrom, expressionFrom}
+use Rattle.text_syntax.specs.Grammar.{chainForm, termForm, groupForm, operandForm, isSum, isSmaller, operatorForm, joinedTo, expression, operand, product, productFrom, expressionFrom}
 use Rattle.text_syntax.specs.Printed.{printedExpression}
-use Rattle.text_syntax.specs.Parts.{everyTerm, termNamed, termKinded, termShort, termInRange, isReference, isMeasure, operators, depth}
-use Rattle.text_syntax.specs.Flat.{Summary, empty, summary, merged, withOperator, scan, scanFrom}
+use Rattle.text_syntax.specs.Parts.{everyTerm, isReference, isMeasure, operators, depth}
+use Rattle.text_syntax.specs.Flat.{closedChain, chainFrom, Summary, empty, summary, merged, withOperator, scan, scanFrom}
 use Rattle.text_syntax.proofs.TokenKinds.{operator-token}
-use Rattle.text_syntax.proofs.Readers.{All, all-map, then-all, behind-all, then-same, thenOr-same, past-same, then-then, past-all, one-all}
-use Rattle.text_syntax.proofs.Chains.{TermSpelled, term-all, round-term}
-use Rattle.text_syntax.proofs.Expressions.{Ends, Begins, operator-all, Reads, Spelled, NoOperator, rest-shorter, read-all}
+use Rattle.text_syntax.proofs.Readers.{All, all-always, all-map, then-same, thenOr-same, past-same, then-then, then-past, one-all}
+use Rattle.text_syntax.proofs.Chains.{chain-own, chain-letter, TermSpelled, term-all, round-term}
+use Rattle.text_syntax.proofs.Expressions.{Begins, operator-all, Reads, NoOperator, rest-shorter, read-all}
 use Rattle.text_syntax.proofs.Turns.{Shortens, operand-shorter, product-shorter, product-joined, expression-joined}
+
+-- a chain in one pass: nothing has opened, one more letter opens, `u` stands within
+pub chain-start : (ts : List Token) → chainFrom [] ts ≡ chainForm ts
+unfolding chainFrom closedChain then
+chain-start ts = go (chainForm ts)
+  where
+    go : (f : Form (List ℕ)) → then f formed ≡ f
+    go unformed = refl
+    go (formed ls r) = refl
+
+closed-one : (ls : List ℕ) (l : ℕ) (ms : List ℕ) (r : List Token)
+    → past closeSquare r (closedChain (length ls) (ls ++ (l ∷ ms))) ≡ closedChain (length (ls ++ (l ∷ []))) ((ls ++ (l ∷ [])) ++ ms) r
+unfolding closedChain
+closed-one ls l ms r =
+    let longer : length (ls ++ (l ∷ [])) ≡ suc (length ls) = omega (arith, length-append ls (l ∷ [])) in
+    rw (longer, append-assoc ls (l ∷ []) ms)
+
+pub chain-opens : (ls : List ℕ) (l : ℕ) (r : List Token) → chainFrom ls (letter l ∷ openSquare ∷ r) ≡ chainFrom (ls ++ (l ∷ [])) r
+unfolding chainFrom past is same fixedIn kind then
+chain-opens ls l r =
+    ap (λ (f : Form (List ℕ)). then f (λ ms. closedChain (length ls) (ls ++ ms))) (chain-letter l (openSquare ∷ r))
+    ∙ then-then (chainForm r) _ _
+    ∙ then-same (chainForm r) _ _ (all-always _ (chainForm r) (λ ms s. then-past closeSquare s (formed (l ∷ ms)) _ ∙ closed-one ls l ms s))
+
+pub chain-within : (ls : List ℕ) (r : List Token) → chainFrom ls (own ∷ r) ≡ closedChain (length ls) ls r
+unfolding chainFrom then
+chain-within ls r = rw (chain-own r, append-nil)
 
 -- summaries merge from left to right
 module _ (s : Sizes) (d : ℕ) (g : Summary) where
-  pub merged-operation : (o : Sign) (x y : Expression) → merged d (withOperator o (merged d g (summary s x))) (summary s y) ≡ merged d g (summary s (operation o x y))
+  pub merged-operation : (o : Sign) (x y : Expression) → merged d (withOperator o (merged d g (summary s x))) (summary s y)
+      ≡ merged d g (summary s (operation o x y))
   unfolding merged withOperator summary everyTerm isReference isMeasure depth operators
   merged-operation o x y =
       let deeper : max (max (g .depth) (d + depth x)) (d + depth y) ≡ max (g .depth) (d + max (depth x) (depth y)) = omega arith in
@@ -43,7 +71,8 @@ merged-empty s e =
 -- a term and an operator leave less
 term-shorter : (ts : List Token) → All (λ x r. length r < length ts) (termForm ts)
 unfolding printedExpression
-term-shorter ts = all-map (TermSpelled ts) (λ x r. length r < length ts) (termForm ts) (λ x r e. rest-shorter {k = 0} {e = term x} (record { text = e; proper = tt; tight = omega arith })) (term-all ts)
+term-shorter ts = all-map (TermSpelled ts) (λ x r. length r < length ts) (termForm ts)
+    (λ x r e. rest-shorter {k = 0} {e = term x} (record { text = e; proper = tt; tight = omega arith })) (term-all ts)
 
 operator-shorter : (ts : List Token) → All (λ (o : Sign) r. length r < length ts) (oneOf operatorIn ts)
 operator-shorter ts = one-all _ operatorIn operator operator-token ts (λ o r e. omega (arith, ap length e))
@@ -68,29 +97,36 @@ module _ (s : Sizes) where
 
   -- the scan without its number: where an operand is due, and behind one
   pub scan-due : (d : ℕ) (g : Summary) (ts : List Token)
-      → scanFrom s true d g ts ≡ thenOr (termForm ts) (λ x. scanFrom s false d (merged d g (summary s (term x)))) (past openRound ts (scanFrom s true (suc d) g))
+      → scanFrom s true d g ts
+      ≡ thenOr (termForm ts) (λ x. scanFrom s false d (merged d g (summary s (term x)))) (past openRound ts (scanFrom s true (suc d) g))
   unfolding scanFrom scan
   scan-due d g ts =
       thenOr-same (termForm ts) _ _ _ _
-      (all-map _ _ (termForm ts) (λ x r h. scan-same (length ts) (suc (length r)) false d (merged d g (summary s (term x))) r h (omega arith)) (term-shorter ts))
+      (all-map _ _ (termForm ts) (λ x r h. scan-same (length ts) (suc (length r)) false d (merged d g (summary s (term x))) r h (omega arith))
+      (term-shorter ts))
       (past-same openRound ts _ _ (λ r h. scan-same (length ts) (suc (length r)) true (suc d) g r h (omega arith)))
 
-  pub scan-outside : (g : Summary) (ts : List Token) → scanFrom s false 0 g ts ≡ thenOr (oneOf operatorIn ts) (λ o. scanFrom s true 0 (withOperator o g)) (formed g ts)
+  pub scan-outside : (g : Summary) (ts : List Token) → scanFrom s false 0 g ts
+      ≡ thenOr (oneOf operatorIn ts) (λ o. scanFrom s true 0 (withOperator o g)) (formed g ts)
   unfolding scanFrom scan
   scan-outside g ts =
       thenOr-same (oneOf operatorIn ts) _ _ _ _
-      (all-map _ _ (oneOf operatorIn ts) (λ o r h. scan-same (length ts) (suc (length r)) true 0 (withOperator o g) r h (omega arith)) (operator-shorter ts)) refl
+      (all-map _ _ (oneOf operatorIn ts) (λ o r h. scan-same (length ts) (suc (length r)) true 0 (withOperator o g) r h (omega arith)) (operator-shorter ts))
+      refl
 
   pub scan-inside : (d : ℕ) (g : Summary) (ts : List Token)
-      → scanFrom s false (suc d) g ts ≡ thenOr (oneOf operatorIn ts) (λ o. scanFrom s true (suc d) (withOperator o g)) (past closeRound ts (scanFrom s false d g))
+      → scanFrom s false (suc d) g ts
+      ≡ thenOr (oneOf operatorIn ts) (λ o. scanFrom s true (suc d) (withOperator o g)) (past closeRound ts (scanFrom s false d g))
   unfolding scanFrom scan
   scan-inside d g ts =
       thenOr-same (oneOf operatorIn ts) _ _ _ _
-      (all-map _ _ (oneOf operatorIn ts) (λ o r h. scan-same (length ts) (suc (length r)) true (suc d) (withOperator o g) r h (omega arith)) (operator-shorter ts))
+      (all-map _ _ (oneOf operatorIn ts) (λ o r h. scan-same (length ts) (suc (length r)) true (suc d) (withOperator o g) r h (omega arith))
+      (operator-shorter ts))
       (past-same closeRound ts _ _ (λ r h. scan-same (length ts) (suc (length r)) false d g r h (omega arith)))
 
   -- its turns, one for each token that a reader meets, and its end
-  pub scan-term : (d : ℕ) (g : Summary) (x : Term) (ts r : List Token) → termForm ts ≡ formed x r → scanFrom s true d g ts ≡ scanFrom s false d (merged d g (summary s (term x))) r
+  pub scan-term : (d : ℕ) (g : Summary) (x : Term) (ts r : List Token) → termForm ts ≡ formed x r → scanFrom s true d g ts
+      ≡ scanFrom s false d (merged d g (summary s (term x))) r
   unfolding thenOr
   scan-term d g x ts r h = scan-due d g ts ∙ rw h
 
@@ -115,11 +151,13 @@ module _ (s : Sizes) where
   behind : ℕ → Summary → Expression → List Token → Form Summary
   behind d g e r = scanFrom s false d (merged d g (summary s e)) r
 
-  behind-operator : (d : ℕ) (g : Summary) (o : Sign) (x : Expression) (r : List Token) → behind d g x (operator o ∷ r) ≡ scanFrom s true d (withOperator o (merged d g (summary s x))) r
+  behind-operator : (d : ℕ) (g : Summary) (o : Sign) (x : Expression) (r : List Token) → behind d g x (operator o ∷ r)
+      ≡ scanFrom s true d (withOperator o (merged d g (summary s x))) r
   unfolding behind
   behind-operator d g o x r = scan-operator d (merged d g (summary s x)) o r
 
-  behind-operation : (d : ℕ) (g : Summary) (o : Sign) (x y : Expression) (r : List Token) → behind d (withOperator o (merged d g (summary s x))) y r ≡ behind d g (operation o x y) r
+  behind-operation : (d : ℕ) (g : Summary) (o : Sign) (x y : Expression) (r : List Token) → behind d (withOperator o (merged d g (summary s x))) y r
+      ≡ behind d g (operation o x y) r
   unfolding behind
   behind-operation d g o x y r = rw (merged-operation s d g o x y)
 
@@ -128,7 +166,8 @@ module _ (s : Sizes) where
   Scans n element = (d : ℕ) (g : Summary) (ts : List Token) → length ts < n → scanFrom s true d g ts ≡ then (element ts) (behind d g)
 
   module _ (N : ℕ) (rank : Sign → Bool) (element : List Token → Form Expression) (short : Shortens element) (each : Scans N element) where
-    more-scan : (n d : ℕ) (g : Summary) (x : Expression) (ts : List Token) → length ts < n → length ts < N → behind d g x ts ≡ then (joinedTo n rank element x ts) (behind d g)
+    more-scan : (n d : ℕ) (g : Summary) (x : Expression) (ts : List Token) → length ts < n → length ts < N → behind d g x ts
+        ≡ then (joinedTo n rank element x ts) (behind d g)
     unfolding joinedTo thenOr then
     more-scan zero d g x ts l b = absurd (omega arith)
     more-scan (suc n) d g x ts l b = go (more-scan n d g) (operatorForm rank ts) (operator-all rank ts)
@@ -142,14 +181,19 @@ module _ (s : Sizes) where
             ap (behind d g x) (h .0)
             ∙ behind-operator d g o x r
             ∙ each d (withOperator o (merged d g (summary s x))) r (omega arith)
-            ∙ then-same (element r) _ _ (all-map _ _ (element r) (λ y r₁ q. behind-operation d g o x y r₁ ∙ ih (operation o x y) r₁ (omega arith) (omega arith)) (short r))
+            ∙ then-same (element r) _ _
+            (all-map _ _ (element r) (λ y r₁ q. behind-operation d g o x y r₁ ∙ ih (operation o x y) r₁ (omega arith) (omega arith)) (short r))
             ∙ sym (then-then (element r) _ _)
 
-    joined-scan : (from : Expression → List Token → Form Expression) → ((x : Expression) (ts : List Token) → from x ts ≡ joinedTo (suc (length ts)) rank element x ts)
+    joined-scan : (from : Expression → List Token → Form Expression)
+        → ((x : Expression) (ts : List Token) → from x ts ≡ joinedTo (suc (length ts)) rank element x ts)
         → (reader : List Token → Form Expression) → ((ts : List Token) → reader ts ≡ then (element ts) from) → Scans N reader
     joined-scan from is reader joins d g ts b =
         each d g ts b
-        ∙ then-same (element ts) _ _ (all-map _ _ (element ts) (λ x r q. more-scan (suc (length r)) d g x r (omega arith) (omega arith) ∙ ap (λ (f : Form Expression). then f (behind d g)) (sym (is x r))) (short ts))
+        ∙ then-same (element ts) _ _
+        (all-map _ _ (element ts)
+        (λ x r q. more-scan (suc (length r)) d g x r (omega arith) (omega arith) ∙ ap (λ (f : Form Expression). then f (behind d g)) (sym (is x r)))
+        (short ts))
         ∙ sym (then-then (element ts) from (behind d g))
         ∙ ap (λ (f : Form Expression). then f (behind d g)) (sym (joins ts))
 
@@ -162,7 +206,8 @@ module _ (s : Sizes) where
   sum-scan N each = joined-scan N isSum product product-shorter each expressionFrom (λ x ts. refl) expression expression-joined
 
   -- what a group holds, and its `)`
-  closed-scan : (d : ℕ) (g : Summary) (e : Expression) (r : List Token) → NoOperator r → behind (suc d) g e r ≡ then (past closeRound r (formed (group e))) (behind d g)
+  closed-scan : (d : ℕ) (g : Summary) (e : Expression) (r : List Token) → NoOperator r → behind (suc d) g e r
+      ≡ then (past closeRound r (formed (group e))) (behind d g)
   unfolding behind past then
   closed-scan d g e [] h = scan-close d (merged (suc d) g (summary s e)) [] h
   closed-scan d g e (t ∷ r) h = scan-close d (merged (suc d) g (summary s e)) (t ∷ r) h ∙ go (is closeRound t)
@@ -205,4 +250,6 @@ module _ (s : Sizes) where
   unfolding behind
   scan-expression ts =
       expression-scan (suc (length ts)) 0 empty ts (omega arith)
-      ∙ then-same (expression ts) _ _ (all-map (Reads 0 NoOperator ts) _ (expression ts) (λ e r w. scan-end (merged 0 empty (summary s e)) r (w .1) ∙ rw (merged-empty s e)) (read-all ts))
+      ∙ then-same (expression ts) _ _
+      (all-map (Reads 0 NoOperator ts) _ (expression ts) (λ e r w. scan-end (merged 0 empty (summary s e)) r (w .1) ∙ rw (merged-empty s e))
+      (read-all ts))

@@ -1,10 +1,8 @@
 -- Groups and the way in which a number is written leave no trace in the program.
-use mathlib.Core.Path.{_≡_, refl, sym, ap, ap₂, _∙_}
-use mathlib.Core.Bool.{Bool}
+use mathlib.Core.Path.{_≡_, refl, sym, ap₂, _∙_}
 use Rattle.program.specs.declared.rule.Operator.{Operator}
-use Rattle.program.specs.declared.rule.Comparison.{Comparison}
 use Rattle.program.specs.Program as P
-use Rattle.text_forms.specs.Numeral.{Numeral, whole, metres, allDigits, centimetres, numberValue}
+use Rattle.text_forms.specs.Numeral.{whole, metres, allDigits, centimetres, numberValue}
 use Rattle.text_syntax.specs.Token.{Sign}
 use Rattle.text_syntax.specs.Written.{Term, chain, number, Expression, term, group, operation, Condition, always, when, Action, set, remote}
 use Rattle.text_syntax.specs.Tree.{termTree, treeOf, testOf, targetOf, sourceOf, ruleOf, inCentimetres, plainTerm, plain, plainCondition, plainAction}
@@ -33,5 +31,6 @@ module _ (operatorOf : Sign → Operator) where
   rule-plain c (remote k f w e) = rw (test-plain c, tree-plain e)
 
   -- two rules that are the same without groups and in centimetres are one rule of the program
-  pub rule-same : (c c′ : Condition) (a a′ : Action) → plainCondition c ≡ plainCondition c′ → plainAction a ≡ plainAction a′ → ruleOf operatorOf c a ≡ ruleOf operatorOf c′ a′
+  pub rule-same : (c c′ : Condition) (a a′ : Action) → plainCondition c ≡ plainCondition c′ → plainAction a ≡ plainAction a′ → ruleOf operatorOf c a
+      ≡ ruleOf operatorOf c′ a′
   rule-same c c′ a a′ h k = sym (rule-plain c a) ∙ ap₂ (ruleOf operatorOf) h k ∙ rule-plain c′ a′

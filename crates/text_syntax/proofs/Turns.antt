@@ -1,16 +1,16 @@
 -- The numbers of the readers change nothing, and the grammar's equations without them: one turn of a reader that joins, and its end.
 use Prim.Native.Nat.{ℕ, zero, suc, _≤_, _<_}
 use mathlib.Core.Path.{_≡_, refl, sym, ap, _∙_}
-use mathlib.Core.Bool.{Bool, true, false, cond}
-use mathlib.Core.List.{List, [], _∷_, _++_}
+use mathlib.Core.Bool.{Bool, true}
+use mathlib.Core.List.{List, [], _∷_}
 use native.Mathlib.Omega.{arith}
 use lib.ListN.{length}
 use Rattle.text_syntax.specs.Token.{Token, Sign, operator, openRound, closeRound}
-use Rattle.text_syntax.specs.Kind.{kind, fixedIn, letterIn, same, is}
-use Rattle.text_syntax.specs.Form.{Form, formed, unformed, held, oneOf, past, then, thenOr, or}
+use Rattle.text_syntax.specs.Kind.{kind, fixedIn, same, is}
+use Rattle.text_syntax.specs.Form.{Form, formed, unformed, oneOf, past, then, thenOr, or}
 use Rattle.text_syntax.specs.Written.{Term, Expression, term, group, operation}
-use Rattle.text_syntax.specs.Grammar.{chainForm, numberIn, termForm, groupForm, operandForm, isSum, isSmaller, operatorForm, joinedTo, joined, expressionForm, expression, operand, product, productFrom, expressionFrom}
-use Rattle.text_syntax.proofs.Readers.{All, all-formed, all-map, then-same}
+use Rattle.text_syntax.specs.Grammar.{chainForm, termForm, groupForm, operandForm, isSum, isSmaller, operatorForm, joinedTo, joined, expressionForm, expression, operand, product, productFrom, expressionFrom}
+use Rattle.text_syntax.proofs.Readers.{All, all-map, then-same}
 use Rattle.text_syntax.proofs.Chains.{round-term}
 use Rattle.text_syntax.proofs.Expressions.{Ends, Begins, operator-all, Reads, rest-shorter, joined-more, joined-end, NoOperator, Anything, operand-all, product-all, expression-all, read-all}
 
@@ -30,17 +30,20 @@ module _ (rank : Sign → Bool) (element element′ : List Token → Form Expres
   more-same (suc n) zero x ts l k a = absurd (omega arith)
   more-same (suc n) (suc m) x ts l k a = go (more-same n m) (operatorForm rank ts) (operator-all rank ts)
     where
-      go : ((x : Expression) (ts : List Token) → length ts < n → length ts < m → Agree (length ts) element element′ → joinedTo n rank element x ts ≡ joinedTo m rank element′ x ts)
+      go : ((x : Expression) (ts : List Token) → length ts < n → length ts < m → Agree (length ts) element element′ → joinedTo n rank element x ts ≡ joinedTo
+          m rank element′ x ts)
           → (f : Form Sign) → All (Begins rank ts) f
           → thenOr f (λ o r. then (element r) (λ y. joinedTo n rank element (operation o x y))) (formed x ts)
           ≡ thenOr f (λ o r. then (element′ r) (λ y. joinedTo m rank element′ (operation o x y))) (formed x ts)
       go ih unformed b = refl
       go ih (formed o r) b =
           let behind : length ts ≡ suc (length r) = ap length (b .0) in
-          then-same (element r) _ _ (all-map _ _ (element r) (λ y r₁ d. ih (operation o x y) r₁ (omega arith) (omega arith) (λ s e. a s (omega arith))) (short r))
+          then-same (element r) _ _
+          (all-map _ _ (element r) (λ y r₁ d. ih (operation o x y) r₁ (omega arith) (omega arith) (λ s e. a s (omega arith))) (short r))
           ∙ ap (λ (g : Form Expression). then g (λ y. joinedTo m rank element′ (operation o x y))) (a r (omega arith))
 
-  joined-same : (n m : ℕ) (ts : List Token) → length ts ≤ n → length ts ≤ m → Agree (suc (length ts)) element element′ → joined n rank element ts ≡ joined m rank element′ ts
+  joined-same : (n m : ℕ) (ts : List Token) → length ts ≤ n → length ts ≤ m → Agree (suc (length ts)) element element′ → joined n rank element ts
+      ≡ joined m rank element′ ts
   unfolding joined
   joined-same n m ts l k a =
       then-same (element ts) _ _ (all-map _ _ (element ts) (λ x r d. more-same n m x r (omega arith) (omega arith) (λ s e. a s (omega arith))) (short ts))
@@ -52,7 +55,8 @@ operand-same f h [] a = refl
 operand-same f h (t ∷ ts) a = rw (a ts (omega arith))
 
 -- elements that are the tokens of expressions leave less
-shortens : (k : ℕ) (E : List Token → Type 0) (element : List Token → Form Expression) → ((ts : List Token) → All (Reads k E ts) (element ts)) → Shortens element
+shortens : (k : ℕ) (E : List Token → Type 0) (element : List Token → Form Expression) → ((ts : List Token) → All (Reads k E ts) (element ts))
+    → Shortens element
 shortens k E element each ts = all-map (Reads k E ts) (λ e r. length r < length ts) (element ts) (λ e r w. rest-shorter (w .0)) (each ts)
 
 module _ (f h : List Token → Form Expression) (each : (ts : List Token) → All (Reads 0 NoOperator ts) (f ts)) where
@@ -109,20 +113,25 @@ module _ (rank : Sign → Bool) (element : List Token → Form Expression) (shor
 
   joined-from : (ts : List Token) → joined (length ts) rank element ts ≡ then (element ts) from
   unfolding joined from
-  joined-from ts = then-same (element ts) _ _ (all-map _ _ (element ts) (λ x r d. more-same rank element element short (length ts) (suc (length r)) x r d (omega arith) (λ s e. refl)) (short ts))
+  joined-from ts = then-same (element ts) _ _
+      (all-map _ _ (element ts) (λ x r d. more-same rank element element short (length ts) (suc (length r)) x r d (omega arith) (λ s e. refl)) (short ts))
 
   from-more : (o : Sign) (x : Expression) (r : List Token) → rank o ≡ true → from x (operator o ∷ r) ≡ then (element r) (λ y. from (operation o x y))
   unfolding from
   from-more o x r h =
       joined-more rank element (suc (length r)) o x r h
-      ∙ then-same (element r) _ _ (all-map _ _ (element r) (λ y s d. more-same rank element element short (suc (length r)) (suc (length s)) (operation o x y) s (omega arith) (omega arith) (λ s e. refl)) (short r))
+      ∙ then-same (element r) _ _
+      (all-map _ _ (element r)
+      (λ y s d. more-same rank element element short (suc (length r)) (suc (length s)) (operation o x y) s (omega arith) (omega arith) (λ s e. refl))
+      (short r))
 
 -- operands joined by `<?`
 pub product-joined : (ts : List Token) → product ts ≡ then (operand ts) productFrom
 unfolding product productFrom from
 product-joined ts = joined-from isSmaller operand operand-shorter ts
 
-pub product-more : (o : Sign) (x : Expression) (r : List Token) → isSmaller o ≡ true → productFrom x (operator o ∷ r) ≡ then (operand r) (λ y. productFrom (operation o x y))
+pub product-more : (o : Sign) (x : Expression) (r : List Token) → isSmaller o ≡ true → productFrom x (operator o ∷ r)
+    ≡ then (operand r) (λ y. productFrom (operation o x y))
 unfolding productFrom from
 product-more o x r h = from-more isSmaller operand operand-shorter o x r h
 
@@ -144,7 +153,8 @@ pub expression-joined : (ts : List Token) → expression ts ≡ then (product ts
 unfolding expressionFrom from
 expression-joined ts = expression-joins ts ∙ joined-from isSum product product-shorter ts
 
-pub expression-more : (o : Sign) (x : Expression) (r : List Token) → isSum o ≡ true → expressionFrom x (operator o ∷ r) ≡ then (product r) (λ y. expressionFrom (operation o x y))
+pub expression-more : (o : Sign) (x : Expression) (r : List Token) → isSum o ≡ true → expressionFrom x (operator o ∷ r)
+    ≡ then (product r) (λ y. expressionFrom (operation o x y))
 unfolding expressionFrom from
 expression-more o x r h = from-more isSum product product-shorter o x r h
 

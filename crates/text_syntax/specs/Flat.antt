@@ -1,15 +1,25 @@
--- An expression in one pass without its tree: what 9 to 12, 24 and 25 ask of it, at any depth of groups.
+-- Chains and expressions in one pass, at any number of hops and any depth of groups: an expression without its tree, by what 9 to 12, 24 and
+-- 25 ask of it.
 use Prim.Native.Nat.{ℕ, zero, suc, _+_, max}
 use mathlib.Core.Bool.{Bool, true, false, _&&_, _||_}
-use mathlib.Core.List.{List}
+use mathlib.Core.List.{List, _++_}
 use lib.ListN.{length}
 use Rattle.register.specs.declared.Sizes.{Sizes}
-use Rattle.text_syntax.specs.Token.{Token, Sign, openRound, closeRound}
+use Rattle.text_syntax.specs.Token.{Token, Sign, closeSquare, openRound, closeRound}
 use Rattle.text_syntax.specs.Kind.{operatorIn}
-use Rattle.text_syntax.specs.Form.{Form, formed, unformed, oneOf, past, thenOr}
+use Rattle.text_syntax.specs.Form.{Form, formed, unformed, oneOf, past, then, thenOr}
 use Rattle.text_syntax.specs.Written.{Expression, term}
-use Rattle.text_syntax.specs.Grammar.{termForm, isSum}
+use Rattle.text_syntax.specs.Grammar.{chainForm, termForm, isSum}
 use Rattle.text_syntax.specs.Parts.{everyTerm, termNamed, termKinded, termShort, termInRange, isReference, isMeasure, operators, depth}
+
+-- a chain with these letters, where `]` stands n times
+unfoldable pub closedChain : ℕ → List ℕ → List Token → Form (List ℕ)
+closedChain zero ls ts = formed ls ts
+closedChain (suc n) ls ts = past closeSquare ts (closedChain n ls)
+
+-- the rest of a chain, behind the letters that have opened
+unfoldable pub chainFrom : List ℕ → List Token → Form (List ℕ)
+chainFrom ls ts = then (chainForm ts) (λ ms. closedChain (length ls) (ls ++ ms))
 
 -- What 9 to 12, 24 and 25 ask: whether all letters name fields (9), chains go over references, a reference or a measure is held (10), chains
 -- have at most 16 hops (11), numbers are in range (12); the groups around groups (24) and the operators (25).

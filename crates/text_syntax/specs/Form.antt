@@ -1,5 +1,5 @@
 -- Readers of tokens: what a list of tokens begins with, and how readers are put behind and beside each other.
-use mathlib.Core.Bool.{Bool, cond}
+use mathlib.Core.Bool.{cond}
 use mathlib.Core.List.{List, [], _∷_}
 use mathlib.Core.Option.{Option, none, some}
 use Rattle.text_syntax.specs.Token.{Token}

@@ -1,5 +1,5 @@
 -- What a line of a rules text may hold, whatever stands around it: one definition for each of the refusals 9 to 12, 24 and 25.
-use Prim.Native.Nat.{ℕ, zero, suc, _+_, max}
+use Prim.Native.Nat.{ℕ, suc, _+_, max}
 use mathlib.Core.Bool.{Bool, true, false, not, _&&_, _||_}
 use mathlib.Core.List.{List, [], _∷_, _++_}
 use lib.Dec.{leb}

@@ -1,5 +1,5 @@
 -- The rule of the program that a written rule describes: groups leave no trace beyond the tree, and numbers are centimetres.
-use mathlib.Core.List.{List, _++_}
+use mathlib.Core.List.{_++_}
 use Rattle.chain_text.specs.Text.{letterField, wordOf}
 use Rattle.program.specs.declared.rule.Operator.{Operator}
 use Rattle.program.specs.Program as P
