@@ -29,8 +29,8 @@ linked-all t w ts f h =
     behind-all (ChainSpelled ts) P f _ h (λ ls r₂ e₂.
     past-all P closeSquare r₂ _ (λ r₃ e₃. spelled l ls r r₁ r₂ r₃ e e₁ e₂ e₃))))
   where
-    spelled : (l : ℕ) (ls : List ℕ) (r r₁ r₂ r₃ : List Token) → t ∷ w ∷ [] ≡ letter l ∷ r → r ≡ openSquare ∷ r₁ → ts ≡ printedChain ls ++ r₂ → r₂
-        ≡ closeSquare ∷ r₃
+    spelled : (l : ℕ) (ls : List ℕ) (r r₁ r₂ r₃ : List Token) → t ∷ w ∷ [] ≡ letter l ∷ r → r ≡ openSquare ∷ r₁ → ts ≡ printedChain ls ++ r₂
+        → r₂ ≡ closeSquare ∷ r₃
         → t ∷ w ∷ ts ≡ letter l ∷ openSquare ∷ ((printedChain ls ++ (closeSquare ∷ [])) ++ r₃)
     spelled l ls r r₁ r₂ r₃ e e₁ e₂ e₃ = cc (append-assoc (printedChain ls) (closeSquare ∷ []) r₃)
 

@@ -65,9 +65,8 @@ module _ (k : ℕ) (rank : Sign → Bool) (element : List Token → Form Express
         tight = omega (arith, binds o (b .1));
       }
 
-  more-all : ((ts : List Token) → All (Reads (suc k) E ts) (element ts)) → (n : ℕ) (ts : List Token) (x : Expression) (r : List Token) → Spelled k ts x r
-      → E r
-      → All (Reads k E′ ts) (joinedTo n rank element x r)
+  more-all : ((ts : List Token) → All (Reads (suc k) E ts) (element ts)) → (n : ℕ) (ts : List Token) (x : Expression) (r : List Token)
+      → Spelled k ts x r → E r → All (Reads k E′ ts) (joinedTo n rank element x r)
   unfolding joinedTo thenOr
   more-all each zero ts x r w h = tt
   more-all each (suc n) ts x r w h = go (more-all each n ts) (operatorForm rank r) refl (operator-all rank r)
@@ -142,7 +141,6 @@ pub read-all : (ts : List Token) → All (Reads 0 NoOperator ts) (expression ts)
 unfolding expression
 read-all ts = expression-all (length ts) ts
 
--- and the tokens of a proper expression are read, where the numbers suffice
 chain-long : (ls : List ℕ) → 0 < length (printedChain ls)
 unfolding printedChain
 chain-long [] = omega arith
@@ -154,8 +152,8 @@ unfolding printedExpression printedTerm operators
 expression-long (term (chain ls)) = omega (arith, chain-long ls)
 expression-long (term (number negative x)) = omega arith
 expression-long (group e) = omega (arith, expression-long e, length-append (printedExpression e) (closeRound ∷ []))
-expression-long (operation o x y) = omega
-    (arith, expression-long x, expression-long y, length-append (printedExpression x) (operator o ∷ printedExpression y))
+expression-long (operation o x y) =
+    omega (arith, expression-long x, expression-long y, length-append (printedExpression x) (operator o ∷ printedExpression y))
 
 -- what stands behind an expression is shorter
 pub rest-long : {k : ℕ} {ts : List Token} {e : Expression} {r : List Token} → Spelled k ts e r → 2 * operators e + 1 + length r ≤ length ts
@@ -176,11 +174,11 @@ module _ (rank : Sign → Bool) (element : List Token → Form Expression) where
   unfolding joinedTo thenOr
   joined-end n x r h = rw h
 
--- the same elements, which are read where they have at most N tokens with what stands behind them
+-- and the tokens of a proper expression are read: elements are, where they have at most N tokens with what stands behind them
 module _ (k : ℕ) (rank : Sign → Bool) (element : List Token → Form Expression) (E : List Token → Type 0) (N : ℕ)
     (binds : (o : Sign) → tightness o ≡ k → rank o ≡ true) (low : k < 2) (goes : (o : Sign) (r : List Token) → rank o ≡ true → E (operator o ∷ r))
-    (each : (e : Expression) (r : List Token) → suc k ≤ bound e → ProperExpression e → E r → length (printedExpression e ++ r) ≤ N → element
-    (printedExpression e ++ r) ≡ formed e r) where
+    (each : (e : Expression) (r : List Token) → suc k ≤ bound e → ProperExpression e → E r → length (printedExpression e ++ r) ≤ N
+    → element (printedExpression e ++ r) ≡ formed e r) where
   -- from its beginning on, what is joined before r is e
   abbrev Reached : Expression → List Token → Type 0
   Reached e r = (n : ℕ) × (length r < n) × (joined N rank element (printedExpression e ++ r) ≡ joinedTo n rank element e r)
@@ -212,9 +210,9 @@ module _ (k : ℕ) (rank : Sign → Bool) (element : List Token → Form Express
       lengths : length (printedExpression (operation o x y) ++ r) ≡ length (printedExpression x) + suc (length (printedExpression y ++ r))
       lengths = simp length-append (omega arith)
 
-      go : (k ≤ bound x → ProperExpression x → E (operator o ∷ (printedExpression y ++ r)) → length
-          (printedExpression x ++ (operator o ∷ (printedExpression y ++ r))) ≤ N
-          → Reached x (operator o ∷ (printedExpression y ++ r))) → Dec (k < tightness o) → Reached (operation o x y) r
+      go : (k ≤ bound x → ProperExpression x → E (operator o ∷ (printedExpression y ++ r))
+          → length (printedExpression x ++ (operator o ∷ (printedExpression y ++ r))) ≤ N → Reached x (operator o ∷ (printedExpression y ++ r)))
+          → Dec (k < tightness o) → Reached (operation o x y) r
       go ih (yes l) = first (operation o x y) r l p h f
       go ih (no l) =
           let same : tightness o ≡ k = omega arith in
@@ -255,15 +253,14 @@ ends-all rank r h = rw h
 
 -- a term or a group is read
 operand-read : (n : ℕ) (inner : List Token → Form Expression)
-    → ((e : Expression) (r : List Token) → ProperExpression e → NoOperator r → length (printedExpression e ++ r) ≤ n → inner (printedExpression e ++ r) ≡
-    formed e r)
+    → ((e : Expression) (r : List Token) → ProperExpression e → NoOperator r → length (printedExpression e ++ r) ≤ n
+    → inner (printedExpression e ++ r) ≡ formed e r)
     → (e : Expression) (r : List Token) → 2 ≤ bound e → ProperExpression e → length (printedExpression e ++ r) ≤ suc n
     → operandForm inner (printedExpression e ++ r) ≡ formed e r
 unfolding operandForm groupForm printedExpression bound tightness then or past is same fixedIn kind oneOf held operatorIn
 operand-read n inner reads (term x) r b p f = rw (term-read x r)
 operand-read n inner reads (group e) r b p f =
-    let same : (printedExpression e ++ (closeRound ∷ [])) ++ r
-    ≡ printedExpression e ++ (closeRound ∷ r) = append-assoc (printedExpression e) (closeRound ∷ []) r in
+    let same = append-assoc (printedExpression e) (closeRound ∷ []) r in
     rw (round-term ((printedExpression e ++ (closeRound ∷ [])) ++ r), same, reads e (closeRound ∷ r) p refl (omega (arith, ap length same)))
 operand-read n inner reads (operation o x y) r b p f = absurd (not-operand o b)
   where

@@ -46,14 +46,14 @@ unfolding then
 then-same unformed f h k = refl
 then-same (formed a r) f h k = k
 
-pub thenOr-same : {A B : Type 0} (g : Form A) (f h : A → List Token → Form B) (y z : Form B) → All (λ a r. f a r ≡ h a r) g → y ≡ z → thenOr g f y
-    ≡ thenOr g h z
+pub thenOr-same : {A B : Type 0} (g : Form A) (f h : A → List Token → Form B) (y z : Form B) → All (λ a r. f a r ≡ h a r) g → y ≡ z
+    → thenOr g f y ≡ thenOr g h z
 unfolding thenOr
 thenOr-same unformed f h y z k e = e
 thenOr-same (formed a r) f h y z k e = k
 
-pub past-same : {A : Type 0} (w : Token) (ts : List Token) (f h : List Token → Form A) → ((r : List Token) → length r < length ts → f r ≡ h r) → past w ts f
-    ≡ past w ts h
+pub past-same : {A : Type 0} (w : Token) (ts : List Token) (f h : List Token → Form A) → ((r : List Token) → length r < length ts → f r ≡ h r)
+    → past w ts f ≡ past w ts h
 unfolding past
 past-same w [] f h k = refl
 past-same w (t ∷ r) f h k = rw (k r (omega arith))
@@ -64,8 +64,8 @@ unfolding then
 then-then unformed f h = refl
 then-then (formed a r) f h = refl
 
-pub then-past : {A B : Type 0} (w : Token) (ts : List Token) (f : List Token → Form A) (h : A → List Token → Form B) → then (past w ts f) h
-    ≡ past w ts (λ r. then (f r) h)
+pub then-past : {A B : Type 0} (w : Token) (ts : List Token) (f : List Token → Form A) (h : A → List Token → Form B)
+    → then (past w ts f) h ≡ past w ts (λ r. then (f r) h)
 unfolding then past
 then-past w [] f h = refl
 then-past {A} {B} w (t ∷ r) f h = go (is w t)

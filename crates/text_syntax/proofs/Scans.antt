@@ -49,8 +49,8 @@ chain-within ls r = rw (chain-own r, append-nil)
 
 -- summaries merge from left to right
 module _ (s : Sizes) (d : ℕ) (g : Summary) where
-  pub merged-operation : (o : Sign) (x y : Expression) → merged d (withOperator o (merged d g (summary s x))) (summary s y)
-      ≡ merged d g (summary s (operation o x y))
+  pub merged-operation : (o : Sign) (x y : Expression)
+      → merged d (withOperator o (merged d g (summary s x))) (summary s y) ≡ merged d g (summary s (operation o x y))
   unfolding merged withOperator summary everyTerm isReference isMeasure depth operators
   merged-operation o x y =
       let deeper : max (max (g .depth) (d + depth x)) (d + depth y) ≡ max (g .depth) (d + max (depth x) (depth y)) = omega arith in
@@ -106,8 +106,8 @@ module _ (s : Sizes) where
       (term-shorter ts))
       (past-same openRound ts _ _ (λ r h. scan-same (length ts) (suc (length r)) true (suc d) g r h (omega arith)))
 
-  pub scan-outside : (g : Summary) (ts : List Token) → scanFrom s false 0 g ts
-      ≡ thenOr (oneOf operatorIn ts) (λ o. scanFrom s true 0 (withOperator o g)) (formed g ts)
+  pub scan-outside : (g : Summary) (ts : List Token)
+      → scanFrom s false 0 g ts ≡ thenOr (oneOf operatorIn ts) (λ o. scanFrom s true 0 (withOperator o g)) (formed g ts)
   unfolding scanFrom scan
   scan-outside g ts =
       thenOr-same (oneOf operatorIn ts) _ _ _ _
@@ -125,8 +125,8 @@ module _ (s : Sizes) where
       (past-same closeRound ts _ _ (λ r h. scan-same (length ts) (suc (length r)) false d g r h (omega arith)))
 
   -- its turns, one for each token that a reader meets, and its end
-  pub scan-term : (d : ℕ) (g : Summary) (x : Term) (ts r : List Token) → termForm ts ≡ formed x r → scanFrom s true d g ts
-      ≡ scanFrom s false d (merged d g (summary s (term x))) r
+  pub scan-term : (d : ℕ) (g : Summary) (x : Term) (ts r : List Token) → termForm ts ≡ formed x r
+      → scanFrom s true d g ts ≡ scanFrom s false d (merged d g (summary s (term x))) r
   unfolding thenOr
   scan-term d g x ts r h = scan-due d g ts ∙ rw h
 
@@ -151,13 +151,13 @@ module _ (s : Sizes) where
   behind : ℕ → Summary → Expression → List Token → Form Summary
   behind d g e r = scanFrom s false d (merged d g (summary s e)) r
 
-  behind-operator : (d : ℕ) (g : Summary) (o : Sign) (x : Expression) (r : List Token) → behind d g x (operator o ∷ r)
-      ≡ scanFrom s true d (withOperator o (merged d g (summary s x))) r
+  behind-operator : (d : ℕ) (g : Summary) (o : Sign) (x : Expression) (r : List Token)
+      → behind d g x (operator o ∷ r) ≡ scanFrom s true d (withOperator o (merged d g (summary s x))) r
   unfolding behind
   behind-operator d g o x r = scan-operator d (merged d g (summary s x)) o r
 
-  behind-operation : (d : ℕ) (g : Summary) (o : Sign) (x y : Expression) (r : List Token) → behind d (withOperator o (merged d g (summary s x))) y r
-      ≡ behind d g (operation o x y) r
+  behind-operation : (d : ℕ) (g : Summary) (o : Sign) (x y : Expression) (r : List Token)
+      → behind d (withOperator o (merged d g (summary s x))) y r ≡ behind d g (operation o x y) r
   unfolding behind
   behind-operation d g o x y r = rw (merged-operation s d g o x y)
 
@@ -166,8 +166,8 @@ module _ (s : Sizes) where
   Scans n element = (d : ℕ) (g : Summary) (ts : List Token) → length ts < n → scanFrom s true d g ts ≡ then (element ts) (behind d g)
 
   module _ (N : ℕ) (rank : Sign → Bool) (element : List Token → Form Expression) (short : Shortens element) (each : Scans N element) where
-    more-scan : (n d : ℕ) (g : Summary) (x : Expression) (ts : List Token) → length ts < n → length ts < N → behind d g x ts
-        ≡ then (joinedTo n rank element x ts) (behind d g)
+    more-scan : (n d : ℕ) (g : Summary) (x : Expression) (ts : List Token) → length ts < n → length ts < N
+        → behind d g x ts ≡ then (joinedTo n rank element x ts) (behind d g)
     unfolding joinedTo thenOr then
     more-scan zero d g x ts l b = absurd (omega arith)
     more-scan (suc n) d g x ts l b = go (more-scan n d g) (operatorForm rank ts) (operator-all rank ts)
@@ -206,8 +206,8 @@ module _ (s : Sizes) where
   sum-scan N each = joined-scan N isSum product product-shorter each expressionFrom (λ x ts. refl) expression expression-joined
 
   -- what a group holds, and its `)`
-  closed-scan : (d : ℕ) (g : Summary) (e : Expression) (r : List Token) → NoOperator r → behind (suc d) g e r
-      ≡ then (past closeRound r (formed (group e))) (behind d g)
+  closed-scan : (d : ℕ) (g : Summary) (e : Expression) (r : List Token) → NoOperator r
+      → behind (suc d) g e r ≡ then (past closeRound r (formed (group e))) (behind d g)
   unfolding behind past then
   closed-scan d g e [] h = scan-close d (merged (suc d) g (summary s e)) [] h
   closed-scan d g e (t ∷ r) h = scan-close d (merged (suc d) g (summary s e)) (t ∷ r) h ∙ go (is closeRound t)

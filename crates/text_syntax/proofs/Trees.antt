@@ -31,6 +31,6 @@ module _ (operatorOf : Sign → Operator) where
   rule-plain c (remote k f w e) = rw (test-plain c, tree-plain e)
 
   -- two rules that are the same without groups and in centimetres are one rule of the program
-  pub rule-same : (c c′ : Condition) (a a′ : Action) → plainCondition c ≡ plainCondition c′ → plainAction a ≡ plainAction a′ → ruleOf operatorOf c a
-      ≡ ruleOf operatorOf c′ a′
+  pub rule-same : (c c′ : Condition) (a a′ : Action) → plainCondition c ≡ plainCondition c′ → plainAction a ≡ plainAction a′
+      → ruleOf operatorOf c a ≡ ruleOf operatorOf c′ a′
   rule-same c c′ a a′ h k = sym (rule-plain c a) ∙ ap₂ (ruleOf operatorOf) h k ∙ rule-plain c′ a′

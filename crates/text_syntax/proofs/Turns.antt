@@ -30,8 +30,8 @@ module _ (rank : Sign → Bool) (element element′ : List Token → Form Expres
   more-same (suc n) zero x ts l k a = absurd (omega arith)
   more-same (suc n) (suc m) x ts l k a = go (more-same n m) (operatorForm rank ts) (operator-all rank ts)
     where
-      go : ((x : Expression) (ts : List Token) → length ts < n → length ts < m → Agree (length ts) element element′ → joinedTo n rank element x ts ≡ joinedTo
-          m rank element′ x ts)
+      go : ((x : Expression) (ts : List Token) → length ts < n → length ts < m → Agree (length ts) element element′
+          → joinedTo n rank element x ts ≡ joinedTo m rank element′ x ts)
           → (f : Form Sign) → All (Begins rank ts) f
           → thenOr f (λ o r. then (element r) (λ y. joinedTo n rank element (operation o x y))) (formed x ts)
           ≡ thenOr f (λ o r. then (element′ r) (λ y. joinedTo m rank element′ (operation o x y))) (formed x ts)
@@ -42,8 +42,8 @@ module _ (rank : Sign → Bool) (element element′ : List Token → Form Expres
           (all-map _ _ (element r) (λ y r₁ d. ih (operation o x y) r₁ (omega arith) (omega arith) (λ s e. a s (omega arith))) (short r))
           ∙ ap (λ (g : Form Expression). then g (λ y. joinedTo m rank element′ (operation o x y))) (a r (omega arith))
 
-  joined-same : (n m : ℕ) (ts : List Token) → length ts ≤ n → length ts ≤ m → Agree (suc (length ts)) element element′ → joined n rank element ts
-      ≡ joined m rank element′ ts
+  joined-same : (n m : ℕ) (ts : List Token) → length ts ≤ n → length ts ≤ m → Agree (suc (length ts)) element element′
+      → joined n rank element ts ≡ joined m rank element′ ts
   unfolding joined
   joined-same n m ts l k a =
       then-same (element ts) _ _ (all-map _ _ (element ts) (λ x r d. more-same n m x r (omega arith) (omega arith) (λ s e. a s (omega arith))) (short ts))
@@ -130,8 +130,8 @@ pub product-joined : (ts : List Token) → product ts ≡ then (operand ts) prod
 unfolding product productFrom from
 product-joined ts = joined-from isSmaller operand operand-shorter ts
 
-pub product-more : (o : Sign) (x : Expression) (r : List Token) → isSmaller o ≡ true → productFrom x (operator o ∷ r)
-    ≡ then (operand r) (λ y. productFrom (operation o x y))
+pub product-more : (o : Sign) (x : Expression) (r : List Token) → isSmaller o ≡ true
+    → productFrom x (operator o ∷ r) ≡ then (operand r) (λ y. productFrom (operation o x y))
 unfolding productFrom from
 product-more o x r h = from-more isSmaller operand operand-shorter o x r h
 
@@ -153,8 +153,8 @@ pub expression-joined : (ts : List Token) → expression ts ≡ then (product ts
 unfolding expressionFrom from
 expression-joined ts = expression-joins ts ∙ joined-from isSum product product-shorter ts
 
-pub expression-more : (o : Sign) (x : Expression) (r : List Token) → isSum o ≡ true → expressionFrom x (operator o ∷ r)
-    ≡ then (product r) (λ y. expressionFrom (operation o x y))
+pub expression-more : (o : Sign) (x : Expression) (r : List Token) → isSum o ≡ true
+    → expressionFrom x (operator o ∷ r) ≡ then (product r) (λ y. expressionFrom (operation o x y))
 unfolding expressionFrom from
 expression-more o x r h = from-more isSum product product-shorter o x r h
 
