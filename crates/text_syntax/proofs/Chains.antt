@@ -1,10 +1,9 @@
 -- A list of tokens begins with a term exactly when it begins with the tokens of one.
 use Prim.Native.Nat.{ℕ}
 use mathlib.Core.Path.{_≡_, refl, sym, ap, _∙_}
-use mathlib.Core.Bool.{Bool, false}
+use mathlib.Core.Bool.{false}
 use mathlib.Core.Option.{none}
 use mathlib.Core.List.{List, [], _∷_, _++_, append-assoc}
-use Rattle.text_forms.specs.Numeral.{Numeral}
 use Rattle.text_syntax.specs.Token as T
 use Rattle.text_syntax.specs.Token.{Token, own, letter, openSquare, closeSquare, openRound}
 use Rattle.text_syntax.specs.Kind as K

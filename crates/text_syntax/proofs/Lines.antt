@@ -1,18 +1,23 @@
 -- A line has a form exactly when its tokens are those of that form.
 use Prim.Native.Nat.{ℕ}
 use mathlib.Core.Path.{_≡_, refl, sym, ap, _∙_}
-use mathlib.Core.Logic.{_↔_}
+use mathlib.Core.Logic.{_↔_, _≢_}
+use mathlib.Core.Bool.{false}
 use mathlib.Core.List.{List, [], _∷_, _++_, append-assoc, append-nil}
 use mathlib.Core.Option.{some}
 use native.Mathlib.Omega.{arith}
+use Rattle.laws.specs.Lists.{Each}
+use Rattle.laws.proofs.Bools.{true-false}
+use Rattle.laws.proofs.Lists.{each-append}
 use Rattle.program.specs.declared.rule.Comparison.{Comparison}
 use Rattle.program.specs.declared.rule.Sort.{Sort}
-use Rattle.text_syntax.specs.Token.{Token, stepWord, endWord, doneWord, loopWord, ifWord, remoteWord, own, letter, becomes, colon, write, comparison, openSquare, closeSquare}
+use Rattle.text_syntax.specs.Token as T
+use Rattle.text_syntax.specs.Token.{Token, unknown, operator, openRound, closeRound, stepWord, endWord, doneWord, loopWord, ifWord, remoteWord, own, letter, becomes, colon, write, comparison, openSquare, closeSquare}
 use Rattle.text_syntax.specs.Kind.{kind, letterIn, writeIn, operatorIn, comparisonIn, fixedIn, same, is}
 use Rattle.text_syntax.specs.Form.{Form, formed, held, oneOf, past, then, or, whole}
-use Rattle.text_syntax.specs.Written.{Expression, Condition, always, when, Action, set, remote, Line, step, end, done, loop, rule}
+use Rattle.text_syntax.specs.Written.{chain, number, Expression, term, group, operation, Condition, always, when, Action, set, remote, Line, step, end, done, loop, rule}
 use Rattle.text_syntax.specs.Grammar.{chainForm, expression, localForm, sentForm, remoteForm, ruleForm, comparedForm, testedForm, anyForm, lineForm}
-use Rattle.text_syntax.specs.Printed.{printedChain, printedExpression, printedAction, printedLine, ProperExpression, ProperAction, Proper}
+use Rattle.text_syntax.specs.Printed.{printedChain, printedTerm, printedExpression, printedAction, printedLine, ProperExpression, ProperAction, Proper}
 use Rattle.text_syntax.proofs.TokenKinds.{letter-token, write-token, comparison-token}
 use Rattle.text_syntax.proofs.Readers.{All, or-none, behind-all, or-all, past-all, one-all, whole-all}
 use Rattle.text_syntax.proofs.Chains.{ChainSpelled, chain-all, chain-read}
@@ -100,11 +105,11 @@ any-all ts =
     (rule-all always ts P (λ a r u. record { text = u .text; proper = (tt, u .proper) }))))))
 
 -- the printed tokens of a proper line
-pub record Spells (ts : List Token) (l : Line) : Type 0 where
+pub record PrintedLine (ts : List Token) (l : Line) : Type 0 where
   pub text : ts ≡ printedLine l
   pub proper : Proper l
 
-pub line-spelled : (ts : List Token) (l : Line) → lineForm ts ≡ some l → Spells ts l
+pub line-spelled : (ts : List Token) (l : Line) → lineForm ts ≡ some l → PrintedLine ts l
 unfolding lineForm
 line-spelled ts l e = let w = whole-all (SpelledLine ts) (anyForm ts) l (any-all ts) e in record
     { text = w .text ∙ append-nil (printedLine l); proper = w .proper }
@@ -196,5 +201,51 @@ unfolding lineForm whole
 printed-line l p = rw (any-read l p)
 
 -- so a list of tokens has one form at most, and each proper form one list of tokens
-pub line-exactly : (ts : List Token) (l : Line) → (lineForm ts ≡ some l) ↔ Spells ts l
+pub line-exactly : (ts : List Token) (l : Line) → (lineForm ts ≡ some l) ↔ PrintedLine ts l
 line-exactly ts l = (line-spelled ts l, λ w. ap lineForm (w .text) ∙ printed-line l (w .proper))
+
+pub printed-one : (l m : Line) → Proper l → Proper m → printedLine l ≡ printedLine m → l ≡ m
+printed-one l m p q e = let same : some l ≡ some m = sym (printed-line l p) ∙ ap lineForm e ∙ printed-line m q in cc
+
+-- every token of a form is one
+abbrev pub Known : Token → Type 0
+Known t = t ≢ unknown
+
+known : (t : Token) → is unknown t ≡ false → Known t
+unfolding is same fixedIn kind
+known t h e = true-false (ap (is unknown) e) h
+
+known-around : (s : List Token) (t : Token) (r : List Token) → is unknown t ≡ false → Each Known s → Each Known r → Each Known (s ++ (t ∷ r))
+known-around s t r h k j = each-append Known s (t ∷ r) k (known t h, j)
+
+chain-known : (ls : List ℕ) → Each Known (printedChain ls)
+unfolding printedChain is same fixedIn kind
+chain-known [] = (known own refl, tt)
+chain-known (l ∷ ls) = (known (letter l) refl, (known openSquare refl, known-around (printedChain ls) closeSquare [] refl (chain-known ls) tt))
+
+expression-known : (e : Expression) → Each Known (printedExpression e)
+unfolding printedExpression printedTerm is same fixedIn kind
+expression-known (term (chain ls)) = chain-known ls
+expression-known (term (number negative x)) = (known (T.number negative x) refl, tt)
+expression-known (group e) = (known openRound refl, known-around (printedExpression e) closeRound [] refl (expression-known e) tt)
+expression-known (operation o x y) = known-around (printedExpression x) (operator o) (printedExpression y) refl (expression-known x) (expression-known y)
+
+action-known : (a : Action) → Each Known (printedAction a)
+unfolding printedAction is same fixedIn kind
+action-known (set f e) =
+    (known (letter f) refl, (known openSquare refl, (known own refl, (known closeSquare refl, (known becomes refl, expression-known e)))))
+action-known (remote k f c e) =
+    (known remoteWord refl, known-around (printedChain (f ∷ c)) (write k) (printedExpression e) refl (chain-known (f ∷ c)) (expression-known e))
+
+pub line-known : (l : Line) → Each Known (printedLine l)
+unfolding printedLine is same fixedIn kind
+line-known step = (known stepWord refl, tt)
+line-known end = (known endWord refl, tt)
+line-known done = (known doneWord refl, tt)
+line-known (loop f) = (known loopWord refl, (known (letter f) refl, tt))
+line-known (rule always a) = action-known a
+line-known (rule (when x c y) a) = (
+  known ifWord refl,
+  known-around (printedExpression x) (comparison c) (printedExpression y ++ (colon ∷ printedAction a)) refl (expression-known x)
+      (known-around (printedExpression y) colon (printedAction a) refl (expression-known y) (action-known a)),
+)
