@@ -8,10 +8,10 @@ use lib.ListN.{length}
 use Rattle.text_syntax.specs.Token.{Token, Sign, operator, openRound, closeRound}
 use Rattle.text_syntax.specs.Form.{Form, formed, unformed, then, thenOr}
 use Rattle.text_syntax.specs.Written.{Expression, operation}
-use Rattle.text_syntax.specs.Grammar.{isSum, isSmaller, operatorForm, joinedTo, expression, operand, product, productFrom, expressionFrom}
+use Rattle.text_syntax.specs.Grammar.{isSum, isSmaller, operatorForm, joinedTo, expression, operand, minimum, minimumFrom, expressionFrom}
 use Rattle.text_syntax.specs.Parts.{depth, operators}
 use Rattle.text_syntax.proofs.Readers.{All, all-map, then-all, behind-all, past-all}
-use Rattle.text_syntax.proofs.Turns.{product-joined, product-more, expression-joined, expression-more, operand-group}
+use Rattle.text_syntax.proofs.Turns.{minimum-joined, minimum-more, expression-joined, expression-more, operand-group}
 
 -- what is joined is as deep as x and has its operators
 pub record Grows (x e : Expression) : Type 0 where
@@ -35,13 +35,13 @@ joined-grows rank element (suc n) x ts = go (joined-grows rank element n) (opera
         all-map (λ e t. Grows (operation o x y) e) (λ e t. Grows x e) (joinedTo n rank element (operation o x y) s) (λ e t w. grows-on o x y e w)
         (ih (operation o x y) s))
 
-pub product-grows : (x : Expression) (ts : List Token) → All (λ e r. Grows x e) (productFrom x ts)
-unfolding productFrom
-product-grows x ts = joined-grows isSmaller operand (suc (length ts)) x ts
+pub minimum-grows : (x : Expression) (ts : List Token) → All (λ e r. Grows x e) (minimumFrom x ts)
+unfolding minimumFrom
+minimum-grows x ts = joined-grows isSmaller operand (suc (length ts)) x ts
 
 pub expression-grows : (x : Expression) (ts : List Token) → All (λ e r. Grows x e) (expressionFrom x ts)
 unfolding expressionFrom
-expression-grows x ts = joined-grows isSum product (suc (length ts)) x ts
+expression-grows x ts = joined-grows isSum minimum (suc (length ts)) x ts
 
 -- whatever is read here is more than k groups deep
 abbrev pub Deep : ℕ → Form Expression → Type 0
@@ -63,19 +63,19 @@ module _ (k : ℕ) (element : Form Expression) (from : Expression → List Token
   unfolding depth
   deep-joined o x h = deep-then (operation o x) (λ y. omega arith) h
 
-pub product-deep : (k : ℕ) (ts : List Token) → Deep k (operand ts) → Deep k (product ts)
-product-deep k ts h = rw (product-joined ts) (deep-first k (operand ts) productFrom product-grows h)
+pub minimum-deep : (k : ℕ) (ts : List Token) → Deep k (operand ts) → Deep k (minimum ts)
+minimum-deep k ts h = rw (minimum-joined ts) (deep-first k (operand ts) minimumFrom minimum-grows h)
 
-pub product-deep-more : (k : ℕ) (o : Sign) (x : Expression) (r : List Token) → isSmaller o ≡ true → Deep k (operand r)
-    → Deep k (productFrom x (operator o ∷ r))
-product-deep-more k o x r s h = rw (product-more o x r s) (deep-joined k (operand r) productFrom product-grows o x h)
+pub minimum-deep-more : (k : ℕ) (o : Sign) (x : Expression) (r : List Token) → isSmaller o ≡ true → Deep k (operand r)
+    → Deep k (minimumFrom x (operator o ∷ r))
+minimum-deep-more k o x r s h = rw (minimum-more o x r s) (deep-joined k (operand r) minimumFrom minimum-grows o x h)
 
-pub expression-deep : (k : ℕ) (ts : List Token) → Deep k (product ts) → Deep k (expression ts)
-expression-deep k ts h = rw (expression-joined ts) (deep-first k (product ts) expressionFrom expression-grows h)
+pub expression-deep : (k : ℕ) (ts : List Token) → Deep k (minimum ts) → Deep k (expression ts)
+expression-deep k ts h = rw (expression-joined ts) (deep-first k (minimum ts) expressionFrom expression-grows h)
 
-pub expression-deep-more : (k : ℕ) (o : Sign) (x : Expression) (r : List Token) → isSum o ≡ true → Deep k (product r)
+pub expression-deep-more : (k : ℕ) (o : Sign) (x : Expression) (r : List Token) → isSum o ≡ true → Deep k (minimum r)
     → Deep k (expressionFrom x (operator o ∷ r))
-expression-deep-more k o x r s h = rw (expression-more o x r s) (deep-joined k (product r) expressionFrom expression-grows o x h)
+expression-deep-more k o x r s h = rw (expression-more o x r s) (deep-joined k (minimum r) expressionFrom expression-grows o x h)
 
 -- a group is one deeper than what it holds
 pub group-deep : (k : ℕ) (r : List Token) → Deep k (expression r) → Deep (suc k) (operand (openRound ∷ r))

@@ -113,9 +113,9 @@ operand-all inner each ts =
     (record { text = e ∙ rw (w .0 .text, e₂, append-assoc (printedExpression x) (closeRound ∷ []) r₂); proper = w .0 .proper; tight = omega arith }, tt)))))
 
 -- operands joined by `<?`
-pub product-all : (element : List Token → Form Expression) → ((ts : List Token) → All (Reads 2 Anything ts) (element ts)) → (n : ℕ) (ts : List Token)
+pub minimum-all : (element : List Token → Form Expression) → ((ts : List Token) → All (Reads 2 Anything ts) (element ts)) → (n : ℕ) (ts : List Token)
     → All (Reads 1 (Ends isSmaller) ts) (joined n isSmaller element ts)
-product-all element each n ts = joined-all 1 isSmaller element Anything (Ends isSmaller) binds-smaller (λ r e h. e) each n ts
+minimum-all element each n ts = joined-all 1 isSmaller element Anything (Ends isSmaller) binds-smaller (λ r e h. e) each n ts
 
 no-operator : (r : List Token) → Ends isSum r → Ends isSmaller r → NoOperator r
 unfolding operatorForm then isSmaller
@@ -135,7 +135,7 @@ unfolding expressionForm
 expression-all zero ts = tt
 expression-all (suc n) ts =
     joined-all 0 isSum _ (Ends isSmaller) NoOperator binds-sum no-operator
-    (product-all (operandForm (expressionForm n)) (operand-all (expressionForm n) (expression-all n)) (suc n)) (suc n) ts
+    (minimum-all (operandForm (expressionForm n)) (operand-all (expressionForm n) (expression-all n)) (suc n)) (suc n) ts
 
 pub read-all : (ts : List Token) → All (Reads 0 NoOperator ts) (expression ts)
 unfolding expression

@@ -10,7 +10,7 @@ use Rattle.text_syntax.specs.Token.{Token, Sign, own, letter, operator, 
 use Rattle.text_syntax.specs.Kind.{kind, operatorIn, fixedIn, same, is}
 use Rattle.text_syntax.specs.Form.{Form, formed, unformed, held, oneOf, past, then, thenOr, or}
 use Rattle.text_syntax.specs.Written.{Term, Expression, term, group, operation}
-use Rattle.text_syntax.specs.Grammar.{chainForm, termForm, groupForm, operandForm, isSum, isSmaller, operatorForm, joinedTo, expression, operand, product, productFrom, expressionFrom}
+use Rattle.text_syntax.specs.Grammar.{chainForm, termForm, groupForm, operandForm, isSum, isSmaller, operatorForm, joinedTo, expression, operand, minimum, minimumFrom, expressionFrom}
 use Rattle.text_syntax.specs.Printed.{printedExpression}
 use Rattle.text_syntax.specs.Parts.{everyTerm, isReference, isMeasure, operators, depth}
 use Rattle.text_syntax.specs.Flat.{closedChain, chainFrom, Summary, empty, summary, merged, withOperator, scan, scanFrom}
@@ -18,7 +18,7 @@ use Rattle.text_syntax.proofs.TokenKinds.{operator-token}
 use Rattle.text_syntax.proofs.Readers.{All, all-always, all-map, then-same, thenOr-same, past-same, then-then, then-past, one-all}
 use Rattle.text_syntax.proofs.Chains.{chain-own, chain-letter, TermSpelled, term-all, round-term}
 use Rattle.text_syntax.proofs.Expressions.{Begins, operator-all, Reads, NoOperator, rest-shorter, read-all}
-use Rattle.text_syntax.proofs.Turns.{Shortens, operand-shorter, product-shorter, product-joined, expression-joined}
+use Rattle.text_syntax.proofs.Turns.{Shortens, operand-shorter, minimum-shorter, minimum-joined, expression-joined}
 
 -- a chain in one pass: nothing has opened, one more letter opens, `u` stands within
 pub chain-start : (ts : List Token) → chainFrom [] ts ≡ chainForm ts
@@ -197,13 +197,13 @@ module _ (s : Sizes) where
         ∙ sym (then-then (element ts) from (behind d g))
         ∙ ap (λ (f : Form Expression). then f (behind d g)) (sym (joins ts))
 
-  product-scan : (N : ℕ) → Scans N operand → Scans N product
-  unfolding productFrom
-  product-scan N each = joined-scan N isSmaller operand operand-shorter each productFrom (λ x ts. refl) product product-joined
+  minimum-scan : (N : ℕ) → Scans N operand → Scans N minimum
+  unfolding minimumFrom
+  minimum-scan N each = joined-scan N isSmaller operand operand-shorter each minimumFrom (λ x ts. refl) minimum minimum-joined
 
-  sum-scan : (N : ℕ) → Scans N product → Scans N expression
+  sum-scan : (N : ℕ) → Scans N minimum → Scans N expression
   unfolding expressionFrom
-  sum-scan N each = joined-scan N isSum product product-shorter each expressionFrom (λ x ts. refl) expression expression-joined
+  sum-scan N each = joined-scan N isSum minimum minimum-shorter each expressionFrom (λ x ts. refl) expression expression-joined
 
   -- what a group holds, and its `)`
   closed-scan : (d : ℕ) (g : Summary) (e : Expression) (r : List Token) → NoOperator r
@@ -243,7 +243,7 @@ module _ (s : Sizes) where
 
   expression-scan : (N : ℕ) → Scans N expression
   expression-scan zero d g ts b = absurd (omega arith)
-  expression-scan (suc N) d g ts b = sum-scan (suc N) (product-scan (suc N) (operand-scan N (expression-scan N))) d g ts b
+  expression-scan (suc N) d g ts b = sum-scan (suc N) (minimum-scan (suc N) (operand-scan N (expression-scan N))) d g ts b
 
   -- the scan answers the summary of the tree and what stands behind it, and none where there is none
   pub scan-expression : (ts : List Token) → scanFrom s true 0 empty ts ≡ then (expression ts) (λ e. formed (summary s e))

@@ -9,10 +9,10 @@ use Rattle.text_syntax.specs.Token.{Token, Sign, operator, openRound, cl
 use Rattle.text_syntax.specs.Kind.{kind, fixedIn, same, is}
 use Rattle.text_syntax.specs.Form.{Form, formed, unformed, oneOf, past, then, thenOr, or}
 use Rattle.text_syntax.specs.Written.{Term, Expression, term, group, operation}
-use Rattle.text_syntax.specs.Grammar.{chainForm, termForm, groupForm, operandForm, isSum, isSmaller, operatorForm, joinedTo, joined, expressionForm, expression, operand, product, productFrom, expressionFrom}
+use Rattle.text_syntax.specs.Grammar.{chainForm, termForm, groupForm, operandForm, isSum, isSmaller, operatorForm, joinedTo, joined, expressionForm, expression, operand, minimum, minimumFrom, expressionFrom}
 use Rattle.text_syntax.proofs.Readers.{All, all-map, then-same}
 use Rattle.text_syntax.proofs.Chains.{round-term}
-use Rattle.text_syntax.proofs.Expressions.{Ends, Begins, operator-all, Reads, rest-shorter, joined-more, joined-end, NoOperator, Anything, operand-all, product-all, expression-all, read-all}
+use Rattle.text_syntax.proofs.Expressions.{Ends, Begins, operator-all, Reads, rest-shorter, joined-more, joined-end, NoOperator, Anything, operand-all, minimum-all, expression-all, read-all}
 
 -- what stands behind an expression is shorter
 abbrev pub Shortens : (List Token → Form Expression) → Type 0
@@ -60,9 +60,9 @@ shortens : (k : ℕ) (E : List Token → Type 0) (element : List Token → Form 
 shortens k E element each ts = all-map (Reads k E ts) (λ e r. length r < length ts) (element ts) (λ e r w. rest-shorter (w .0)) (each ts)
 
 module _ (f h : List Token → Form Expression) (each : (ts : List Token) → All (Reads 0 NoOperator ts) (f ts)) where
-  product-same : (n m : ℕ) (ts : List Token) → length ts ≤ n → length ts ≤ m → Agree (length ts) f h
+  minimum-same : (n m : ℕ) (ts : List Token) → length ts ≤ n → length ts ≤ m → Agree (length ts) f h
       → joined n isSmaller (operandForm f) ts ≡ joined m isSmaller (operandForm h) ts
-  product-same n m ts l k a =
+  minimum-same n m ts l k a =
       joined-same isSmaller (operandForm f) (operandForm h) (shortens 2 Anything (operandForm f) (operand-all f each)) n m ts l k
       (λ s d. operand-same f h s (λ r e. a r (omega arith)))
 
@@ -71,7 +71,7 @@ module _ (f h : List Token → Form Expression) (each : (ts : List Token) → Al
       → joined n isSum (joined p isSmaller (operandForm f)) ts ≡ joined m isSum element ts
   sum-same n m p element ts l k a =
       joined-same isSum (joined p isSmaller (operandForm f)) element
-      (shortens 1 (Ends isSmaller) (joined p isSmaller (operandForm f)) (product-all (operandForm f) (operand-all f each) p)) n m ts l k a
+      (shortens 1 (Ends isSmaller) (joined p isSmaller (operandForm f)) (minimum-all (operandForm f) (operand-all f each) p)) n m ts l k a
 
 -- nothing begins with an expression that has no token
 nil-expression : (n : ℕ) (ts : List Token) → length ts ≤ 0 → expressionForm n ts ≡ unformed
@@ -88,7 +88,7 @@ expression-same zero m ts l k = sym (nil-expression m ts l)
 expression-same (suc n) zero ts l k = nil-expression (suc n) ts k
 expression-same (suc n) (suc m) ts l k =
     sum-same (expressionForm n) (expressionForm m) (expression-all n) (suc n) (suc m) (suc n) _ ts l k (λ r d.
-    product-same (expressionForm n) (expressionForm m) (expression-all n) (suc n) (suc m) r (omega arith) (omega arith) (λ s e.
+    minimum-same (expressionForm n) (expressionForm m) (expression-all n) (suc n) (suc m) r (omega arith) (omega arith) (λ s e.
     expression-same n m s (omega arith) (omega arith)))
 
 -- what the readers without numbers leave
@@ -96,15 +96,15 @@ pub operand-reads : (ts : List Token) → All (Reads 2 Anything ts) (operand ts)
 unfolding operand
 operand-reads ts = operand-all expression read-all ts
 
-pub product-reads : (ts : List Token) → All (Reads 1 (Ends isSmaller) ts) (product ts)
-unfolding product
-product-reads ts = product-all operand operand-reads (length ts) ts
+pub minimum-reads : (ts : List Token) → All (Reads 1 (Ends isSmaller) ts) (minimum ts)
+unfolding minimum
+minimum-reads ts = minimum-all operand operand-reads (length ts) ts
 
 pub operand-shorter : Shortens operand
 operand-shorter = shortens 2 Anything operand operand-reads
 
-pub product-shorter : Shortens product
-product-shorter = shortens 1 (Ends isSmaller) product product-reads
+pub minimum-shorter : Shortens minimum
+minimum-shorter = shortens 1 (Ends isSmaller) minimum minimum-reads
 
 -- the first element, and what is joined to it
 module _ (rank : Sign → Bool) (element : List Token → Form Expression) (short : Shortens element) where
@@ -126,41 +126,41 @@ module _ (rank : Sign → Bool) (element : List Token → Form Expression) (shor
       (short r))
 
 -- operands joined by `<?`
-pub product-joined : (ts : List Token) → product ts ≡ then (operand ts) productFrom
-unfolding product productFrom from
-product-joined ts = joined-from isSmaller operand operand-shorter ts
+pub minimum-joined : (ts : List Token) → minimum ts ≡ then (operand ts) minimumFrom
+unfolding minimum minimumFrom from
+minimum-joined ts = joined-from isSmaller operand operand-shorter ts
 
-pub product-more : (o : Sign) (x : Expression) (r : List Token) → isSmaller o ≡ true
-    → productFrom x (operator o ∷ r) ≡ then (operand r) (λ y. productFrom (operation o x y))
-unfolding productFrom from
-product-more o x r h = from-more isSmaller operand operand-shorter o x r h
+pub minimum-more : (o : Sign) (x : Expression) (r : List Token) → isSmaller o ≡ true
+    → minimumFrom x (operator o ∷ r) ≡ then (operand r) (λ y. minimumFrom (operation o x y))
+unfolding minimumFrom from
+minimum-more o x r h = from-more isSmaller operand operand-shorter o x r h
 
-pub product-end : (x : Expression) (r : List Token) → Ends isSmaller r → productFrom x r ≡ formed x r
-unfolding productFrom
-product-end x r h = joined-end isSmaller operand (length r) x r h
+pub minimum-end : (x : Expression) (r : List Token) → Ends isSmaller r → minimumFrom x r ≡ formed x r
+unfolding minimumFrom
+minimum-end x r h = joined-end isSmaller operand (length r) x r h
 
 -- and these by `+` and `-`
-expression-joins : (ts : List Token) → expression ts ≡ joined (length ts) isSum product ts
-unfolding expression expressionForm product operand joined operandForm termForm groupForm chainForm oneOf past then or
+expression-joins : (ts : List Token) → expression ts ≡ joined (length ts) isSum minimum ts
+unfolding expression expressionForm minimum operand joined operandForm termForm groupForm chainForm oneOf past then or
 expression-joins [] = refl
 expression-joins (t ∷ ts) =
     let n : ℕ = length ts in
-    sum-same (expressionForm n) expression (expression-all n) (suc n) (suc n) (suc n) product (t ∷ ts) (omega arith) (omega arith) (λ r d.
-    product-same (expressionForm n) expression (expression-all n) (suc n) (length r) r (omega arith) (omega arith) (λ s e.
+    sum-same (expressionForm n) expression (expression-all n) (suc n) (suc n) (suc n) minimum (t ∷ ts) (omega arith) (omega arith) (λ r d.
+    minimum-same (expressionForm n) expression (expression-all n) (suc n) (length r) r (omega arith) (omega arith) (λ s e.
     expression-same n (length s) s (omega arith) (omega arith)))
 
-pub expression-joined : (ts : List Token) → expression ts ≡ then (product ts) expressionFrom
+pub expression-joined : (ts : List Token) → expression ts ≡ then (minimum ts) expressionFrom
 unfolding expressionFrom from
-expression-joined ts = expression-joins ts ∙ joined-from isSum product product-shorter ts
+expression-joined ts = expression-joins ts ∙ joined-from isSum minimum minimum-shorter ts
 
 pub expression-more : (o : Sign) (x : Expression) (r : List Token) → isSum o ≡ true
-    → expressionFrom x (operator o ∷ r) ≡ then (product r) (λ y. expressionFrom (operation o x y))
+    → expressionFrom x (operator o ∷ r) ≡ then (minimum r) (λ y. expressionFrom (operation o x y))
 unfolding expressionFrom from
-expression-more o x r h = from-more isSum product product-shorter o x r h
+expression-more o x r h = from-more isSum minimum minimum-shorter o x r h
 
 pub expression-end : (x : Expression) (r : List Token) → Ends isSum r → expressionFrom x r ≡ formed x r
 unfolding expressionFrom
-expression-end x r h = joined-end isSum product (length r) x r h
+expression-end x r h = joined-end isSum minimum (length r) x r h
 
 -- an operand is a term or a group
 pub operand-term : (x : Term) (ts r : List Token) → termForm ts ≡ formed x r → operand ts ≡ formed (term x) r

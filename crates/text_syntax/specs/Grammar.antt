@@ -79,15 +79,15 @@ expression ts = expressionForm (length ts) ts
 unfoldable pub operand : List Token → Form Expression
 operand ts = operandForm expression ts
 
-unfoldable pub product : List Token → Form Expression
-product ts = joined (length ts) isSmaller operand ts
+unfoldable pub minimum : List Token → Form Expression
+minimum ts = joined (length ts) isSmaller operand ts
 
 -- what is read behind x, where one of them goes on
-unfoldable pub productFrom : Expression → List Token → Form Expression
-productFrom x ts = joinedTo (suc (length ts)) isSmaller operand x ts
+unfoldable pub minimumFrom : Expression → List Token → Form Expression
+minimumFrom x ts = joinedTo (suc (length ts)) isSmaller operand x ts
 
 unfoldable pub expressionFrom : Expression → List Token → Form Expression
-expressionFrom x ts = joinedTo (suc (length ts)) isSum product x ts
+expressionFrom x ts = joinedTo (suc (length ts)) isSum minimum x ts
 
 -- `F[u] := X`: F is any capital, and `[u]` stands as it is
 unfoldable pub localForm : List Token → Form Action
