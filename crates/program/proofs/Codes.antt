@@ -1,13 +1,17 @@
 -- Codes: an expression is found again from its codes, codes in arrays, and places of locations.
 use Prim.Native.Nat.{ℕ, zero, suc, _+_, _-_, _≤_, _<_}
-use mathlib.Core.Path.{_≡_, refl, sym, ap, ap₂, _∙_}
-use mathlib.Core.List.{List, [], _∷_, _++_, append-nil, append-assoc}
+use mathlib.Core.Path.{_≡_, refl, sym, ap, ap₂, subst, _∙_}
+use mathlib.Core.Logic.{⊎-elim}
+use mathlib.Core.List.{List, [], _∷_, _++_, append-nil, append-assoc, List·Memᴰ, List·Memᴰ·head, Memᴰ·append-right}
 use native.Mathlib.Omega.{arith}
 use lib.IntN.{ℤ}
-use borrow.Author.Tests.{lt-ltb, le-ltb, ne-eqb}
+use lib.ListN.{getD}
+use borrow.Author.Tests.{lt-ltb, le-ltb, eq-eqb, ne-eqb}
+use Rattle.laws.proofs.Cases.{lt-or-le}
+use Rattle.chain.specs.Word.{unpack}
 use Rattle.program.specs.declared.location.Location.the-variants.{Cell, Line}
-use Rattle.program.specs.Program.{Expression, reading, constant, operation}
-use Rattle.program.specs.Code.{Code, operator, postfix, applied, pushed, stacked, lastOf, decoded, Formed, codeAt, codesFrom, codesIn, locationAt, placeOf}
+use Rattle.program.specs.Program.{Expression, reading, constant, operation, expressionReadings}
+use Rattle.program.specs.Code.{Code, chain, number, operator, postfix, applied, pushed, stacked, lastOf, decoded, Formed, codeReadings, codeOf, codeAt, codesFrom, codesIn, locationAt, placeOf}
 
 -- the codes of an expression leave it
 pub stacked-postfix : (e : Expression) (cs : List Code) (xs : List Expression) → stacked (postfix e ++ cs) xs ≡ stacked cs (e ∷ xs)
@@ -26,6 +30,22 @@ decoded-postfix e = ap (λ (l : List Code). lastOf (stacked l [])) (sym (append-
 
 pub postfix-formed : (e : Expression) → Formed (postfix e)
 postfix-formed e = sym (ap postfix (decoded-postfix e))
+
+-- the words of an expression's codes are its readings, in their order
+readings-append : (cs ds : List Code) → codeReadings (cs ++ ds) ≡ codeReadings cs ++ codeReadings ds
+unfolding codeReadings
+readings-append [] ds = refl
+readings-append (chain w ∷ cs) ds = ap (λ (l : List (List ℕ)). w ∷ l) (readings-append cs ds)
+readings-append (number z ∷ cs) ds = readings-append cs ds
+readings-append (operator op ∷ cs) ds = readings-append cs ds
+
+pub postfix-readings : (e : Expression) → codeReadings (postfix e) ≡ expressionReadings e
+unfolding postfix codeReadings expressionReadings
+postfix-readings (reading w) = refl
+postfix-readings (constant z) = refl
+postfix-readings (operation op x y) =
+    readings-append (postfix x) (postfix y ++ (operator op ∷ []))
+    ∙ ap₂ (λ (l m : List (List ℕ)). l ++ m) (postfix-readings x) (readings-append (postfix y) (operator op ∷ []) ∙ append-nil _ ∙ postfix-readings y)
 
 module _ (kinds : List ℕ) (numbers : List ℤ) (chains : List ℕ) where
   -- the first code of some, and none
@@ -48,6 +68,27 @@ module _ (kinds : List ℕ) (numbers : List ℤ) (chains : List ℕ) where
       let e : suc i + n ≡ i + suc n = omega arith in
       ap (λ (l : List Code). codeAt kinds numbers chains i ∷ l)
       (codes-more (suc i) n ∙ ap (λ (k : ℕ). codesFrom kinds numbers chains (suc i) n ++ (codeAt kinds numbers chains k ∷ [])) e)
+
+  -- a chain of some codes is among their words
+  chain-at : (i : ℕ) → getD kinds i 0 ≡ 0 → codeAt kinds numbers chains i ≡ chain (unpack (getD chains i 0))
+  unfolding codeAt codeOf
+  chain-at i k = simp (eq-eqb (getD kinds i 0) 0 k)
+
+  listed-from : (i n j : ℕ) → i ≤ j → j < i + n → getD kinds j 0 ≡ 0
+      → List·Memᴰ (unpack (getD chains j 0)) (codeReadings (codesFrom kinds numbers chains i n))
+  unfolding codesFrom codeReadings
+  listed-from i zero j l h k = absurd (omega arith)
+  listed-from i (suc n) j l h k =
+      ⊎-elim
+      (λ (b : i < j).
+      subst (List·Memᴰ (unpack (getD chains j 0))) (sym (readings-append (codeAt kinds numbers chains i ∷ []) (codesFrom kinds numbers chains (suc i) n)))
+      (Memᴰ·append-right (codeReadings (codeAt kinds numbers chains i ∷ [])) (listed-from (suc i) n j (omega arith) (omega arith) k)))
+      (λ (b : j ≤ i). let e : i ≡ j = omega arith in rw (e, chain-at j k) (List·Memᴰ·head refl))
+      (lt-or-le i j)
+
+  pub chain-listed : (from to i : ℕ) → from ≤ i → i < to → getD kinds i 0 ≡ 0
+      → List·Memᴰ (unpack (getD chains i 0)) (codeReadings (codesIn kinds numbers chains from to))
+  chain-listed from to i l h = listed-from from (to - from) i l (omega arith)
 
 -- arrays that have the same codes there
 pub codes-agree : (kinds kinds′ : List ℕ) (numbers numbers′ : List ℤ) (chains chains′ : List ℕ) (i n : ℕ)

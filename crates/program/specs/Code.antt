@@ -56,6 +56,13 @@ decoded cs = lastOf (stacked cs [])
 abbrev pub Formed : List Code → Type 0
 Formed cs = cs ≡ postfix (decoded cs)
 
+-- the words of codes from left to right
+unfoldable pub codeReadings : List Code → List (List ℕ)
+codeReadings [] = []
+codeReadings (chain w ∷ cs) = w ∷ codeReadings cs
+codeReadings (number z ∷ cs) = codeReadings cs
+codeReadings (operator op ∷ cs) = codeReadings cs
+
 -- kinds of codes: 0 a chain, 1 a number, 2 `+`, 3 `-`, 4 `<?`
 unfoldable pub operatorOf : ℕ → Operator
 operatorOf kind = cond (eqb kind 2) Plus (cond (eqb kind 3) Minus Smaller)
