@@ -3,4 +3,5 @@ pub mod Places
 pub mod ChainForms
 pub mod Terms
 pub mod Turning
+pub mod Coding
 pub mod Joining

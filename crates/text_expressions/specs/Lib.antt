@@ -4,4 +4,5 @@ pub mod Chain
 pub mod Term
 pub mod Summary
 pub mod Scan
+pub mod Codes
 pub mod Reading

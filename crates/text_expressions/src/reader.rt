@@ -6,7 +6,9 @@ ghost use lib.ListN.{length};
 ghost use Rattle.register.specs.Shape.{Limits};
 ghost use Rattle.text_syntax.specs.Grammar.{isSum, isSmaller, expression, minimum, operand};
 ghost use Rattle.text_expressions.specs.Term.{NoTerm};
+ghost use Rattle.text_expressions.specs.Codes.{arrays, Roomy};
 ghost use Rattle.text_expressions.specs.Reading.{RankedAt, ReadingAt, EndInside, GroupedBy};
+use crate::code;
 use crate::place;
 use crate::place::OperatorRead;
 use crate::summary;
@@ -16,9 +18,10 @@ use crate::term::TermRead;
 use register::Sizes;
 use text_tokens::token::Place;
 
-// What has been gathered then and the place behind; no form stands there; or one that is deeper than what remains.
+// What has been gathered then, the place behind and the number of codes; no form stands there; or one that is deeper than
+// what remains.
 pub enum Reading {
-    Read(Summary, usize),
+    Read(Summary, usize, usize),
     NoForm,
     Deep,
 }
@@ -58,23 +61,34 @@ pub fn read_expression(
     sizes: Sizes,
     room: usize,
     before: Summary,
+    kinds: &mut [u8],
+    numbers: &mut [i32],
+    chains: &mut [u64],
+    count: usize,
 ) -> Reading
     requires { ⌜ Limits sizes × (room ≤ 8) × (at ≤ length (now line)) × (before .operators ≤ at) ⌝ }
-    ensures { λ r. ⌜ ReadingAt expression sizes room before (now (line .entry)) at r ⌝ }
+    requires { ⌜ Roomy (arrays (now kinds) (now numbers) (now chains)) (now line) at count ⌝ }
+    ensures { λ r. ⌜ ReadingAt expression sizes room before (now (line .entry)) at (arrays (now (kinds .entry)) (now (numbers .entry)) (now (chains .entry))) (arrays (now (kinds .exit)) (now (numbers .exit)) (now (chains .exit))) count r ⌝ }
 {
     let mut seen = before;
     let mut i = at;
+    let mut codes = count;
+    let mut kind = 0;
     loop {
-        match read_minimum(line, i, sizes, room, seen) {
-            Reading::Read(next, end) => match sum_sign(line, end) {
-                OperatorRead::Operator(sign, behind) => {
-                    seen = summary::with_operator(sign, next);
-                    i = behind;
+        match read_minimum(line, i, sizes, room, seen, kinds, numbers, chains, codes) {
+            Reading::Read(next, end, read) => {
+                codes = code::put_sign(kinds, read, kind);
+                match sum_sign(line, end) {
+                    OperatorRead::Operator(sign, behind) => {
+                        seen = summary::with_operator(sign, next);
+                        kind = code::kind_of(sign);
+                        i = behind;
+                    }
+                    OperatorRead::Nothing => {
+                        return Reading::Read(next, end, codes);
+                    }
                 }
-                OperatorRead::Nothing => {
-                    return Reading::Read(next, end);
-                }
-            },
+            }
             Reading::NoForm => {
                 return Reading::NoForm;
             }
@@ -86,23 +100,40 @@ pub fn read_expression(
 }
 
 // Operands joined by `<?`.
-fn read_minimum(line: &[u8], at: usize, sizes: Sizes, room: usize, before: Summary) -> Reading
+fn read_minimum(
+    line: &[u8],
+    at: usize,
+    sizes: Sizes,
+    room: usize,
+    before: Summary,
+    kinds: &mut [u8],
+    numbers: &mut [i32],
+    chains: &mut [u64],
+    count: usize,
+) -> Reading
     requires { ⌜ Limits sizes × (room ≤ 8) × (at ≤ length (now line)) × (before .operators ≤ at) ⌝ }
-    ensures { λ r. ⌜ ReadingAt minimum sizes room before (now (line .entry)) at r ⌝ }
+    requires { ⌜ Roomy (arrays (now kinds) (now numbers) (now chains)) (now line) at count ⌝ }
+    ensures { λ r. ⌜ ReadingAt minimum sizes room before (now (line .entry)) at (arrays (now (kinds .entry)) (now (numbers .entry)) (now (chains .entry))) (arrays (now (kinds .exit)) (now (numbers .exit)) (now (chains .exit))) count r ⌝ }
 {
     let mut seen = before;
     let mut i = at;
+    let mut codes = count;
+    let mut kind = 0;
     loop {
-        match read_operand(line, i, sizes, room, seen) {
-            Reading::Read(next, end) => match smaller_sign(line, end) {
-                OperatorRead::Operator(sign, behind) => {
-                    seen = summary::with_operator(sign, next);
-                    i = behind;
+        match read_operand(line, i, sizes, room, seen, kinds, numbers, chains, codes) {
+            Reading::Read(next, end, read) => {
+                codes = code::put_sign(kinds, read, kind);
+                match smaller_sign(line, end) {
+                    OperatorRead::Operator(sign, behind) => {
+                        seen = summary::with_operator(sign, next);
+                        kind = code::kind_of(sign);
+                        i = behind;
+                    }
+                    OperatorRead::Nothing => {
+                        return Reading::Read(next, end, codes);
+                    }
                 }
-                OperatorRead::Nothing => {
-                    return Reading::Read(next, end);
-                }
-            },
+            }
             Reading::NoForm => {
                 return Reading::NoForm;
             }
@@ -114,20 +145,43 @@ fn read_minimum(line: &[u8], at: usize, sizes: Sizes, room: usize, before: Summa
 }
 
 // A term or a group.
-fn read_operand(line: &[u8], at: usize, sizes: Sizes, room: usize, before: Summary) -> Reading
+fn read_operand(
+    line: &[u8],
+    at: usize,
+    sizes: Sizes,
+    room: usize,
+    before: Summary,
+    kinds: &mut [u8],
+    numbers: &mut [i32],
+    chains: &mut [u64],
+    count: usize,
+) -> Reading
     requires { ⌜ Limits sizes × (room ≤ 8) × (at ≤ length (now line)) × (before .operators ≤ at) ⌝ }
-    ensures { λ r. ⌜ ReadingAt operand sizes room before (now (line .entry)) at r ⌝ }
+    requires { ⌜ Roomy (arrays (now kinds) (now numbers) (now chains)) (now line) at count ⌝ }
+    ensures { λ r. ⌜ ReadingAt operand sizes room before (now (line .entry)) at (arrays (now (kinds .entry)) (now (numbers .entry)) (now (chains .entry))) (arrays (now (kinds .exit)) (now (numbers .exit)) (now (chains .exit))) count r ⌝ }
 {
     let TermRead::Parts(parts, end) = term::read_term(line, at, sizes) else {
-        return read_group(line, at, sizes, room, before);
+        return read_group(line, at, sizes, room, before, kinds, numbers, chains, count);
     };
-    Reading::Read(summary::with_term(8 - room, before, parts), end)
+    code::put_term(kinds, numbers, chains, count, parts);
+    Reading::Read(summary::with_term(8 - room, before, parts), end, count + 1)
 }
 
 // A group, where no term stands: an expression in brackets, of which one less remains.
-fn read_group(line: &[u8], at: usize, sizes: Sizes, room: usize, before: Summary) -> Reading
-    requires { ⌜ Limits sizes × (room ≤ 8) × (at ≤ length (now line)) × (before .operators ≤ at) × NoTerm (now line) at ⌝ }
-    ensures { λ r. ⌜ ReadingAt operand sizes room before (now (line .entry)) at r ⌝ }
+fn read_group(
+    line: &[u8],
+    at: usize,
+    sizes: Sizes,
+    room: usize,
+    before: Summary,
+    kinds: &mut [u8],
+    numbers: &mut [i32],
+    chains: &mut [u64],
+    count: usize,
+) -> Reading
+    requires { ⌜ Limits sizes × (room ≤ 8) × (at ≤ length (now line)) × (before .operators ≤ at) ⌝ }
+    requires { ⌜ Roomy (arrays (now kinds) (now numbers) (now chains)) (now line) at count × NoTerm (now line) at ⌝ }
+    ensures { λ r. ⌜ ReadingAt operand sizes room before (now (line .entry)) at (arrays (now (kinds .entry)) (now (numbers .entry)) (now (chains .entry))) (arrays (now (kinds .exit)) (now (numbers .exit)) (now (chains .exit))) count r ⌝ }
 {
     let Place::At(inner) = place::open_round(line, at) else {
         return Reading::NoForm;
@@ -135,7 +189,18 @@ fn read_group(line: &[u8], at: usize, sizes: Sizes, room: usize, before: Summary
     if room == 0 {
         return Reading::Deep;
     }
-    close_group(line, read_expression(line, inner, sizes, room - 1, before))
+    let read = read_expression(
+        line,
+        inner,
+        sizes,
+        room - 1,
+        before,
+        kinds,
+        numbers,
+        chains,
+        count,
+    );
+    close_group(line, read)
 }
 
 // A group whose expression is read: `)` must stand behind it.
@@ -144,8 +209,8 @@ fn close_group(line: &[u8], inner: Reading) -> Reading
     ensures { λ r. ⌜ GroupedBy (now (line .entry)) inner r ⌝ }
 {
     match inner {
-        Reading::Read(seen, at) => match place::close_round(line, at) {
-            Place::At(end) => Reading::Read(seen, end),
+        Reading::Read(seen, at, count) => match place::close_round(line, at) {
+            Place::At(end) => Reading::Read(seen, end, count),
             Place::Nothing => Reading::NoForm,
         },
         Reading::NoForm => Reading::NoForm,
