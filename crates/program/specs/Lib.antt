@@ -3,4 +3,5 @@ pub mod Program
 pub mod Passed
 pub mod Stored
 pub mod Location
+pub mod Code
 pub mod Kept

@@ -1,14 +1,13 @@
 -- The answers of the code: a sum, and what a rule stores and sends.
 use Prim.Native.Nat.{ℕ, _<_}
-use mathlib.Core.Path.{_≡_, refl, sym, ap, ap₂, _∙_}
+use mathlib.Core.Path.{_≡_, refl, sym, ap, _∙_}
 use mathlib.Core.Bool.{Bool, true, false, cond, not, _&&_}
 use mathlib.Core.List.{List, []}
 use borrow.Author.Tests.{not-true, not-false}
 use lib.IntN.{ℤ}
 use lib.Signed.{mag}
 use mir.Syntax.{w32}
-use mir.Val.{toZ, ofZ, SFits}
-use mir.Facts.{toZ-ofZ}
+use mir.Val.{toZ, ofZ}
 use Rattle.integers.specs.Range.{inRange, sumOf}
 use Rattle.integers.specs.declared.Sum.{Sum}
 use Rattle.integers.specs.declared.Sum.the-variants.{InRange, OutOfRange}
@@ -40,11 +39,6 @@ sum-answer f z = go (inRange z)
     go : (t : Bool) → sumAnswer f (cond t (InRange z) OutOfRange) ≡ cond t (W.Store f z) (W.OutOfRange f)
     go true = refl
     go false = refl
-
--- an operation on two values as the code holds them, for the operator that it matched
-pub operate-kept : {k l : Operator} {a b : ℤ} {s : Sum} → SFits w32 a → SFits w32 b → k ≡ l → s ≡ sumOf (operate l (toZ w32 (ofZ w32 a)) (toZ w32 (ofZ w32 b)))
-    → s ≡ sumOf (operate k a b)
-operate-kept {l} ha hb e q = q ∙ ap sumOf (ap₂ (operate l) (toZ-ofZ ha) (toZ-ofZ hb)) ∙ rw e
 
 -- an operation on two readings, one of which may be missing
 module _ (op : Operator) (f : ℕ) where

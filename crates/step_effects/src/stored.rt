@@ -3,11 +3,10 @@ ghost use mathlib.Core.Path.{_≡_};
 ghost use Prim.Native.Nat.{_<_};
 ghost use Rattle.register.specs.Cells.{cellsOf};
 ghost use Rattle.register.specs.Shape.{Parts};
-ghost use Rattle.integers.specs.Range.{sumOf};
 ghost use Rattle.program.specs.declared.rule.Rule.the-variants.{Combine};
 ghost use Rattle.program.specs.Program.{operation};
 ghost use Rattle.program.specs.Stored.{ruleIn, termIn};
-ghost use Rattle.machine.specs.Value.{operate as operateOn, value};
+ghost use Rattle.machine.specs.Value.{value};
 ghost use Rattle.step_terms.specs.Found.{readsOf, RuleFound, RuleReads};
 ghost use Rattle.step_effects.specs.Answers.{readingWrite, sumAnswer, sumWrite, writeOf};
 use chain::reading::Reading;
@@ -18,6 +17,7 @@ use program::rule::Operator;
 use program::rule::Rule;
 use program::term::Term;
 use register::Sizes;
+use step_expressions::operation;
 use step_terms::term;
 
 // A rule stores nothing in its own record or a value in a field; or its sum for the field leaves the range.
@@ -42,15 +42,6 @@ fn write_sum(field: u64, sum: Sum) -> Write
     match sum {
         Sum::InRange(value) => Write::Store(field, value),
         Sum::OutOfRange => Write::OutOfRange(field),
-    }
-}
-
-fn operate(operator: Operator, a: i32, b: i32) -> Sum
-    ensures { λ r. ⌜ r ≡ sumOf (operateOn operator a b) ⌝ }
-{
-    match operator {
-        Operator::Plus => integers::add(a, b),
-        Operator::Minus => integers::subtract(a, b),
     }
 }
 
@@ -82,7 +73,7 @@ fn combine(
     else {
         return without_sum;
     };
-    write_sum(field, operate(operator, a, b))
+    write_sum(field, operation::operate(operator, a, b))
 }
 
 // What a rule stores in record u.

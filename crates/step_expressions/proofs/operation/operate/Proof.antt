@@ -1,10 +1,10 @@
--- `step_effects::stored::operate` meets its contract.
+-- `step_expressions::operation::operate` meets its contract.
 -- Assumes nothing.
 use Rattle.machine.specs.Value.{operate}
-use Rattle.step_effects.proofs.Answering.{operate-kept}
+use Rattle.step_expressions.proofs.Operating.{operate-kept}
 use borrow.Author.Needs.{needs}
-use Rattle.step_effects.proofs.stored.operate.Statement.{statement}
-use Rattle.step_effects.proofs.stored.operate.Tie as tie
+use Rattle.step_expressions.proofs.operation.operate.Statement.{statement}
+use Rattle.step_expressions.proofs.operation.operate.Tie as tie
 
 enum-told : tie.Need-enum-told
 enum-told c = search needs
@@ -18,6 +18,12 @@ enum-told-2 c = search needs
 subtract-requires : tie.Need-subtract-requires
 subtract-requires c κs = search needs
 
+enum-told-3 : tie.Need-enum-told-3
+enum-told-3 c = search needs
+
+smaller-requires : tie.Need-smaller-requires
+smaller-requires c κs = search needs
+
 returns : tie.Need-returns
 unfolding operate
 returns c =
@@ -30,6 +36,21 @@ returns-2 c =
     let s = c .before .before .before in
     operate-kept (s .fits .a) (s .fits .b) (c .before .enum-told2 .given .1) (c .subtract .ensures)
 
+returns-3 : tie.Need-returns-3
+returns-3 c =
+    let s = c .before .before .before in
+    operate-kept (s .fits .a) (s .fits .b) (c .before .enum-told3 .given .1) (c .smaller .ensures)
+
 pub operate-spec : {M : Type 1} → statement M
 operate-spec =
-    tie.close (tie.spec enum-told add-requires enum-told-2 subtract-requires returns returns-2)
+    tie.close
+    (tie.spec
+    enum-told
+    add-requires
+    enum-told-2
+    subtract-requires
+    enum-told-3
+    smaller-requires
+    returns
+    returns-2
+    returns-3)

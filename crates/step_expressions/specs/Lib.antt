@@ -1,0 +1,3 @@
+-- What an expression comes to, and what its codes have to be for that.
+pub mod Evaluated
+pub mod Codes
