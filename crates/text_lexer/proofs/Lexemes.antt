@@ -31,15 +31,15 @@ lexeme-end operand t at h = rw (drop-of-length-le t h)
 
 -- what stands behind a token
 module _ (operand : Bool) (t : List ℕ) (at : ℕ) {k : S.Token} {r : List ℕ} (read : firstToken operand (drop at t) ≡ first k r) where
-  pub first-size : 0 < length (spelled k)
+  first-size : 0 < length (spelled k)
   first-size = first-began operand (drop at t) read .some-byte
 
-  pub first-rest : r ≡ drop (at + length (spelled k)) t
+  first-rest : r ≡ drop (at + length (spelled k)) t
   first-rest =
       sym (ap (drop (length (spelled k))) (first-began operand (drop at t) read .text) ∙ drop-append-seam (spelled k) r)
       ∙ drop-drop (length (spelled k)) at t
 
-  pub first-inside : at ≤ length t → at + length (spelled k) ≤ length t
+  first-inside : at ≤ length t → at + length (spelled k) ≤ length t
   first-inside h =
       omega (arith, ap length (first-began operand (drop at t) read .text), length-append (spelled k) r, length-drop at t)
 
