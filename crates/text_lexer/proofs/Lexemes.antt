@@ -16,7 +16,7 @@ use Rattle.text_syntax.proofs.Lexing.{first-began, first-known, skipped-text, t
 use Rattle.text_lexer.specs.Lexeme.{tokenCode, signCode, sizedFirst, nextPlace, placed, lexeme, firstCode, Reads, Lexed}
 use Rattle.text_lexer.specs.declared.token.Token.{Token}
 use Rattle.text_lexer.specs.declared.token.Token.the-variants.{Unknown, LineEnd}
-use Rattle.text_lexer.specs.declared.token.Sized.{Sized}
+use Rattle.text_lexer.specs.declared.token.SizedToken.{SizedToken}
 use Rattle.text_lexer.specs.declared.token.Lexeme.{Lexeme}
 
 -- a text that is not at its end
@@ -31,20 +31,20 @@ lexeme-end operand t at h = rw (drop-of-length-le t h)
 
 -- what stands behind a token
 module _ (operand : Bool) (t : List ℕ) (at : ℕ) {k : S.Token} {r : List ℕ} (read : firstToken operand (drop at t) ≡ first k r) where
-  pub first-size : 0 < length (spelled k)
+  first-size : 0 < length (spelled k)
   first-size = first-began operand (drop at t) read .some-byte
 
-  pub first-rest : r ≡ drop (at + length (spelled k)) t
+  first-rest : r ≡ drop (at + length (spelled k)) t
   first-rest =
       sym (ap (drop (length (spelled k))) (first-began operand (drop at t) read .text) ∙ drop-append-seam (spelled k) r)
       ∙ drop-drop (length (spelled k)) at t
 
-  pub first-inside : at ≤ length t → at + length (spelled k) ≤ length t
+  first-inside : at ≤ length t → at + length (spelled k) ≤ length t
   first-inside h =
       omega (arith, ap length (first-began operand (drop at t) read .text), length-append (spelled k) r, length-drop at t)
 
 -- the answer, by the token at `at` and its size
-module _ (operand : Bool) (t : List ℕ) (at : ℕ) (inside : at < length t) {x : Sized} (read : x ≡ sizedFirst (firstToken operand (drop at t))) where
+module _ (operand : Bool) (t : List ℕ) (at : ℕ) (inside : at < length t) {x : SizedToken} (read : x ≡ sizedFirst (firstToken operand (drop at t))) where
   answer : lexeme operand at (drop at t) ≡ placed at (drop at t) (firstToken operand (drop at t))
   answer = lexeme-some operand at (drop at t) (omega (arith, length-drop at t))
 
@@ -54,15 +54,15 @@ module _ (operand : Bool) (t : List ℕ) (at : ℕ) (inside : at < length t) {x 
     where
       go : (f : First) → firstToken operand (drop at t) ≡ f → record { token = Unknown; end = length t } ≡ lexeme operand at (drop at t)
       go none e = ap (λ (n : ℕ). record { token = Unknown; end = n }) (omega (arith, length-drop at t)) ∙ sym (answer ∙ ap (placed at (drop at t)) e)
-      go (first k r) e = absurd (omega (arith, first-size operand t at e, ap (λ (y : Sized). y .size) (read ∙ ap sizedFirst e)))
+      go (first k r) e = absurd (omega (arith, first-size operand t at e, ap (λ (y : SizedToken). y .size) (read ∙ ap sizedFirst e)))
 
   pub sized-inside : at + x .size ≤ length t
   unfolding sizedFirst
   sized-inside = go (firstToken operand (drop at t)) refl
     where
       go : (f : First) → firstToken operand (drop at t) ≡ f → at + x .size ≤ length t
-      go none e = omega (arith, ap (λ (y : Sized). y .size) (read ∙ ap sizedFirst e))
-      go (first k r) e = omega (arith, first-inside operand t at e (omega arith), ap (λ (y : Sized). y .size) (read ∙ ap sizedFirst e))
+      go none e = omega (arith, ap (λ (y : SizedToken). y .size) (read ∙ ap sizedFirst e))
+      go (first k r) e = omega (arith, first-inside operand t at e (omega arith), ap (λ (y : SizedToken). y .size) (read ∙ ap sizedFirst e))
 
   pub lexeme-known : {end : ℕ} → x .size ≢ 0 → end ≡ nextPlace (at + x .size) (drop (at + x .size) t)
       → record { token = x .token; end = end } ≡ lexeme operand at (drop at t)
@@ -70,14 +70,14 @@ module _ (operand : Bool) (t : List ℕ) (at : ℕ) (inside : at < length t) {x 
   lexeme-known {end} z q = go (firstToken operand (drop at t)) refl
     where
       go : (f : First) → firstToken operand (drop at t) ≡ f → record { token = x .token; end = end } ≡ lexeme operand at (drop at t)
-      go none e = absurd (z (ap (λ (y : Sized). y .size) (read ∙ ap sizedFirst e)))
+      go none e = absurd (z (ap (λ (y : SizedToken). y .size) (read ∙ ap sizedFirst e)))
       go (first k r) e =
           let same = read ∙ ap sizedFirst e in
           let place : end ≡ nextPlace (at + length (spelled k)) r =
           q
-          ∙ ap (λ (n : ℕ). nextPlace (at + n) (drop (at + n) t)) (ap (λ (y : Sized). y .size) same)
+          ∙ ap (λ (n : ℕ). nextPlace (at + n) (drop (at + n) t)) (ap (λ (y : SizedToken). y .size) same)
           ∙ ap (nextPlace (at + length (spelled k))) (sym (first-rest operand t at e)) in
-          ap₂ (λ (c : Token) (n : ℕ). record { token = c; end = n }) (ap (λ (y : Sized). y .token) same) place
+          ap₂ (λ (c : Token) (n : ℕ). record { token = c; end = n }) (ap (λ (y : SizedToken). y .token) same) place
           ∙ sym (answer ∙ ap (placed at (drop at t)) e)
 
 -- the next place stands inside the text, and is not before

@@ -2,3 +2,4 @@
 pub mod Signs
 pub mod Places
 pub mod Lexemes
+pub mod Matching

@@ -30,7 +30,7 @@ use Rattle.text_lexer.specs.Lexeme.{tokenCode, signCode, sizedToken, noT
 use Rattle.text_lexer.specs.declared.token.Sign.the-variants.{Smaller}
 use Rattle.text_lexer.specs.declared.token.Token.the-variants as Token
 use Rattle.text_lexer.specs.declared.token.Token.the-variants.{Letter, Write, Operator, Compared}
-use Rattle.text_lexer.specs.declared.token.Sized.{Sized}
+use Rattle.text_lexer.specs.declared.token.SizedToken.{SizedToken}
 
 -- the text from a place on, and its first byte
 module _ (t : List ℕ) (at b : ℕ) (inside : at < length t) (byte : getD t at 0 ≡ b) where
@@ -38,14 +38,14 @@ module _ (t : List ℕ) (at b : ℕ) (inside : at < length t) (byte : getD t at 
   first-byte = drop-cons t at 0 inside ∙ ap₂ (λ (x n : ℕ). x ∷ drop n t) byte (sym (add-one at))
 
   -- the answer from a table, by the first byte
-  pub table-at : (ks : List S.Token) {x : Sized} → x ≡ sizedFirst (fixedToken ks (b ∷ drop (at + 1) t)) → x ≡ sizedFirst (fixedToken ks (drop at t))
+  pub table-at : (ks : List S.Token) {x : SizedToken} → x ≡ sizedFirst (fixedToken ks (b ∷ drop (at + 1) t)) → x ≡ sizedFirst (fixedToken ks (drop at t))
   table-at ks e = e ∙ sym (ap (λ (l : List ℕ). sizedFirst (fixedToken ks l)) first-byte)
 
 -- an answer by a test
-pub cond-first : {x : Bool} (a b : Sized) → x ≡ true → a ≡ cond x a b
+pub cond-first : {x : Bool} (a b : SizedToken) → x ≡ true → a ≡ cond x a b
 cond-first a b h = rw h
 
-pub cond-second : {x : Bool} (a b : Sized) → x ≡ false → b ≡ cond x a b
+pub cond-second : {x : Bool} (a b : SizedToken) → x ≡ false → b ≡ cond x a b
 cond-second a b h = rw h
 
 sized-cond : (x : Bool) (f g : First) → sizedFirst (cond x f g) ≡ cond x (sizedFirst f) (sizedFirst g)
@@ -58,11 +58,11 @@ opens-one b [] = refl
 opens-one b (a ∷ r) = and-one (eqb a b)
 
 -- a sign, or a longer one where `=` follows
-pub longer-is : {x short : Sized} (r : List ℕ) (f g : First) → x ≡ cond (startsWith 61 r) (sizedFirst f) short → short ≡ sizedFirst g
+pub longer-is : {x short : SizedToken} (r : List ℕ) (f g : First) → x ≡ cond (startsWith 61 r) (sizedFirst f) short → short ≡ sizedFirst g
     → x ≡ sizedFirst (cond (opensWith (61 ∷ []) r) f g)
 longer-is r f g e q =
     e
-    ∙ ap₂ (λ (y : Bool) (z : Sized). cond y (sizedFirst f) z) (sym (opens-one 61 r)) q
+    ∙ ap₂ (λ (y : Bool) (z : SizedToken). cond y (sizedFirst f) z) (sym (opens-one 61 r)) q
     ∙ sym (sized-cond (opensWith (61 ∷ []) r) f g)
 
 -- `<`, and `<?=` or `<?`
@@ -88,7 +88,7 @@ module _ (t : List ℕ) (at : ℕ) (question : startsWith 63 (drop at t) ≡ tru
   less-smaller h = cond-second _ _ h ∙ less-question t at question
 
 -- a word, where only this one begins with the text's first byte
-pub word-is : (t : List ℕ) (at b : ℕ) → at < length t → getD t at 0 ≡ b → (k : S.Token) {x : Sized}
+pub word-is : (t : List ℕ) (at b : ℕ) → at < length t → getD t at 0 ≡ b → (k : S.Token) {x : SizedToken}
     → ((r : List ℕ) → fixedToken words (b ∷ r) ≡ cond (opensWith (spelled k) (b ∷ r)) (first k (drop (length (spelled k)) (b ∷ r))) none)
     → x ≡ cond (opensWith (spelled k) (drop at t)) (sizedToken (tokenCode k) (length (spelled k))) noToken → x ≡ sizedFirst (fixedToken words (drop at t))
 unfolding sizedFirst

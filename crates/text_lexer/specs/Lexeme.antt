@@ -14,7 +14,7 @@ use Rattle.text_lexer.specs.declared.token.Sign.{Sign}
 use Rattle.text_lexer.specs.declared.token.Sign.the-variants.{Plus, Minus, Smaller}
 use Rattle.text_lexer.specs.declared.token.Token.{Token}
 use Rattle.text_lexer.specs.declared.token.Token.the-variants.{Step, End, Done, Loop, If, Remote, Own, Letter, Number, Becomes, Colon, Write, Operator, Compared, OpenSquare, CloseSquare, OpenRound, CloseRound, Unknown, LineEnd}
-use Rattle.text_lexer.specs.declared.token.Sized.{Sized}
+use Rattle.text_lexer.specs.declared.token.SizedToken.{SizedToken}
 use Rattle.text_lexer.specs.declared.token.Lexeme.{Lexeme}
 
 -- an operator as the code has it
@@ -52,13 +52,13 @@ tokenCode closeRound = CloseRound
 tokenCode unknown = Unknown
 
 -- a token and the number of its bytes
-abbrev pub sizedToken : Token → ℕ → Sized
+abbrev pub sizedToken : Token → ℕ → SizedToken
 sizedToken k n = record { token = k; size = n }
 
-abbrev pub noToken : Sized
+abbrev pub noToken : SizedToken
 noToken = sizedToken Unknown 0
 
-unfoldable pub sizedFirst : First → Sized
+unfoldable pub sizedFirst : First → SizedToken
 sizedFirst none = noToken
 sizedFirst (first k r) = sizedToken (tokenCode k) (length (spelled k))
 

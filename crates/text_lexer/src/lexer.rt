@@ -7,7 +7,7 @@ ghost use Rattle.text_syntax.specs.Lexing.{firstToken, numberToken};
 ghost use Rattle.text_lexer.specs.Lexeme.{sizedFirst, nextPlace, lexeme};
 use crate::sign;
 use crate::token::Lexeme;
-use crate::token::Sized;
+use crate::token::SizedToken;
 use crate::token::Token;
 use chain_text::letters;
 use chain_text::text;
@@ -15,7 +15,7 @@ use text_tokens::numeral;
 use text_tokens::numeral::NumberRead;
 
 // The number at `at`, if one stands there.
-fn number_at(line: &[u8], at: usize) -> Sized
+fn number_at(line: &[u8], at: usize) -> SizedToken
     requires { ⌜ at ≤ length (now line) ⌝ }
     ensures { λ r. ⌜ r ≡ sizedFirst (numberToken (numberForm (drop at (now (line .entry))))) ⌝ }
 {
@@ -26,7 +26,7 @@ fn number_at(line: &[u8], at: usize) -> Sized
 }
 
 // The token at `at`, if one stands there: where an operand must begin, a minus belongs to a number.
-fn first_token(line: &[u8], at: usize, operand: bool) -> Sized
+fn first_token(line: &[u8], at: usize, operand: bool) -> SizedToken
     requires { ⌜ at < length (now line) ⌝ }
     ensures { λ r. ⌜ r ≡ sizedFirst (firstToken operand (drop at (now (line .entry)))) ⌝ }
 {

@@ -9,7 +9,7 @@ ghost use Rattle.text_forms.specs.Token.{opensWith};
 ghost use Rattle.text_syntax.specs.Lexing.{words, signs, fixedToken};
 ghost use Rattle.text_lexer.specs.Lexeme.{sizedToken, noToken, sizedFirst};
 use crate::token::Sign;
-use crate::token::Sized;
+use crate::token::SizedToken;
 use crate::token::Token;
 use chain_text::text;
 use program::rule::Comparison;
@@ -17,14 +17,14 @@ use program::rule::Sort;
 use text_tokens::token;
 use text_tokens::token::Place;
 
-pub fn sized(token: Token, size: usize) -> Sized
+pub fn sized(token: Token, size: usize) -> SizedToken
     ensures { λ r. ⌜ r ≡ sizedToken token size ⌝ }
 {
-    Sized { token, size }
+    SizedToken { token, size }
 }
 
 // A sign of two bytes where `=` stands at `at`, else what its first byte is alone.
-fn longer(line: &[u8], at: usize, long: Token, short: Sized) -> Sized
+fn longer(line: &[u8], at: usize, long: Token, short: SizedToken) -> SizedToken
     ensures { λ r. ⌜ r ≡ cond (startsWith 61 (drop at (now (line .entry)))) (sizedToken long 2) short ⌝ }
 {
     if text::starts_with(line, at, b'=') {
@@ -34,7 +34,7 @@ fn longer(line: &[u8], at: usize, long: Token, short: Sized) -> Sized
 }
 
 // `<?=`, `<?` or `<`, of which the first byte stands before `at`.
-fn less_at(line: &[u8], at: usize) -> Sized
+fn less_at(line: &[u8], at: usize) -> SizedToken
     requires { ⌜ at ≤ length (now line) ⌝ }
     ensures { λ r. ⌜ r ≡ sizedFirst (fixedToken signs (60 ∷ drop at (now (line .entry)))) ⌝ }
 {
@@ -48,7 +48,7 @@ fn less_at(line: &[u8], at: usize) -> Sized
 }
 
 // A word that stands at `at`.
-fn word(line: &[u8], at: usize, bytes: &[u8], token: Token) -> Sized
+fn word(line: &[u8], at: usize, bytes: &[u8], token: Token) -> SizedToken
     requires { ⌜ at ≤ length (now line) ⌝ }
     ensures { λ r. ⌜ r ≡ cond (opensWith (now (bytes .entry)) (drop at (now (line .entry)))) (sizedToken token (length (now (bytes .entry)))) noToken ⌝ }
 {
@@ -59,7 +59,7 @@ fn word(line: &[u8], at: usize, bytes: &[u8], token: Token) -> Sized
 }
 
 // The word at `at`, if one stands there.
-fn word_at(line: &[u8], at: usize) -> Sized
+fn word_at(line: &[u8], at: usize) -> SizedToken
     requires { ⌜ at < length (now line) ⌝ }
     ensures { λ r. ⌜ r ≡ sizedFirst (fixedToken words (drop at (now (line .entry)))) ⌝ }
 {
@@ -76,7 +76,7 @@ fn word_at(line: &[u8], at: usize) -> Sized
 }
 
 // The sign or word at `at`, if one stands there.
-pub fn sign_at(line: &[u8], at: usize) -> Sized
+pub fn sign_at(line: &[u8], at: usize) -> SizedToken
     requires { ⌜ at < length (now line) ⌝ }
     ensures { λ r. ⌜ r ≡ sizedFirst (fixedToken (words ++ signs) (drop at (now (line .entry)))) ⌝ }
 {

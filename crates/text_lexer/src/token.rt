@@ -35,7 +35,7 @@ pub enum Token {
 }
 
 // A token and the number of its bytes, 0 where none stands.
-pub struct Sized {
+pub struct SizedToken {
     pub token: Token,
     pub size: usize,
 }

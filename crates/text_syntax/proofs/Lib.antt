@@ -11,3 +11,4 @@ pub mod Depths
 pub mod Trees
 pub mod Scans
 pub mod Texts
+pub mod TokenExamples
