@@ -7,13 +7,11 @@ use lib.IntN.{ℤ, pos}
 use lib.Dec.{eqb, ltb}
 use lib.ListN.{getD}
 use Rattle.chain.specs.Word.{unpack}
-use Rattle.plan_theory.specs.Plan.{Fact}
 use Rattle.program.specs.declared.rule.Operator.{Operator}
 use Rattle.program.specs.declared.rule.Operator.the-variants.{Plus, Minus, Smaller}
 use Rattle.program.specs.declared.location.Location.{Location}
 use Rattle.program.specs.declared.location.Location.the-variants.{Own, Cell, Line}
 use Rattle.program.specs.Program.{Expression, reading, constant, operation}
-use Rattle.program.specs.Location.{locationOf, Wants}
 
 -- a chain by its hop word, a number, or `+`, `-`, `<?`
 pub data Code : Type 0 where
@@ -83,6 +81,19 @@ codesFrom kinds numbers chains i (suc n) = codeAt kinds numbers chains i ∷ cod
 abbrev pub codesIn : List ℕ → List ℤ → List ℕ → ℕ → ℕ → List Code
 codesIn kinds numbers chains from to = codesFrom kinds numbers chains from (to - from)
 
+-- The arrays that keep the codes of a program: kinds, numbers, chains packed.
+pub record Codes : Type 0 where
+  pub kinds : List ℕ
+  pub numbers : List ℤ
+  pub chains : List ℕ
+
+-- their codes from..to, and the expression that these are those of
+abbrev pub codesOf : Codes → ℕ → ℕ → List Code
+codesOf k from to = codesIn (k .kinds) (k .numbers) (k .chains) from to
+
+unfoldable pub treeIn : Codes → ℕ → ℕ → Expression
+treeIn k from to = decoded (codesOf k from to)
+
 -- a location as a number: 0 the own number, 1 + f the own cell of field f, 17 + i line i
 unfoldable pub locationAt : ℕ → Location
 locationAt place = cond (eqb place 0) Own (cond (ltb place 17) (Cell (place - 1)) (Line (place - 17)))
@@ -96,12 +107,3 @@ placeOf (Line i) = i + 17
 abbrev pub EachChain : (Location → List ℕ → Type 0) → List ℕ → List ℕ → List ℕ → ℕ → ℕ → Type 0
 EachChain P kinds chains places from to =
     (i : ℕ) → from ≤ i → i < to → getD kinds i 0 ≡ 0 → P (locationAt (getD places i 0)) (unpack (getD chains i 0))
-
--- a word located among the lines l, its line being wanted
-pub record WordLocated (l : List Fact) (wanted : List Bool) (at : Location) (w : List ℕ) : Type 0 where
-  pub at-is : at ≡ locationOf l w
-  pub wants : Wants wanted at
-
--- the chains of the codes from..to are located among the lines l
-abbrev pub CodesLocated : List Fact → List Bool → List ℕ → List ℕ → List ℕ → ℕ → ℕ → Type 0
-CodesLocated l wanted = EachChain (WordLocated l wanted)
