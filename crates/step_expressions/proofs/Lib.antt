@@ -1,4 +1,6 @@
--- Laws of expressions' answers and of their codes.
+-- Laws of answers, of expressions and tests, and of codes.
+pub mod Sides
 pub mod Operating
+pub mod Testing
 pub mod Joining
 pub mod Reading

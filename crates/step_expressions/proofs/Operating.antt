@@ -1,6 +1,6 @@
 -- Operations on values as the code holds them, and on answers.
 use Prim.Native.Nat.{ℕ, _<_}
-use mathlib.Core.Path.{_≡_, refl, sym, ap, ap₂, subst, _∙_}
+use mathlib.Core.Path.{_≡_, refl, sym, ap, ap₂, _∙_}
 use mathlib.Core.Bool.{Bool, true, false, cond, not, _||_}
 use mathlib.Core.List.{List}
 use lib.IntN.{ℤ}
@@ -16,14 +16,11 @@ use Rattle.chain.specs.declared.reading.Reading.{Reading}
 use Rattle.chain.specs.declared.reading.Reading.the-variants as R
 use Rattle.program.specs.declared.rule.Operator.{Operator}
 use Rattle.program.specs.declared.rule.Operator.the-variants.{Smaller}
-use Rattle.program.specs.declared.term.Term.{Term}
-use Rattle.program.specs.declared.term.Term.the-variants.{Chain, Number}
 use Rattle.program.specs.Program.{Expression, operation}
-use Rattle.program.specs.Stored.{termIn}
 use Rattle.machine.specs.Value.{both, operate, combined, value, readingInRange, overflows}
 use Rattle.step_expressions.specs.declared.operation.Evaluated.{Evaluated}
 use Rattle.step_expressions.specs.declared.operation.Evaluated.the-variants.{Missing, Value, OutOfRange}
-use Rattle.step_expressions.specs.Evaluated.{ofReading, ofSum, evaluated, joined}
+use Rattle.step_expressions.specs.Evaluated.{ofReading, readingOf, ofSum, evaluated, joined}
 
 -- an operation on two values, for the operator that was matched
 pub operate-kept : {k l : Operator} {a b : ℤ} {s : Sum} → SFits w32 a → SFits w32 b → k ≡ l → s ≡ sumOf (operate l (toZ w32 (ofZ w32 a)) (toZ w32 (ofZ w32 b)))
@@ -77,27 +74,11 @@ module _ (op : Operator) where
   operation-joined read x y = answers-joined (overflows read x) (overflows read y) (value read x) (value read y)
 
 module _ (read : List ℕ → Reading) where
-  -- the answer of a term, and of an operation on two
-  pub term-answer : (x : Term) → ofReading (value read (termIn x)) ≡ evaluated read (termIn x)
-  unfolding evaluated overflows termIn
-  term-answer (Chain c) = refl
-  term-answer (Number z) = refl
-
-  pub pair-answer : (op : Operator) (x y : Term)
-      → joined op (ofReading (value read (termIn x))) (ofReading (value read (termIn y))) ≡ evaluated read (operation op (termIn x) (termIn y))
-  pair-answer op x y = ap₂ (joined op) (term-answer x) (term-answer y) ∙ sym (operation-joined op read (termIn x) (termIn y))
-
-  -- what an answer tells of its expression
-  abbrev pub Tells : Expression → Evaluated → Type 0
-  Tells e Missing = (overflows read e ≡ false) × (value read e ≡ R.Missing)
-  Tells e (Value z) = (overflows read e ≡ false) × (value read e ≡ R.Value z)
-  Tells e OutOfRange = overflows read e ≡ true
-
-  pub answer-tells : (e : Expression) {r : Evaluated} → r ≡ evaluated read e → Tells e r
-  unfolding evaluated ofReading
-  answer-tells e q = subst (Tells e) (sym q) (go (overflows read e) refl (value read e) refl)
+  -- the value of an expression none of whose sums leaves the range
+  pub value-told : (e : Expression) → overflows read e ≡ false → readingOf (evaluated read e) ≡ value read e
+  unfolding evaluated ofReading readingOf
+  value-told e h = rw h (go (value read e))
     where
-      go : (o : Bool) → overflows read e ≡ o → (x : Reading) → value read e ≡ x → Tells e (cond o OutOfRange (ofReading x))
-      go true a x b = a
-      go false a R.Missing b = (a, b)
-      go false a (R.Value z) b = (a, b)
+      go : (x : Reading) → readingOf (ofReading x) ≡ x
+      go R.Missing = refl
+      go (R.Value z) = refl

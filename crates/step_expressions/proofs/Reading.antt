@@ -15,7 +15,7 @@ use Rattle.register.specs.declared.cells.Cell.{Cell}
 use Rattle.chain.specs.Word.{unpack}
 use Rattle.program.specs.declared.rule.Operator.{Operator}
 use Rattle.program.specs.Program.{Expression, reading, constant, operation}
-use Rattle.program.specs.Code.{Code, chain, number, operator, postfix, operatorOf, codeOf, codeAt, codesIn}
+use Rattle.program.specs.Code.{Code, chain, number, operator, postfix, Arrays, operatorOf, codeOf, codeAt, codesIn}
 use Rattle.program.proofs.Codes.{codes-first, codes-none}
 use Rattle.machine.specs.Value.{value, overflows}
 use Rattle.step_terms.specs.Found.{followed}
@@ -23,7 +23,7 @@ use Rattle.step_expressions.specs.declared.operation.Evaluated.{Evaluate
 use Rattle.step_expressions.specs.declared.operation.Evaluated.the-variants.{Value}
 use Rattle.step_expressions.specs.declared.evaluate.Part.{Part}
 use Rattle.step_expressions.specs.Evaluated.{ofReading, evaluated, joined, termAt}
-use Rattle.step_expressions.specs.Codes.{Arrays, Reached, Ends, CodesFound, Read, BeginsWith, Evaluates}
+use Rattle.step_expressions.specs.Codes.{Reached, Ends, CodesFound, Read, BeginsWith, Evaluates}
 use Rattle.step_expressions.proofs.Operating.{operation-joined}
 use Rattle.step_expressions.proofs.Joining.{Joins, wrapped, joinCodes, TermCode, opened}
 

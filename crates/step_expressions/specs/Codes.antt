@@ -3,7 +3,7 @@ use Prim.Native.Nat.{ℕ, _≤_, _<_}
 use mathlib.Core.Path.{_≡_}
 use mathlib.Core.List.{List, [], _∷_, _++_}
 use lib.IntN.{ℤ}
-use lib.ListN.{length, getD}
+use lib.ListN.{getD}
 use Rattle.register.specs.declared.Sizes.{Sizes}
 use Rattle.register.specs.declared.cells.Cell.{Cell}
 use Rattle.program.specs.Program.{Expression}
@@ -12,12 +12,6 @@ use Rattle.step_terms.specs.Found.{Reaches, WordFound, followed}
 use Rattle.step_expressions.specs.declared.operation.Evaluated.{Evaluated}
 use Rattle.step_expressions.specs.declared.evaluate.Part.{Part}
 use Rattle.step_expressions.specs.Evaluated.{evaluated}
-
--- the arrays have the places below `to`
-pub record Arrays (kinds : List ℕ) (numbers : List ℤ) (places : List ℕ) (to : ℕ) : Type 0 where
-  pub in-kinds : to ≤ length kinds
-  pub in-numbers : to ≤ length numbers
-  pub in-places : to ≤ length places
 
 -- the place of each chain of the codes from..to leads somewhere
 abbrev pub Reached : Sizes → List ℤ → List ℕ → ℕ → List ℕ → List ℕ → ℕ → ℕ → Type 0

@@ -1,11 +1,14 @@
--- `step_terms::term::holds` meets its contract.
+-- `step_expressions::term::test_at` meets its contract.
 -- Assumes nothing.
 use mathlib.Core.Path.{ap₂, _∙_}
 use Rattle.program.specs.Stored.{testIn}
-use Rattle.machine.specs.Value.{holds, compareReadings}
+use Rattle.machine.specs.Value.{holds}
+use Rattle.machine.specs.Local.{testOverflows}
+use Rattle.step_expressions.specs.Tests.{answered, tested, compared}
+use Rattle.step_expressions.proofs.Testing.{test-compared}
 use borrow.Author.Needs.{needs}
-use Rattle.step_terms.proofs.term.holds.Statement.{statement}
-use Rattle.step_terms.proofs.term.holds.Tie as tie
+use Rattle.step_expressions.proofs.term.test_at.Statement.{statement}
+use Rattle.step_expressions.proofs.term.test_at.Tie as tie
 
 enum-told : tie.Need-enum-told
 enum-told c = search needs
@@ -23,27 +26,27 @@ term-value-requires-2 c κs =
     let s = c .before .before .before .before .before .before .before in
     (s .pre .0, s .pre .1, (rw (c .before .before .test .given .1) at (s .pre .2)) .1)
 
-compare-readings-requires : tie.Need-compare-readings-requires
-compare-readings-requires c κs = search needs
+compare-sides-requires : tie.Need-compare-sides-requires
+compare-sides-requires c κs = search needs
 
 returns : tie.Need-returns
-unfolding testIn holds
+unfolding testIn tested testOverflows holds answered
 returns c = rw (c .enum-told .given .1)
 
 returns-2 : tie.Need-returns-2
-unfolding testIn holds
+unfolding testIn
 returns-2 c =
     rw (c .before .before .before .before .test .given .1)
-    (c .compare-readings .ensures ∙ ap₂ (compareReadings _) (c .before .before .term-value .ensures) (c .before .term-value2 .ensures))
+    (c .compare-sides .ensures ∙ ap₂ (compared _) (c .before .before .term-value .ensures) (c .before .term-value2 .ensures) ∙ test-compared _ _ _ _)
 
-pub holds-spec : {M : Type 1} → statement M
-holds-spec =
+pub test-at-spec : {M : Type 1} → statement M
+test-at-spec =
     tie.close
     (tie.spec
     enum-told
     enum-known-test
     term-value-requires
     term-value-requires-2
-    compare-readings-requires
+    compare-sides-requires
     returns
     returns-2)

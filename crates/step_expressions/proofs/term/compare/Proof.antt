@@ -1,12 +1,12 @@
--- `step_terms::term::compare` meets its contract.
+-- `step_expressions::term::compare` meets its contract.
 -- Assumes nothing.
 use mathlib.Core.Path.{ap}
 use mathlib.Core.Bool.{not}
 use Rattle.machine.specs.Value.{compare}
-use Rattle.step_terms.proofs.Sides.{compare-kept}
+use Rattle.step_expressions.proofs.Testing.{compare-kept}
 use borrow.Author.Needs.{needs}
-use Rattle.step_terms.proofs.term.compare.Statement.{statement}
-use Rattle.step_terms.proofs.term.compare.Tie as tie
+use Rattle.step_expressions.proofs.term.compare.Statement.{statement}
+use Rattle.step_expressions.proofs.term.compare.Tie as tie
 
 enum-told : tie.Need-enum-told
 enum-told c = search needs

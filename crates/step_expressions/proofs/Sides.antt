@@ -1,19 +1,16 @@
 -- Two readings, one of which may be missing.
 use Prim.Native.Nat.{_<_}
 use mathlib.Core.Path.{_≡_, refl, sym, ap, ap₂, subst, _∙_}
-use mathlib.Core.Bool.{Bool}
 use lib.Dec.{T}
 use lib.IntN.{ℤ}
 use lib.Signed.{mag, nonNeg}
 use mir.Syntax.{w32}
-use mir.Val.{toZ, ofZ, SFits}
-use mir.Facts.{toZ-ofZ}
+use mir.Val.{toZ, ofZ}
 use Rattle.integers.proofs.Complement.{kept}
 use Rattle.chain.specs.declared.reading.Reading.{Reading}
 use Rattle.chain.specs.declared.reading.Reading.the-variants.{Missing, Value}
-use Rattle.program.specs.declared.rule.Comparison.{Comparison}
-use Rattle.machine.specs.Value.{both, compare}
+use Rattle.machine.specs.Value.{both}
 use Rattle.step_terms.specs.Found.{Names}
 
 module _ {A : Type 0} (else : A) (f : ℤ → ℤ → A) where
   -- a missing side
@@ -35,8 +32,3 @@ module _ {A : Type 0} (else : A) (f : ℤ → ℤ → A) where
 -- the number of a record that a reading names, as the code holds it
 pub named : {x : Reading} {a : ℤ} → x ≡ Value a → mag a < 2147483648 → Names x → T (nonNeg (toZ w32 (ofZ w32 a)))
 named {a} e h n = rw (kept a h) (subst Names e n)
-
--- two values compared as the code holds them, for the comparison that it matched
-pub compare-kept : {k l : Comparison} {a b : ℤ} {t : Bool} → SFits w32 a → SFits w32 b → k ≡ l → t ≡ compare l (toZ w32 (ofZ w32 a)) (toZ w32 (ofZ w32 b))
-    → t ≡ compare k a b
-compare-kept {l} ha hb e q = q ∙ ap₂ (compare l) (toZ-ofZ ha) (toZ-ofZ hb) ∙ rw e
