@@ -76,13 +76,11 @@ module _ (read : List ℕ → Reading) (k : Codes) where
     -- it stores nothing here, and no sum of it leaves the range
     pub write-plain : plainAmount (x .rule) ≡ true → plainTest (x .test) ≡ true → W.Nothing ≡ writeOf read (ruleIn k x)
     unfolding writeOf ruleIn offends
-    write-plain h t =
-        let a = plain-amount (x .rule) h in
-        sym (simp (plain-tested (x .test) t, a .formed, a .unstored (value read (expressionIn k (x .rule)))) (go test))
+    write-plain h t = let a = plain-amount (x .rule) h in sym (go test (plain-tested (x .test) t) (a .formed) (a .unstored _))
       where
-        go : (h : Bool) → cond (false || h && false) (W.OutOfRange (targetField (targetIn (x .rule)))) (cond h W.Nothing W.Nothing) ≡ W.Nothing
-        go true = refl
-        go false = refl
+        go : {o v : Bool} {n w : Write} (h : Bool) → o ≡ false → v ≡ false → w ≡ W.Nothing → cond (o || h && v) n (cond h w W.Nothing) ≡ W.Nothing
+        go true a b c = rw (a, b, c)
+        go false a b c = rw a
 
     pub send-local : isRemote (targetIn (x .rule)) ≡ false → [] ≡ ruleMessages read (ruleIn k x)
     unfolding ruleIn

@@ -24,7 +24,6 @@ use register::Sizes;
 use step_expressions::operation;
 use step_expressions::term;
 use step_expressions::term::Tested;
-use step_terms::term as found;
 
 // A rule sends nothing, or one message.
 pub enum Sent {
@@ -58,7 +57,9 @@ fn send(
         ⌜ messagesIn r ≡ sentTo sort field (read (unpack target)) (valueOf read (termIn (codesKept (now (kinds .entry)) (now (numbers .entry)) (now (chains .entry))) x)) ⌝ }
 {
     let first = at.first;
-    let Reading::Value(to) = found::found_at(cells, filled, values, marks, sizes, u, first) else {
+    let Reading::Value(to) =
+        step_terms::term::found_at(cells, filled, values, marks, sizes, u, first)
+    else {
         return Sent::Nothing;
     };
     let second = at.second;

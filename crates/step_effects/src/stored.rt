@@ -258,7 +258,7 @@ pub fn local_write(
         Tested::OutOfRange => Write::OutOfRange(field_of(rule)),
         Tested::Holds => {
             let at = located.at.rule;
-            write(rule, expression(
+            let value = expression(
                 cells,
                 filled,
                 values,
@@ -271,7 +271,8 @@ pub fn local_write(
                 places,
                 rule,
                 at,
-            ))
+            );
+            write(rule, value)
         }
     }
 }

@@ -1,9 +1,11 @@
 -- `step_effects::sent::send` meets its contract: without a target or an amount nothing is sent.
 -- Assumes nothing.
-use mathlib.Core.Path.{sym, _∙_}
+use mathlib.Core.Path.{_≡_, sym, ap, _∙_}
 use Rattle.machine.specs.Remote.{sentTo}
 use Rattle.step_effects.specs.Answers.{messagesIn}
-use Rattle.step_terms.proofs.Sides.{both-first, both-second, both-values, named}
+use Rattle.step_expressions.specs.Evaluated.{readingOf}
+use Rattle.step_expressions.proofs.Sides.{both-first, both-second, both-values, named}
+use Rattle.step_expressions.proofs.Operating.{value-told}
 use borrow.Author.Needs.{needs}
 use Rattle.step_effects.proofs.sent.send.Statement.{statement}
 use Rattle.step_effects.proofs.sent.send.Tie as tie
@@ -27,22 +29,32 @@ returns c =
 term-value-requires : tie.Need-term-value-requires
 term-value-requires c κs = search needs
 
+reading-of-requires : tie.Need-reading-of-requires
+reading-of-requires c κs = search needs
+
 enum-known-amount : tie.Need-enum-known-amount
 enum-known-amount c = search needs
 
 enum-told-2 : tie.Need-enum-told-2
 enum-told-2 c = search needs
 
+-- the amount is the value of x
+amount : (c : tie.After-reading-of) → c .reading-of .result ≡ _
+amount c =
+    let v = c .before in
+    let p = v .before .before .before .before .before .before .before .before .before .pre in
+    c .reading-of .ensures ∙ ap readingOf (v .term-value .ensures) ∙ value-told _ _ (p .1 .1)
+
 returns-2 : tie.Need-returns-2
 unfolding sentTo messagesIn
-returns-2 c = both-second _ _ _ (sym (c .before .before .term-value .ensures) ∙ c .enum-told2 .given .1)
+returns-2 c = both-second _ _ _ (sym (amount (c .before .before)) ∙ c .enum-told2 .given .1)
 
 index-requires : tie.Need-index-requires
 index-requires c κs =
     let k = c .before .before .before .before in
     let x = k .before .before .before in
     let p = x .before .before .before .before .pre in
-    named (sym (x .found-at .ensures ∙ p .0 .2 .0 .found-is) ∙ k .before .to .given .1) (k .known-told .given .0 .1) (p .1)
+    named (sym (x .found-at .ensures ∙ p .0 .2 .0 .found-is) ∙ k .before .to .given .1) (k .known-told .given .0 .1) (p .1 .0)
 
 returns-3 : tie.Need-returns-3
 unfolding sentTo messagesIn
@@ -53,8 +65,8 @@ returns-3 c =
     let x = k .before .before .before in
     let p = x .before .before .before .before .pre in
     let to = sym (x .found-at .ensures ∙ p .0 .2 .0 .found-is) ∙ k .before .to .given .1 in
-    let amount = sym (y .term-value .ensures) ∙ l .before .amount .given .1 in
-    rw (c .index .ensures) (both-values _ _ to amount (k .known-told .given .0 .1) (l .known-told2 .given .0 .1))
+    let sent = sym (amount y) ∙ l .before .amount .given .1 in
+    rw (c .index .ensures) (both-values _ _ to sent (k .known-told .given .0 .1) (l .known-told2 .given .0 .1))
 
 pub send-spec : {M : Type 1} → statement M
 send-spec =
@@ -65,6 +77,7 @@ send-spec =
     enum-told
     returns
     term-value-requires
+    reading-of-requires
     enum-known-amount
     enum-told-2
     returns-2

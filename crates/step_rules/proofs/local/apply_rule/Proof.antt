@@ -15,6 +15,7 @@ use Rattle.chain.specs.declared.reading.Reading.{Reading}
 use Rattle.chain.specs.Word.{hasField}
 use Rattle.chain.proofs.Fields.{field-below}
 use Rattle.program.specs.Program.{Rule, targetField}
+use Rattle.program.specs.Code.{codesKept}
 use Rattle.program.specs.Stored.{ruleIn}
 use Rattle.step_terms.specs.Found.{followed}
 use Rattle.step_effects.specs.Answers.{writeOf}
@@ -32,7 +33,7 @@ module _ (c : tie.Start) where
   read = followed (c .args .sizes) cells (c .args .u)
 
   abbrev rule : Rule
-  rule = ruleIn (c .args .rule .slot)
+  rule = ruleIn (codesKept (now (c .args .kinds)) (now (c .args .numbers)) (now (c .args .chains))) (c .args .rule .slot)
 
   field : hasField (c .args .sizes) (targetField (rule .target)) ≡ true
   unfolding ruleIn
