@@ -65,11 +65,12 @@ module _ (s : Sizes) (read : List ℕ → Reading) where
       go : (t : Bool) → cond t (some (column s (targetField (r .target)))) (sumColumn s read rs) ≡ none → t ≡ false
       go true e = absurd (let z : _≡_ {A = ℕ} 0 1 = cc in omega arith)
       go false e = refl
-  sumColumn-each (q ∷ qs) r rs e = go (offends read q) e
+  sumColumn-each (q ∷ qs) r rs e = go (offends read q) (sumColumn-each qs r rs) e
     where
-      go : (t : Bool) → cond t (some (column s (targetField (q .target)))) (sumColumn s read (qs ++ r ∷ rs)) ≡ none → offends read r ≡ false
-      go true e = absurd (let z : _≡_ {A = ℕ} 0 1 = cc in omega arith)
-      go false e = sumColumn-each qs r rs e
+      go : (t : Bool) → (sumColumn s read (qs ++ r ∷ rs) ≡ none → offends read r ≡ false)
+          → cond t (some (column s (targetField (q .target)))) (sumColumn s read (qs ++ r ∷ rs)) ≡ none → offends read r ≡ false
+      go true h e = absurd (let z : _≡_ {A = ℕ} 0 1 = cc in omega arith)
+      go false h e = h e
 
 -- messages delivered in two parts
 pub deliverAll-append : (s : Sizes) (cells : List Cell) (ms ns : List Message) → deliverAll s cells (ms ++ ns) ≡ deliverAll s (deliverAll s cells ms) ns

@@ -8,6 +8,7 @@ use native.Mathlib.Omega.{arith}
 use lib.IntN.{ℤ}
 use mir.Syntax.{w32}
 use mir.Val.{SFits}
+use lib.Signed.{ltZ}
 use Rattle.integers.specs.Range.{inRange}
 use Rattle.laws.proofs.Bools.{and-both, true-false, cond-both}
 use Rattle.integers.proofs.Complement.{range-fits, fits-range}
