@@ -78,7 +78,7 @@ fn run_steps(
         × ProgramPasses sizes (programOf (codesKept (now kinds) (now numbers) (now chains)) program)
         × HoldsCells (program .lines * sizes .records + sizes .records) (cellsOfFile sizes (now out)) (now values) (now marks) ⌝ }
     ensures { λ r. ⌜ Ends machine sizes (programOf (codesKept (now (kinds .entry)) (now (numbers .entry)) (now (chains .entry))) program) budget
-         (now (out .entry)) (now (out .exit)) r ⌝ }
+        (now (out .entry)) (now (out .exit)) r ⌝ }
 {
     let slots = program.slots;
     let frames = program.frames;
@@ -122,7 +122,19 @@ fn run_steps(
         let mut stop = Stop::Nowhere;
         'records: for u in 0..sizes.records {
             for k in 0..used {
-                stop = local::apply_rule(out, values, marks, sizes, base, u, kinds, numbers, chains, places, rules[k]);
+                stop = local::apply_rule(
+                    out,
+                    values,
+                    marks,
+                    sizes,
+                    base,
+                    u,
+                    kinds,
+                    numbers,
+                    chains,
+                    places,
+                    rules[k],
+                );
                 if let Stop::At(_, _) = stop {
                     break 'records;
                 }
@@ -133,7 +145,19 @@ fn run_steps(
         }
         let mut sent = 0;
         if frame.remote {
-            sent = remote::apply(out, values, marks, sizes, base, kinds, numbers, chains, places, rules, used);
+            sent = remote::apply(
+                out,
+                values,
+                marks,
+                sizes,
+                base,
+                kinds,
+                numbers,
+                chains,
+                places,
+                rules,
+                used,
+            );
         }
         let fields = frame.fields;
         let total = step_commit::commit(out, values, marks, sizes, base, fields);
@@ -164,9 +188,21 @@ pub fn run_program(
     requires { ⌜ Register sizes (now out) × Scratch sizes (program .lines) (now values) (now marks) × Complete (codesKept (now kinds) (now numbers) (now chains)) (now places) program
         × ProgramPasses sizes (programOf (codesKept (now kinds) (now numbers) (now chains)) program) ⌝ }
     ensures { λ r. ⌜ Ends machine sizes (programOf (codesKept (now (kinds .entry)) (now (numbers .entry)) (now (chains .entry))) program) budget
-         (now (out .entry)) (now (out .exit)) r ⌝ }
+        (now (out .entry)) (now (out .exit)) r ⌝ }
 {
     let at = program.lines * sizes.records;
     step_cells::begin(out, values, marks, sizes, at + sizes.records);
-    run_steps(out, values, marks, sizes, kinds, numbers, chains, places, program, machine, budget)
+    run_steps(
+        out,
+        values,
+        marks,
+        sizes,
+        kinds,
+        numbers,
+        chains,
+        places,
+        program,
+        machine,
+        budget,
+    )
 }

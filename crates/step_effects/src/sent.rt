@@ -57,9 +57,15 @@ fn send(
         ⌜ messagesIn r ≡ sentTo sort field (read (unpack target)) (valueOf read (termIn (codesKept (now (kinds .entry)) (now (numbers .entry)) (now (chains .entry))) x)) ⌝ }
 {
     let first = at.first;
-    let Reading::Value(to) =
-        step_terms::term::found_at(cells, filled, values, marks, sizes, u, first)
-    else {
+    let Reading::Value(to) = step_terms::term::found_at(
+        cells,
+        filled,
+        values,
+        marks,
+        sizes,
+        u,
+        first,
+    ) else {
         return Sent::Nothing;
     };
     let second = at.second;

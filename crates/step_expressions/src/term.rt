@@ -49,7 +49,13 @@ pub fn term_value(
 {
     match term {
         Term::Chain(_) => operation::of_reading(term::found_at(
-            cells, filled, values, marks, sizes, u, at,
+            cells,
+            filled,
+            values,
+            marks,
+            sizes,
+            u,
+            at,
         )),
         Term::Number(value) => Evaluated::Value(value),
         Term::Tree(from, to) => evaluate::evaluate(
@@ -81,11 +87,7 @@ fn compare(comparison: Comparison, a: i32, b: i32) -> bool
 fn answer(holds: bool) -> Tested
     ensures { λ r. ⌜ r ≡ answered holds ⌝ }
 {
-    if holds {
-        Tested::Holds
-    } else {
-        Tested::Fails
-    }
+    if holds { Tested::Holds } else { Tested::Fails }
 }
 
 // Two sides: an unfilled one never holds, and a sum out of range is told even where the other side is unfilled.
@@ -133,10 +135,32 @@ pub fn test_at(
             let first = at.first;
             let second = at.second;
             let left = term_value(
-                cells, filled, values, marks, sizes, u, kinds, numbers, chains, places, x, first,
+                cells,
+                filled,
+                values,
+                marks,
+                sizes,
+                u,
+                kinds,
+                numbers,
+                chains,
+                places,
+                x,
+                first,
             );
             let right = term_value(
-                cells, filled, values, marks, sizes, u, kinds, numbers, chains, places, y, second,
+                cells,
+                filled,
+                values,
+                marks,
+                sizes,
+                u,
+                kinds,
+                numbers,
+                chains,
+                places,
+                y,
+                second,
             );
             compare_sides(left, comparison, right)
         }

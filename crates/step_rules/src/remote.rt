@@ -98,7 +98,18 @@ pub fn apply(
     for u in 0..sizes.records {
         for k in 0..count {
             sent = apply_rule(
-                cells, filled, values, marks, sizes, base, u, kinds, numbers, chains, places, rules[k],
+                cells,
+                filled,
+                values,
+                marks,
+                sizes,
+                base,
+                u,
+                kinds,
+                numbers,
+                chains,
+                places,
+                rules[k],
                 sent,
             );
         }

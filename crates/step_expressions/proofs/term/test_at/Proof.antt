@@ -18,12 +18,12 @@ enum-known-test c = search needs
 
 term-value-requires : tie.Need-term-value-requires
 term-value-requires c κs =
-    let s = c .before .before .before .before .before .before in
+    let s = c .before .before .before .before .before .before .before .before .before in
     (s .pre .0, s .pre .1, (rw (c .before .test .given .1) at (s .pre .2)) .0)
 
 term-value-requires-2 : tie.Need-term-value-requires-2
 term-value-requires-2 c κs =
-    let s = c .before .before .before .before .before .before .before in
+    let s = c .before .before .before .before .before .before .before .before .before .before in
     (s .pre .0, s .pre .1, (rw (c .before .before .test .given .1) at (s .pre .2)) .1)
 
 compare-sides-requires : tie.Need-compare-sides-requires
