@@ -1,9 +1,14 @@
 -- What a rule stores and sends, by what the code found for its test.
-use Prim.Native.Nat.{ℕ}
-use mathlib.Core.Path.{_≡_, refl, sym, ap, _∙_}
+use Prim.Native.Nat.{ℕ, _<_}
+use mathlib.Core.Path.{_≡_, refl, sym, ap, ap₂, _∙_}
 use mathlib.Core.Bool.{Bool, true, false, cond, _&&_, _||_}
 use mathlib.Core.List.{List, []}
+use lib.IntN.{ℤ}
+use lib.Signed.{mag}
+use mir.Syntax.{w32}
+use mir.Val.{toZ, ofZ}
 use Rattle.laws.proofs.Bools.{true-false, and-both, or-left, or-neither}
+use Rattle.integers.proofs.Complement.{kept}
 use Rattle.chain.specs.declared.reading.Reading.{Reading}
 use Rattle.chain.specs.declared.reading.Reading.the-variants.{Missing, Value}
 use Rattle.program.specs.declared.term.Term.{Term}
@@ -20,11 +25,13 @@ use Rattle.machine.specs.Value.{value, overflows, holds}
 use Rattle.machine.specs.Local.{testOverflows, offends}
 use Rattle.machine.specs.Remote.{sentBy, ruleMessages}
 use Rattle.machine.proofs.Folding.{ruleMessages-local}
+use Rattle.step_expressions.specs.declared.operation.Evaluated.{Evaluated}
 use Rattle.step_expressions.specs.declared.operation.Evaluated.the-variants as E
 use Rattle.step_expressions.specs.declared.term.Tested.{Tested}
 use Rattle.step_expressions.specs.declared.term.Tested.the-variants.{Holds, Fails, OutOfRange}
-use Rattle.step_expressions.specs.Evaluated.{ofReading, evaluated}
+use Rattle.step_expressions.specs.Evaluated.{ofReading, readingOf, evaluated}
 use Rattle.step_expressions.specs.Tests.{tested}
+use Rattle.step_expressions.proofs.Operating.{value-told}
 use Rattle.step_expressions.proofs.Testing.{test-tells}
 use Rattle.step_effects.specs.Answers.{isPlain, plainTest, plainAmount, targetWrite, doneBy, writeOf}
 use Rattle.step_effects.specs.declared.stored.Write.{Write}
@@ -44,8 +51,18 @@ unfolding targetWrite
 missing-unstored (own f) = refl
 missing-unstored (remote k f w) = refl
 
+-- a value is stored as the code holds it
+pub value-stored : (f : ℕ) {t : Target} {v : Evaluated} {z : ℤ} → v ≡ E.Value z → t ≡ own f → mag z < 2147483648 → W.Store f (toZ w32 (ofZ w32 z)) ≡ doneBy t v
+unfolding doneBy targetWrite
+value-stored f {z = z} p q h = ap (W.Store f) (kept z h) ∙ sym (ap₂ doneBy q p)
+
 -- what one record, which reads this, makes of a rule
 module _ (read : List ℕ → Reading) (k : Codes) where
+  -- an amount none of whose sums leaves the range
+  pub amount-told : (x : Term) {v : Evaluated} {r : Reading} → r ≡ readingOf v → v ≡ evaluated read (termIn k x) → overflows read (termIn k x) ≡ false
+      → r ≡ value read (termIn k x)
+  amount-told x e q h = e ∙ ap readingOf q ∙ value-told read (termIn k x) h
+
   -- a plain term forms no sum
   plain-formed : (x : Term) → isPlain x ≡ true → overflows read (termIn k x) ≡ false
   unfolding isPlain overflows termIn
@@ -76,11 +93,11 @@ module _ (read : List ℕ → Reading) (k : Codes) where
     -- it stores nothing here, and no sum of it leaves the range
     pub write-plain : plainAmount (x .rule) ≡ true → plainTest (x .test) ≡ true → W.Nothing ≡ writeOf read (ruleIn k x)
     unfolding writeOf ruleIn offends
-    write-plain h t = let a = plain-amount (x .rule) h in sym (go test (plain-tested (x .test) t) (a .formed) (a .unstored _))
+    write-plain h t = let a = plain-amount (x .rule) h in sym (go _ test (plain-tested (x .test) t) (a .formed) (a .unstored _))
       where
-        go : {o v : Bool} {n w : Write} (h : Bool) → o ≡ false → v ≡ false → w ≡ W.Nothing → cond (o || h && v) n (cond h w W.Nothing) ≡ W.Nothing
-        go true a b c = rw (a, b, c)
-        go false a b c = rw a
+        go : {o v : Bool} {w : Write} (n : Write) (h : Bool) → o ≡ false → v ≡ false → w ≡ W.Nothing → cond (o || h && v) n (cond h w W.Nothing) ≡ W.Nothing
+        go n true a b c = rw (a, b, c)
+        go n false a b c = rw a
 
     pub send-local : isRemote (targetIn (x .rule)) ≡ false → [] ≡ ruleMessages read (ruleIn k x)
     unfolding ruleIn
@@ -116,7 +133,7 @@ module _ (read : List ℕ → Reading) (k : Codes) where
         unfolding offends ruleIn
         send-formed e =
             let (o, h) = test-tells read (testIn k (x .test)) (sym e ∙ ran) in
-            let parts = or-neither _ _ in-range in
+            let parts = or-neither (testOverflows read (testIn k (x .test))) (test && overflows read (expressionIn k (x .rule))) in-range in
             rw h at (parts .1)
 
         pub send-done : t ≡ Holds → {r : Rule} → x .rule ≡ r

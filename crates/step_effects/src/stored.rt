@@ -74,7 +74,7 @@ fn field_of(rule: Rule) -> u64
 }
 
 // What a rule does with the value of its expression: the amount of a remote one is not stored here.
-fn write(rule: Rule, value: Evaluated) -> Write
+fn write_value(rule: Rule, value: Evaluated) -> Write
     ensures { λ r. ⌜ r ≡ doneBy (targetIn rule) value ⌝ }
 {
     match value {
@@ -272,7 +272,7 @@ pub fn local_write(
                 rule,
                 at,
             );
-            write(rule, value)
+            write_value(rule, value)
         }
     }
 }

@@ -50,7 +50,7 @@ unfolding targetIn expressionIn
 send-requires c κs =
     let t = c .before .before in
     let r = t .before .before in
-    let p = r .before .before .before .before .before .before .before .before .before .before .pre in
+    let p = r .before .before .before .before .before .before .before .before .before .pre in
     let found = rw (r .rule .given .1) at (p .0 .2 .rule) in
     let formed = send-formed _ _ _ (t .test-at .ensures) (p .1 .1) (c .enum-told3 .given .1) in
     ((p .0 .0, p .0 .1, found), (rw (r .rule .given .1) at (p .1 .0), rw (r .rule .given .1) at formed))
@@ -63,7 +63,7 @@ returns-3 : tie.Need-returns-3
 unfolding messagesIn
 returns-3 c =
     let t = c .before .before in
-    let p = t .before .before .before .before .before .before .before .before .before .before .before .before .pre in
+    let p = t .before .before .before .before .before .before .before .before .before .before .before .pre in
     send-offends _ _ _ (t .test-at .ensures) (p .1 .1) (c .enum-told2 .given .1)
 
 returns-4 : tie.Need-returns-4
@@ -72,7 +72,7 @@ returns-4 c =
     let h = c .before in
     let t = h .before .before in
     let r = t .before .before in
-    let p = r .before .before .before .before .before .before .before .before .before .before .pre in
+    let p = r .before .before .before .before .before .before .before .before .before .pre in
     c .send .ensures ∙ send-done _ _ _ (t .test-at .ensures) (p .1 .1) (h .enum-told3 .given .1) (r .rule .given .1)
 
 pub message-of-spec : {M : Type 1} → statement M

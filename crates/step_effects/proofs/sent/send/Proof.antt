@@ -1,11 +1,10 @@
 -- `step_effects::sent::send` meets its contract: without a target or an amount nothing is sent.
 -- Assumes nothing.
-use mathlib.Core.Path.{_≡_, sym, ap, _∙_}
+use mathlib.Core.Path.{sym, _∙_}
 use Rattle.machine.specs.Remote.{sentTo}
 use Rattle.step_effects.specs.Answers.{messagesIn}
-use Rattle.step_expressions.specs.Evaluated.{readingOf}
 use Rattle.step_expressions.proofs.Sides.{both-first, both-second, both-values, named}
-use Rattle.step_expressions.proofs.Operating.{value-told}
+use Rattle.step_effects.proofs.Answering.{amount-told}
 use borrow.Author.Needs.{needs}
 use Rattle.step_effects.proofs.sent.send.Statement.{statement}
 use Rattle.step_effects.proofs.sent.send.Tie as tie
@@ -23,7 +22,7 @@ returns : tie.Need-returns
 unfolding sentTo messagesIn
 returns c =
     let x = c .before .before in
-    let p = x .before .before .before .before .pre in
+    let p = x .before .before .before .before .before .before .before .pre in
     both-first _ _ _ (sym (x .found-at .ensures ∙ p .0 .2 .0 .found-is) ∙ c .enum-told .given .1)
 
 term-value-requires : tie.Need-term-value-requires
@@ -38,22 +37,18 @@ enum-known-amount c = search needs
 enum-told-2 : tie.Need-enum-told-2
 enum-told-2 c = search needs
 
--- the amount is the value of x
-amount : (c : tie.After-reading-of) → c .reading-of .result ≡ _
-amount c =
-    let v = c .before in
-    let p = v .before .before .before .before .before .before .before .before .before .pre in
-    c .reading-of .ensures ∙ ap readingOf (v .term-value .ensures) ∙ value-told _ _ (p .1 .1)
-
 returns-2 : tie.Need-returns-2
 unfolding sentTo messagesIn
-returns-2 c = both-second _ _ _ (sym (amount (c .before .before)) ∙ c .enum-told2 .given .1)
+returns-2 c =
+    let y = c .before .before in
+    let p = y .before .before .before .before .before .before .before .before .before .before .before .before .pre in
+    both-second _ _ _ (sym (amount-told _ _ _ (y .reading-of .ensures) (y .before .term-value .ensures) (p .1 .1)) ∙ c .enum-told2 .given .1)
 
 index-requires : tie.Need-index-requires
 index-requires c κs =
-    let k = c .before .before .before .before in
+    let k = c .before .before .before .before .before in
     let x = k .before .before .before in
-    let p = x .before .before .before .before .pre in
+    let p = x .before .before .before .before .before .before .before .pre in
     named (sym (x .found-at .ensures ∙ p .0 .2 .0 .found-is) ∙ k .before .to .given .1) (k .known-told .given .0 .1) (p .1 .0)
 
 returns-3 : tie.Need-returns-3
@@ -61,11 +56,11 @@ unfolding sentTo messagesIn
 returns-3 c =
     let l = c .before in
     let y = l .before .before .before in
-    let k = y .before in
+    let k = y .before .before in
     let x = k .before .before .before in
-    let p = x .before .before .before .before .pre in
+    let p = x .before .before .before .before .before .before .before .pre in
     let to = sym (x .found-at .ensures ∙ p .0 .2 .0 .found-is) ∙ k .before .to .given .1 in
-    let sent = sym (amount y) ∙ l .before .amount .given .1 in
+    let sent = sym (amount-told _ _ _ (y .reading-of .ensures) (y .before .term-value .ensures) (p .1 .1)) ∙ l .before .amount .given .1 in
     rw (c .index .ensures) (both-values _ _ to sent (k .known-told .given .0 .1) (l .known-told2 .given .0 .1))
 
 pub send-spec : {M : Type 1} → statement M

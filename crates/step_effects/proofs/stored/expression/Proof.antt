@@ -1,6 +1,5 @@
 -- `step_effects::stored::expression` meets its contract.
 -- Assumes nothing.
-use mathlib.Core.Path.{sym, _∙_}
 use Rattle.program.specs.Stored.{expressionIn}
 use borrow.Author.Needs.{needs}
 use Rattle.step_effects.proofs.stored.expression.Statement.{statement}
@@ -12,7 +11,7 @@ enum-known-rule c = search needs
 term-value-requires : tie.Need-term-value-requires
 term-value-requires c κs =
     let r = c .before in
-    let p = r .before .before .before .before .before .before .before .before .before .before .before .before .pre in
+    let p = r .before .before .before .before .before .before .before .before .pre in
     (p .0, p .1, rw (r .rule .given .1) at (p .2))
 
 enum-known-rule-2 : tie.Need-enum-known-rule-2
@@ -21,7 +20,7 @@ enum-known-rule-2 c = search needs
 combine-requires : tie.Need-combine-requires
 combine-requires c κs =
     let r = c .before in
-    let p = r .before .before .before .before .before .before .before .before .before .before .before .before .pre in
+    let p = r .before .before .before .before .before .before .before .before .pre in
     (p .0, p .1, rw (r .rule2 .given .1) at (p .2))
 
 enum-known-rule-3 : tie.Need-enum-known-rule-3
@@ -30,7 +29,7 @@ enum-known-rule-3 c = search needs
 term-value-requires-2 : tie.Need-term-value-requires-2
 term-value-requires-2 c κs =
     let r = c .before in
-    let p = r .before .before .before .before .before .before .before .before .before .before .before .before .pre in
+    let p = r .before .before .before .before .before .before .before .before .pre in
     (p .0, p .1, (rw (r .rule3 .given .1) at (p .2)) .1)
 
 returns : tie.Need-returns

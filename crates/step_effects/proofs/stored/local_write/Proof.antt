@@ -37,8 +37,8 @@ enum-told-3 c = search needs
 expression-requires : tie.Need-expression-requires
 expression-requires c κs = search needs
 
-write-requires : tie.Need-write-requires
-write-requires c κs = search needs
+write-value-requires : tie.Need-write-value-requires
+write-value-requires c κs = search needs
 
 returns-2 : tie.Need-returns-2
 returns-2 c = write-fails _ _ _ (c .before .before .test-at .ensures) (c .enum-told .given .1)
@@ -52,7 +52,7 @@ returns-4 : tie.Need-returns-4
 returns-4 c =
     let x = c .before in
     let h = x .before .before in
-    c .write .ensures ∙ ap (doneBy _) (x .expression .ensures) ∙ write-done _ _ _ (h .before .before .test-at .ensures) (h .enum-told3 .given .1)
+    c .write-value .ensures ∙ ap (doneBy _) (x .expression .ensures) ∙ write-done _ _ _ (h .before .before .test-at .ensures) (h .enum-told3 .given .1)
 
 pub local-write-spec : {M : Type 1} → statement M
 local-write-spec =
@@ -67,7 +67,7 @@ local-write-spec =
     field-of-requires
     enum-told-3
     expression-requires
-    write-requires
+    write-value-requires
     returns-2
     returns-3
     returns-4)

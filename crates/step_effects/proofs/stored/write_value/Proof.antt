@@ -1,14 +1,13 @@
--- `step_effects::stored::write` meets its contract.
+-- `step_effects::stored::write_value` meets its contract.
 -- Assumes nothing.
-use mathlib.Core.Path.{sym, ap, _∙_}
-use Rattle.integers.proofs.Complement.{kept}
+use mathlib.Core.Path.{ap}
 use Rattle.program.specs.Stored.{targetIn}
 use Rattle.step_effects.specs.Answers.{targetWrite, doneBy}
-use Rattle.step_effects.specs.declared.stored.Write.the-variants.{Store, OutOfRange}
-use Rattle.step_effects.proofs.Answering.{missing-unstored}
+use Rattle.step_effects.specs.declared.stored.Write.the-variants.{OutOfRange}
+use Rattle.step_effects.proofs.Answering.{missing-unstored, value-stored}
 use borrow.Author.Needs.{needs}
-use Rattle.step_effects.proofs.stored.write.Statement.{statement}
-use Rattle.step_effects.proofs.stored.write.Tie as tie
+use Rattle.step_effects.proofs.stored.write_value.Statement.{statement}
+use Rattle.step_effects.proofs.stored.write_value.Tie as tie
 
 enum-told : tie.Need-enum-told
 enum-told c = search needs
@@ -36,18 +35,18 @@ unfolding doneBy
 returns c = rw (c .enum-told .given .1) (missing-unstored _)
 
 returns-2 : tie.Need-returns-2
-unfolding doneBy targetWrite targetIn
+unfolding targetIn
 returns-2 c =
     let r = c .before in
     let v = r .before .before in
-    rw (v .before .value .given .1, r .rule .given .1) (ap (Store _) (kept _ (v .known-told .given .0 .1)))
+    value-stored _ (v .before .value .given .1) (ap targetIn (r .rule .given .1)) (v .known-told .given .0 .1)
 
 returns-3 : tie.Need-returns-3
-unfolding doneBy targetWrite targetIn
+unfolding targetIn
 returns-3 c =
     let r = c .before in
     let v = r .before .before in
-    rw (v .before .value .given .1, r .rule2 .given .1) (ap (Store _) (kept _ (v .known-told .given .0 .1)))
+    value-stored _ (v .before .value .given .1) (ap targetIn (r .rule2 .given .1)) (v .known-told .given .0 .1)
 
 returns-4 : tie.Need-returns-4
 unfolding doneBy targetWrite targetIn
@@ -57,5 +56,5 @@ returns-5 : tie.Need-returns-5
 unfolding doneBy
 returns-5 c = rw (c .before .enum-told3 .given .1) (ap OutOfRange (c .field-of .ensures))
 
-pub write-spec : {M : Type 1} → statement M
-write-spec = tie.close (tie.spec enum-told enum-known-value enum-known-rule enum-known-rule-2 enum-told-2 enum-told-3 field-of-requires returns returns-2 returns-3 returns-4 returns-5)
+pub write-value-spec : {M : Type 1} → statement M
+write-value-spec = tie.close (tie.spec enum-told enum-known-value enum-known-rule enum-known-rule-2 enum-told-2 enum-told-3 field-of-requires returns returns-2 returns-3 returns-4 returns-5)
