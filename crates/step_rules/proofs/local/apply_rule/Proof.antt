@@ -49,26 +49,26 @@ slice-reshare-prefix-local-write : tie.Need-slice-reshare-prefix-local-write
 slice-reshare-prefix-local-write c = search needs
 
 slice-aggregate-local-write : tie.Need-slice-aggregate-local-write
-slice-aggregate-local-write c = sym (length-take-le _ _ (omega (arith, c .before .before .before .before .before .pre .0 .3 .values-room)))
+slice-aggregate-local-write c = sym (length-take-le _ _ (omega (arith, c .before .before .before .before .before .before .before .before .pre .0 .3 .values-room)))
 
 slice-reshare-prefix-local-write-2 : tie.Need-slice-reshare-prefix-local-write-2
 slice-reshare-prefix-local-write-2 c = search needs
 
 slice-aggregate-local-write-2 : tie.Need-slice-aggregate-local-write-2
-slice-aggregate-local-write-2 c = sym (length-take-le _ _ (omega (arith, c .before .before .before .before .before .before .pre .0 .3 .marks-room)))
+slice-aggregate-local-write-2 c = sym (length-take-le _ _ (omega (arith, c .before .before .before .before .before .before .before .before .before .pre .0 .3 .marks-room)))
 
 local-write-requires : tie.Need-local-write-requires
 unfolding cellsOfFile
 local-write-requires c κs =
     let m = c .before .before in
-    let s = m .before .before .before .before in
+    let s = m .before .before .before .before .before .before .before in
     let p = s .pre .0 in
     rw (m .before .values-part .ensures, m .marks-part .ensures)
     (file-parts (now (s .args .out)) (s .args .sizes) (p .0) (p .1), p .2, s .pre .1 .found _ (p .2))
 
 -- what the rule writes, over the file
 abbrev start : tie.After-local-write → tie.Start
-start c = c .before .before .before .before .before .before .before
+start c = c .before .before .before .before .before .before .before .before .before .before
 
 wrote : (c : tie.After-local-write) → writeOf (read (start c)) (rule (start c)) ≡ c .local-write .result
 unfolding cellsOfFile

@@ -41,7 +41,7 @@ marks-part-requires c κs = search needs
 
 loop-holds : tie.Need-loop-holds Inv-loop2 μ-loop2 Inv-loop μ-loop
 unfolding recordMessages
-loop-holds c = (sends-none (c .before .before .before .before .pre .1 .1), omega arith, omega arith)
+loop-holds c = (sends-none (c .before .before .before .before .before .before .before .pre .1 .1), omega arith, omega arith)
 
 loop2-holds : tie.Need-loop2-holds Inv-loop2 μ-loop2 Inv-loop μ-loop
 unfolding messages rulesIn
@@ -51,7 +51,7 @@ mul-apply-rule : tie.Need-mul-apply-rule Inv-loop2 μ-loop2 Inv-loop μ-loop
 mul-apply-rule c = record { fits = omega arith }
 
 array-copy-out-apply-rule : tie.Need-array-copy-out-apply-rule Inv-loop2 μ-loop2 Inv-loop μ-loop
-array-copy-out-apply-rule c = omega (arith, c .before .before .before .before .before .before .before .before .before .before .pre .0 .3)
+array-copy-out-apply-rule c = omega (arith, c .before .before .before .before .before .before .before .before .before .before .before .before .before .pre .0 .3)
 
 apply-rule-requires : tie.Need-apply-rule-requires Inv-loop2 μ-loop2 Inv-loop μ-loop
 unfolding cellsOfFile
@@ -59,15 +59,15 @@ apply-rule-requires c κs =
     let i = c .before .before .before .before in
     let l = i .before .before in
     let part = l .before in
-    let s = part .before .before .before .before in
+    let s = part .before .before .before .before .before .before .before in
     let q = s .pre .0 in
     let same = same-then (l .loop .inv .0 .same) (i .loop2 .inv .0 .same) in
     let p = file-parts (now (s .args .out)) (s .args .sizes) (q .0) (q .1) in
     let small = small-within {b′ = 4611686018427387904} (omega (arith, q .0 .records≤, q .3)) (i .loop2 .inv .0 .small) in
     let more = c .before .before .before .loop2-test .taken in
-    let there : i .loop2 .k < length (s .args .t6) = omega (arith, more, q .3, q .4) in
-    let ready = ready-at _ (s .args .t6) _ _ there more (s .pre .1 .0 .0) in
-    let in-range = in-range-at _ (s .args .t6) _ _ there _ _ more (s .pre .1 .0 .1 _ (i .before .loop-test .taken)) in
+    let there : i .loop2 .k < length (s .args .t10) = omega (arith, more, q .3, q .4) in
+    let ready = ready-at _ (s .args .t10) _ _ there more (s .pre .1 .0 .0) in
+    let in-range = in-range-at _ (s .args .t10) _ _ there _ _ more (s .pre .1 .0 .1 _ (i .before .loop-test .taken)) in
     rw (part .before .values-part .ensures, part .marks-part .ensures) (
       (p, i .before .loop-test .taken, rw (p .marks-length) (room-same same (q .2))),
       ((rw (same .values-same, same .marks-same) ready, in-range), (rw (p .marks-length) small, omega (arith, i .loop2 .inv .2, q .0 .records≤, q .3))),
@@ -87,17 +87,17 @@ loop2-again c =
     let i = test .before in
     let l = i .before .before in
     let part = l .before in
-    let s = part .before .before .before .before in
+    let s = part .before .before .before .before .before .before .before in
     let r = rw (part .before .values-part .ensures, part .marks-part .ensures) at (a .apply-rule .ensures) in
-    let more : i .loop2 .k < length (s .args .t6) = omega (arith, test .loop2-test .taken, s .pre .0 .3, s .pre .0 .4) in (
-      sends-more (s .args .sizes) (cellsOfFile (s .args .sizes) (now (s .args .out))) _ (s .args .t6) (l .loop .u) (i .loop2 .k) _ more
+    let more : i .loop2 .k < length (s .args .t10) = omega (arith, test .loop2-test .taken, s .pre .0 .3, s .pre .0 .4) in (
+      sends-more (s .args .sizes) (cellsOfFile (s .args .sizes) (now (s .args .out))) _ (s .args .t10) (l .loop .u) (i .loop2 .k) _ more
           (i .loop2 .inv .0) r (omega arith) (omega arith),
       omega (arith, test .loop2-test .taken),
       omega (arith, r .sent≤, i .loop2 .inv .2),
     )
 
 add-u : tie.Need-add-u Inv-loop2 μ-loop2 Inv-loop μ-loop
-add-u c = record { fits = omega (arith, c .before .before .before .before .before .before .before .before .pre .0 .0 .records≤) }
+add-u c = record { fits = omega (arith, c .before .before .before .before .before .before .before .before .before .before .before .pre .0 .0 .records≤) }
 
 loop-less : tie.Need-loop-less Inv-loop2 μ-loop2 Inv-loop μ-loop
 loop-less c = omega arith
@@ -106,8 +106,8 @@ loop-again : tie.Need-loop-again Inv-loop2 μ-loop2 Inv-loop μ-loop
 loop-again c =
     let i = c .before .loop2 .inv in
     let l = c .before .before .before in
-    let s = l .before .before .before .before .before in (
-      sends-record (s .args .sizes) (cellsOfFile (s .args .sizes) (now (s .args .out))) _ (s .args .t6) (s .args .count) (l .loop .u)
+    let s = l .before .before .before .before .before .before .before .before in (
+      sends-record (s .args .sizes) (cellsOfFile (s .args .sizes) (now (s .args .out))) _ (s .args .t10) (s .args .count) (l .loop .u)
           (l .loop .inv .0) (omega (arith, i .1)) (i .0) (omega arith) (omega (arith, s .pre .0 .3, i .1)),
       omega arith,
       omega (arith, i .1, i .2, s .pre .0 .3),
@@ -121,7 +121,7 @@ same-length-2 c = c .before .loop .inv .0 .same .marks-length
 
 returns : tie.Need-returns Inv-loop2 μ-loop2 Inv-loop μ-loop
 returns c =
-    let s = c .before .before .before .before .before .before in
+    let s = c .before .before .before .before .before .before .before .before .before in
     let t = c .before .loop .inv in
     sent-all _ (cellsOfFile (s .args .sizes) (now (s .args .out))) _ (omega (arith, t .1)) (t .0)
 

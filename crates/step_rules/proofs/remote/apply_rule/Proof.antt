@@ -47,17 +47,17 @@ slice-reshare-prefix-message-of : tie.Need-slice-reshare-prefix-message-of
 slice-reshare-prefix-message-of c = search needs
 
 slice-aggregate-message-of : tie.Need-slice-aggregate-message-of
-slice-aggregate-message-of c = sym (length-take-le _ _ (omega (arith, c .before .before .before .before .pre .0 .2 .values-room)))
+slice-aggregate-message-of c = sym (length-take-le _ _ (omega (arith, c .before .before .before .before .before .before .before .pre .0 .2 .values-room)))
 
 slice-reshare-prefix-message-of-2 : tie.Need-slice-reshare-prefix-message-of-2
 slice-reshare-prefix-message-of-2 c = search needs
 
 slice-aggregate-message-of-2 : tie.Need-slice-aggregate-message-of-2
-slice-aggregate-message-of-2 c = sym (length-take-le _ _ (omega (arith, c .before .before .before .before .before .pre .0 .2 .marks-room)))
+slice-aggregate-message-of-2 c = sym (length-take-le _ _ (omega (arith, c .before .before .before .before .before .before .before .before .pre .0 .2 .marks-room)))
 
 message-of-requires : tie.Need-message-of-requires
 message-of-requires c κs =
-    let s = c .before .before .before .before .before in
+    let s = c .before .before .before .before .before .before .before .before in
     let inside = s .pre .0 .1 in
     let points = targets-point (s .args .sizes .records) (read s) (targetIn (s .args .rule .slot .rule)) (s .pre .1 .0 .0 .targets _ inside) in
     ((s .pre .0 .0, inside, s .pre .1 .0 .0 .found _ inside), (points, s .pre .1 .0 .1))
@@ -70,7 +70,7 @@ enum-known-message c = search needs
 
 -- where its message goes
 abbrev start : tie.After-message-of → tie.Start
-start c = c .before .before .before .before .before .before
+start c = c .before .before .before .before .before .before .before .before .before
 
 place-requires : tie.Need-place-requires
 place-requires c κs =
