@@ -124,38 +124,38 @@ module _ (s : Sizes) (l : List Fact) (wanted : List Bool) (cells : List Cell) (v
           (p _ (subst (List·Memᴰ _) words (chain-listed (codes .kinds) (codes .numbers) (codes .chains) from to i a b k)));
     }
 
-    term-found : (x : Term) {at : Location} → TermLocated l wanted codes chained at x → AllPlanned s l (expressionReadings (termIn codes x))
+    term-found : (x : Term) (at : Location) → TermLocated l wanted codes chained at x → AllPlanned s l (expressionReadings (termIn codes x))
         → TermFound s cells values marks u codes chained at x
     unfolding termIn expressionReadings
-    term-found (Chain c) h p = located-found (unpack c) h (p (unpack c) (List·Memᴰ·head refl))
-    term-found (Number z) h p = tt
-    term-found (Tree from to) h p = tree-found h p
+    term-found (Chain c) at h p = located-found (unpack c) h (p (unpack c) (List·Memᴰ·head refl))
+    term-found (Number z) at h p = tt
+    term-found (Tree from to) at h p = tree-found h p
 
-    terms-found : (x y : Term) {at : Places} → TermLocated l wanted codes chained (at .first) x × TermLocated l wanted codes chained (at .second) y
+    terms-found : (x y : Term) (at : Places) → TermLocated l wanted codes chained (at .first) x × TermLocated l wanted codes chained (at .second) y
         → AllPlanned s l (expressionReadings (termIn codes x) ++ expressionReadings (termIn codes y))
         → TermFound s cells values marks u codes chained (at .first) x × TermFound s cells values marks u codes chained (at .second) y
-    terms-found x y h p = let (a, b) = parts-planned s l _ _ p in (term-found x (h .0) a, term-found y (h .1) b)
+    terms-found x y at h p = let (a, b) = parts-planned s l _ _ p in (term-found x (at .first) (h .0) a, term-found y (at .second) (h .1) b)
 
-    test-found : (t : Test) {at : Places} → TestLocated l wanted codes chained at t → AllPlanned s l (testReadings (testIn codes t))
+    test-found : (t : Test) (at : Places) → TestLocated l wanted codes chained at t → AllPlanned s l (testReadings (testIn codes t))
         → TestFound s cells values marks u codes chained at t
     unfolding testIn testReadings
-    test-found Always h p = tt
-    test-found (When x c y) h p = terms-found x y h p
+    test-found Always at h p = tt
+    test-found (When x c y) at h p = terms-found x y at h p
 
-    rule-found : (x : Rule) {at : Places} → RuleLocated l wanted codes chained at x
+    rule-found : (x : Rule) (at : Places) → RuleLocated l wanted codes chained at x
         → AllPlanned s l (targetReadings (targetIn x) ++ expressionReadings (expressionIn codes x)) → RuleFound s cells values marks u codes chained at x
     unfolding targetIn expressionIn targetReadings expressionReadings
-    rule-found (Set f x) h p = term-found x h p
-    rule-found (Combine f op x y) h p = terms-found x y h p
-    rule-found (Remote k f c x) h p =
-        (located-found (unpack c) (h .0) (p (unpack c) (List·Memᴰ·head refl)), term-found x (h .1) (λ w m. p w (List·Memᴰ·tail m)))
+    rule-found (Set f x) at h p = term-found x (at .first) h p
+    rule-found (Combine f op x y) at h p = terms-found x y at h p
+    rule-found (Remote k f c x) at h p =
+        (located-found (unpack c) (h .0) (p (unpack c) (List·Memᴰ·head refl)), term-found x (at .second) (h .1) (λ w m. p w (List·Memᴰ·tail m)))
 
     rule-reads : (x : Located) → LocatedAmong l wanted codes chained x → AllPlanned s l (ruleReadings (ruleIn codes (x .slot)))
         → RuleReads s cells values marks u codes chained x
     unfolding ruleIn ruleReadings
     rule-reads x a p =
         let (t, r) = parts-planned s l _ _ p in
-        record { test = test-found (x .slot .test) (a .test) t; rule = rule-found (x .slot .rule) (a .rule) r }
+        record { test = test-found (x .slot .test) (x .at .test) (a .test) t; rule = rule-found (x .slot .rule) (x .at .rule) (a .rule) r }
 
 -- a target is a reference, so it leads to a record
 target-refers : {s : Sizes} {cells : List Cell} → Valid s cells → (u : ℕ) → u < s .records → (t : Target) → TargetPasses s t

@@ -82,7 +82,7 @@ abbrev Entry : Type 0
 Entry = Of tie.Start
 
 abbrev entry : Of tie.After-struct-known2 → Entry
-entry c = c .before .before .before .before .before .before
+entry c = c .before .before .before .before .before .before .before .before .before
 
 -- the head of the loop over the steps
 abbrev Top : Type 0
