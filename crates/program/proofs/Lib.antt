@@ -2,3 +2,4 @@
 pub mod Rules
 pub mod Frames
 pub mod Locations
+pub mod Codes

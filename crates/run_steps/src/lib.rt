@@ -4,6 +4,7 @@ ghost use mathlib.Core.Path.{_≡_};
 ghost use Rattle.register.specs.File.{cellsOfFile};
 ghost use Rattle.register.specs.Shape.{Register};
 ghost use Rattle.step_cells.specs.Work.{HoldsCells};
+ghost use Rattle.program.specs.Code.{codesKept};
 ghost use Rattle.program.specs.Passed.{ProgramPasses};
 ghost use Rattle.program.specs.Kept.{programOf, Complete};
 ghost use Rattle.run_steps.specs.Answer.{endedWith, stoppedAt, Scratch, Ends};
@@ -65,13 +66,19 @@ fn run_steps(
     values: &mut [i64],
     marks: &mut [u8],
     sizes: Sizes,
+    kinds: &[u8],
+    numbers: &[i32],
+    chains: &[u64],
+    places: &[u8],
     program: Program,
     machine: Machine,
     budget: u16,
 ) -> RunAnswer
-    requires { ⌜ Register sizes (now out) × Scratch sizes (program .lines) (now values) (now marks) × Complete program × ProgramPasses sizes (programOf program)
+    requires { ⌜ Register sizes (now out) × Scratch sizes (program .lines) (now values) (now marks) × Complete (codesKept (now kinds) (now numbers) (now chains)) (now places) program
+        × ProgramPasses sizes (programOf (codesKept (now kinds) (now numbers) (now chains)) program)
         × HoldsCells (program .lines * sizes .records + sizes .records) (cellsOfFile sizes (now out)) (now values) (now marks) ⌝ }
-    ensures { λ r. ⌜ Ends machine sizes (programOf program) budget (now (out .entry)) (now (out .exit)) r ⌝ }
+    ensures { λ r. ⌜ Ends machine sizes (programOf (codesKept (now (kinds .entry)) (now (numbers .entry)) (now (chains .entry))) program) budget
+        (now (out .entry)) (now (out .exit)) r ⌝ }
 {
     let slots = program.slots;
     let frames = program.frames;
@@ -115,7 +122,19 @@ fn run_steps(
         let mut stop = Stop::Nowhere;
         'records: for u in 0..sizes.records {
             for k in 0..used {
-                stop = local::apply_rule(out, values, marks, sizes, base, u, rules[k]);
+                stop = local::apply_rule(
+                    out,
+                    values,
+                    marks,
+                    sizes,
+                    base,
+                    u,
+                    kinds,
+                    numbers,
+                    chains,
+                    places,
+                    rules[k],
+                );
                 if let Stop::At(_, _) = stop {
                     break 'records;
                 }
@@ -126,7 +145,19 @@ fn run_steps(
         }
         let mut sent = 0;
         if frame.remote {
-            sent = remote::apply(out, values, marks, sizes, base, rules, used);
+            sent = remote::apply(
+                out,
+                values,
+                marks,
+                sizes,
+                base,
+                kinds,
+                numbers,
+                chains,
+                places,
+                rules,
+                used,
+            );
         }
         let fields = frame.fields;
         let total = step_commit::commit(out, values, marks, sizes, base, fields);
@@ -146,14 +177,32 @@ pub fn run_program(
     values: &mut [i64],
     marks: &mut [u8],
     sizes: Sizes,
+    kinds: &[u8],
+    numbers: &[i32],
+    chains: &[u64],
+    places: &[u8],
     program: Program,
     machine: Machine,
     budget: u16,
 ) -> RunAnswer
-    requires { ⌜ Register sizes (now out) × Scratch sizes (program .lines) (now values) (now marks) × Complete program × ProgramPasses sizes (programOf program) ⌝ }
-    ensures { λ r. ⌜ Ends machine sizes (programOf program) budget (now (out .entry)) (now (out .exit)) r ⌝ }
+    requires { ⌜ Register sizes (now out) × Scratch sizes (program .lines) (now values) (now marks) × Complete (codesKept (now kinds) (now numbers) (now chains)) (now places) program
+        × ProgramPasses sizes (programOf (codesKept (now kinds) (now numbers) (now chains)) program) ⌝ }
+    ensures { λ r. ⌜ Ends machine sizes (programOf (codesKept (now (kinds .entry)) (now (numbers .entry)) (now (chains .entry))) program) budget
+        (now (out .entry)) (now (out .exit)) r ⌝ }
 {
     let at = program.lines * sizes.records;
     step_cells::begin(out, values, marks, sizes, at + sizes.records);
-    run_steps(out, values, marks, sizes, program, machine, budget)
+    run_steps(
+        out,
+        values,
+        marks,
+        sizes,
+        kinds,
+        numbers,
+        chains,
+        places,
+        program,
+        machine,
+        budget,
+    )
 }

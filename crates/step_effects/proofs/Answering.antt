@@ -1,130 +1,144 @@
--- The answers of the code: a sum, and what a rule stores and sends.
+-- What a rule stores and sends, by what the code found for its test.
 use Prim.Native.Nat.{ℕ, _<_}
 use mathlib.Core.Path.{_≡_, refl, sym, ap, ap₂, _∙_}
-use mathlib.Core.Bool.{Bool, true, false, cond, not, _&&_}
+use mathlib.Core.Bool.{Bool, true, false, cond, _&&_, _||_}
 use mathlib.Core.List.{List, []}
-use borrow.Author.Tests.{not-true, not-false}
 use lib.IntN.{ℤ}
 use lib.Signed.{mag}
 use mir.Syntax.{w32}
-use mir.Val.{toZ, ofZ, SFits}
-use mir.Facts.{toZ-ofZ}
-use Rattle.integers.specs.Range.{inRange, sumOf}
-use Rattle.integers.specs.declared.Sum.{Sum}
-use Rattle.integers.specs.declared.Sum.the-variants.{InRange, OutOfRange}
-use Rattle.laws.proofs.Bools.{true-false, cond-both}
+use mir.Val.{toZ, ofZ}
+use Rattle.laws.proofs.Bools.{true-false, and-both, or-left, or-neither}
+use Rattle.integers.proofs.Complement.{kept}
 use Rattle.chain.specs.declared.reading.Reading.{Reading}
 use Rattle.chain.specs.declared.reading.Reading.the-variants.{Missing, Value}
 use Rattle.program.specs.declared.term.Term.{Term}
-use Rattle.program.specs.declared.term.Term.the-variants.{Chain, Number}
-use Rattle.program.specs.declared.rule.Operator.{Operator}
+use Rattle.program.specs.declared.term.Term.the-variants.{Chain, Number, Tree}
+use Rattle.program.specs.declared.rule.Test.{Test}
+use Rattle.program.specs.declared.rule.Test.the-variants.{Always, When}
 use Rattle.program.specs.declared.rule.Rule.{Rule}
 use Rattle.program.specs.declared.rule.Rule.the-variants.{Set, Combine, Remote}
 use Rattle.program.specs.declared.rule.Slot.{Slot}
-use Rattle.program.specs.Program.{operation, isRemote, targetField}
+use Rattle.program.specs.Code.{Codes}
+use Rattle.program.specs.Program.{Target, own, remote, isRemote, targetField}
 use Rattle.program.specs.Stored.{termIn, testIn, targetIn, expressionIn, ruleIn}
-use Rattle.machine.specs.Value.{operate, combined, value, readingInRange, overflows, holds}
-use Rattle.machine.specs.Local.{offends}
+use Rattle.machine.specs.Value.{value, overflows, holds}
+use Rattle.machine.specs.Local.{testOverflows, offends}
 use Rattle.machine.specs.Remote.{sentBy, ruleMessages}
 use Rattle.machine.proofs.Folding.{ruleMessages-local}
-use Rattle.step_effects.specs.Answers.{readingWrite, sumAnswer, sumWrite, targetWrite, writeOf}
+use Rattle.step_expressions.specs.declared.operation.Evaluated.{Evaluated}
+use Rattle.step_expressions.specs.declared.operation.Evaluated.the-variants as E
+use Rattle.step_expressions.specs.declared.term.Tested.{Tested}
+use Rattle.step_expressions.specs.declared.term.Tested.the-variants.{Holds, Fails, OutOfRange}
+use Rattle.step_expressions.specs.Evaluated.{ofReading, readingOf, evaluated}
+use Rattle.step_expressions.specs.Tests.{tested}
+use Rattle.step_expressions.proofs.Operating.{value-told}
+use Rattle.step_expressions.proofs.Testing.{test-tells}
+use Rattle.step_effects.specs.Answers.{isPlain, plainTest, plainAmount, targetWrite, doneBy, writeOf}
 use Rattle.step_effects.specs.declared.stored.Write.{Write}
 use Rattle.step_effects.specs.declared.stored.Write.the-variants as W
-use Rattle.step_terms.proofs.Sides.{both-first, both-second, both-values}
 
--- the answer for a sum is that for a sum of any size
-pub sum-answer : (f : ℕ) (z : ℤ) → sumAnswer f (sumOf z) ≡ sumWrite f (Value z)
-unfolding sumOf sumAnswer sumWrite readingInRange readingWrite
-sum-answer f z = go (inRange z)
-  where
-    go : (t : Bool) → sumAnswer f (cond t (InRange z) OutOfRange) ≡ cond t (W.Store f z) (W.OutOfRange f)
-    go true = refl
-    go false = refl
+-- what is done with an expression
+done-is : (t : Target) (o : Bool) (x : Reading)
+    → doneBy t (cond o E.OutOfRange (ofReading x)) ≡ cond o (W.OutOfRange (targetField t)) (targetWrite t x)
+unfolding doneBy ofReading
+done-is t true x = refl
+done-is t false Missing = refl
+done-is t false (Value z) = refl
 
--- an operation on two values as the code holds them, for the operator that it matched
-pub operate-kept : {k l : Operator} {a b : ℤ} {s : Sum} → SFits w32 a → SFits w32 b → k ≡ l → s ≡ sumOf (operate l (toZ w32 (ofZ w32 a)) (toZ w32 (ofZ w32 b)))
-    → s ≡ sumOf (operate k a b)
-operate-kept {l} ha hb e q = q ∙ ap sumOf (ap₂ (operate l) (toZ-ofZ ha) (toZ-ofZ hb)) ∙ rw e
+-- a missing value stores nothing
+pub missing-unstored : (t : Target) → W.Nothing ≡ targetWrite t Missing
+unfolding targetWrite
+missing-unstored (own f) = refl
+missing-unstored (remote k f w) = refl
 
--- an operation on two readings, one of which may be missing
-module _ (op : Operator) (f : ℕ) where
-  pub sum-first : {x : Reading} (y : Reading) → x ≡ Missing → W.Nothing ≡ sumWrite f (combined op x y)
-  unfolding combined sumWrite readingInRange readingWrite
-  sum-first y e = ap (sumWrite f) (both-first Missing (λ a b. Value (operate op a b)) y e)
-
-  pub sum-second : (x : Reading) {y : Reading} → y ≡ Missing → W.Nothing ≡ sumWrite f (combined op x y)
-  unfolding combined sumWrite readingInRange readingWrite
-  sum-second x e = ap (sumWrite f) (both-second Missing (λ a b. Value (operate op a b)) x e)
-
-  pub sum-written : {x y : Reading} {a b : ℤ} {s : Sum} → x ≡ Value a → y ≡ Value b → mag a < 2147483648 → mag b < 2147483648
-      → s ≡ sumOf (operate op (toZ w32 (ofZ w32 a)) (toZ w32 (ofZ w32 b))) → sumAnswer f s ≡ sumWrite f (combined op x y)
-  unfolding combined
-  sum-written p q ha hb k = ap (sumAnswer f) k ∙ sum-answer f _ ∙ ap (sumWrite f) (both-values Missing (λ a b. Value (operate op a b)) p q ha hb)
+-- a value is stored as the code holds it
+pub value-stored : (f : ℕ) {t : Target} {v : Evaluated} {z : ℤ} → v ≡ E.Value z → t ≡ own f → mag z < 2147483648 → W.Store f (toZ w32 (ofZ w32 z)) ≡ doneBy t v
+unfolding doneBy targetWrite
+value-stored f {z = z} p q h = ap (W.Store f) (kept z h) ∙ sym (ap₂ doneBy q p)
 
 -- what one record, which reads this, makes of a rule
-module _ (read : List ℕ → Reading) where
-  -- what a rule stores where its test holds
-  unfoldable pub done : Rule → Write
-  done r =
-      cond (overflows read (expressionIn r)) (W.OutOfRange (targetField (targetIn r)))
-      (targetWrite (targetIn r) (value read (expressionIn r)))
+module _ (read : List ℕ → Reading) (k : Codes) where
+  -- an amount none of whose sums leaves the range
+  pub amount-told : (x : Term) {v : Evaluated} {r : Reading} → r ≡ readingOf v → v ≡ evaluated read (termIn k x) → overflows read (termIn k x) ≡ false
+      → r ≡ value read (termIn k x)
+  amount-told x e q h = e ∙ ap readingOf q ∙ value-told read (termIn k x) h
 
-  -- a term forms no sum
-  term-formed : (x : Term) → overflows read (termIn x) ≡ false
-  unfolding overflows termIn
-  term-formed (Chain c) = refl
-  term-formed (Number z) = refl
+  -- a plain term forms no sum
+  plain-formed : (x : Term) → isPlain x ≡ true → overflows read (termIn k x) ≡ false
+  unfolding isPlain overflows termIn
+  plain-formed (Chain c) h = refl
+  plain-formed (Number z) h = refl
+  plain-formed (Tree from to) h = true-false h refl
 
-  pub set-done : (f : ℕ) (x : Term) → readingWrite f (value read (termIn x)) ≡ done (Set f x)
-  unfolding done expressionIn targetIn targetWrite
-  set-done f x = simp (term-formed x)
+  plain-tested : (t : Test) → plainTest t ≡ true → testOverflows read (testIn k t) ≡ false
+  unfolding plainTest testOverflows testIn
+  plain-tested Always h = refl
+  plain-tested (When x c y) h = let (a, b) = and-both (isPlain x) (isPlain y) h in simp (plain-formed x a, plain-formed y b)
 
-  pub combine-done : (f : ℕ) (op : Operator) (x y : Term) → sumWrite f (value read (operation op (termIn x) (termIn y))) ≡ done (Combine f op x y)
-  unfolding done expressionIn targetIn targetField targetWrite overflows value sumWrite
-  combine-done f op x y = simp (term-formed x, term-formed y) (go (readingInRange (combined op (value read (termIn x)) (value read (termIn y)))) _ _)
-    where
-      go : (i : Bool) (v w : Write) → cond i w v ≡ cond (not i) v w
-      go true v w = refl
-      go false v w = refl
+  -- a remote rule whose amount is plain
+  record Amount (r : Rule) : Type 0 where
+    formed : overflows read (expressionIn k r) ≡ false
+    unstored : (x : Reading) → targetWrite (targetIn r) x ≡ W.Nothing
 
-  -- a remote write stores nothing
-  remote-done : (r : Rule) → isRemote (targetIn r) ≡ true → done r ≡ W.Nothing
-  unfolding isRemote done expressionIn targetIn targetWrite
-  remote-done (Set f x) e = true-false e refl
-  remote-done (Combine f op x y) e = true-false e refl
-  remote-done (Remote k f c x) e = simp (term-formed x)
+  plain-amount : (r : Rule) → plainAmount r ≡ true → Amount r
+  unfolding plainAmount expressionIn targetIn targetWrite
+  plain-amount (Set f x) h = true-false h refl
+  plain-amount (Combine f op x y) h = true-false h refl
+  plain-amount (Remote sort f c x) h = record { formed = plain-formed x h; unstored = λ x. refl }
 
   module _ (x : Slot) where
-    -- what a rule stores, by its test
-    write-is : writeOf read (ruleIn x) ≡ cond (holds read (testIn (x .test))) (done (x .rule)) W.Nothing
-    unfolding writeOf ruleIn offends done
-    write-is = go (holds read (testIn (x .test))) (overflows read (expressionIn (x .rule))) _ _ _
+    abbrev test : Bool
+    test = holds read (testIn k (x .test))
+
+    -- it stores nothing here, and no sum of it leaves the range
+    pub write-plain : plainAmount (x .rule) ≡ true → plainTest (x .test) ≡ true → W.Nothing ≡ writeOf read (ruleIn k x)
+    unfolding writeOf ruleIn offends
+    write-plain h t = let a = plain-amount (x .rule) h in sym (go _ test (plain-tested (x .test) t) (a .formed) (a .unstored _))
       where
-        go : (t o : Bool) (v w n : Write) → cond (t && o) v (cond t w n) ≡ cond t (cond o v w) n
-        go true o v w n = refl
-        go false o v w n = refl
+        go : {o v : Bool} {w : Write} (n : Write) (h : Bool) → o ≡ false → v ≡ false → w ≡ W.Nothing → cond (o || h && v) n (cond h w W.Nothing) ≡ W.Nothing
+        go n true a b c = rw (a, b, c)
+        go n false a b c = rw a
 
-    -- a rule of the other sort
-    pub write-remote : isRemote (targetIn (x .rule)) ≡ true → W.Nothing ≡ writeOf read (ruleIn x)
-    write-remote e = sym (write-is ∙ cond-both (λ w. w ≡ W.Nothing) (holds read (testIn (x .test))) _ _ (remote-done (x .rule) e) refl)
-
-    pub send-local : isRemote (targetIn (x .rule)) ≡ false → [] ≡ ruleMessages read (ruleIn x)
+    pub send-local : isRemote (targetIn (x .rule)) ≡ false → [] ≡ ruleMessages read (ruleIn k x)
     unfolding ruleIn
-    send-local e = sym (ruleMessages-local read (ruleIn x) e)
+    send-local e = sym (ruleMessages-local read (ruleIn k x) e)
 
-    -- a rule, by what the code found for its test
-    module _ {t : Bool} (ran : t ≡ holds read (testIn (x .test))) where
-      pub write-nothing : not t ≡ true → W.Nothing ≡ writeOf read (ruleIn x)
-      write-nothing h = sym (write-is ∙ simp (sym ran ∙ not-true t h))
+    -- a rule, by the answer of its test
+    module _ {t : Tested} (ran : t ≡ tested read (testIn k (x .test))) where
+      pub write-fails : t ≡ Fails → W.Nothing ≡ writeOf read (ruleIn k x)
+      unfolding writeOf ruleIn offends
+      write-fails e = let (o, h) = test-tells read (testIn k (x .test)) (sym e ∙ ran) in sym (simp (o, h))
 
-      pub send-nothing : not t ≡ true → [] ≡ ruleMessages read (ruleIn x)
+      pub write-offends : t ≡ OutOfRange → W.OutOfRange (targetField (targetIn (x .rule))) ≡ writeOf read (ruleIn k x)
+      unfolding writeOf ruleIn offends
+      write-offends e = sym (simp (test-tells read (testIn k (x .test)) (sym e ∙ ran)))
+
+      pub write-done : t ≡ Holds → doneBy (targetIn (x .rule)) (evaluated read (expressionIn k (x .rule))) ≡ writeOf read (ruleIn k x)
+      unfolding writeOf ruleIn offends evaluated
+      write-done e =
+          let (o, h) = test-tells read (testIn k (x .test)) (sym e ∙ ran) in
+          done-is (targetIn (x .rule)) (overflows read (expressionIn k (x .rule))) (value read (expressionIn k (x .rule))) ∙ sym (simp (o, h))
+
+      pub send-fails : t ≡ Fails → [] ≡ ruleMessages read (ruleIn k x)
       unfolding ruleMessages ruleIn
-      send-nothing h = simp (sym ran ∙ not-true t h)
+      send-fails e = let (o, h) = test-tells read (testIn k (x .test)) (sym e ∙ ran) in sym (simp h)
 
-      module _ (h : not t ≡ false) {r : Rule} (is : x .rule ≡ r) where
-        pub write-done : done r ≡ writeOf read (ruleIn x)
-        write-done = sym (write-is ∙ simp (sym ran ∙ not-false t h) (ap done is))
+      -- where none of its sums leaves the range
+      module _ (in-range : offends read (ruleIn k x) ≡ false) where
+        pub send-offends : t ≡ OutOfRange → [] ≡ ruleMessages read (ruleIn k x)
+        unfolding offends ruleIn
+        send-offends e = true-false (or-left _ (test-tells read (testIn k (x .test)) (sym e ∙ ran))) in-range
 
-        pub send-done : sentBy read (targetIn r) (value read (expressionIn r)) ≡ ruleMessages read (ruleIn x)
+        pub send-formed : t ≡ Holds → overflows read (expressionIn k (x .rule)) ≡ false
+        unfolding offends ruleIn
+        send-formed e =
+            let (o, h) = test-tells read (testIn k (x .test)) (sym e ∙ ran) in
+            let parts = or-neither (testOverflows read (testIn k (x .test))) (test && overflows read (expressionIn k (x .rule))) in-range in
+            rw h at (parts .1)
+
+        pub send-done : t ≡ Holds → {r : Rule} → x .rule ≡ r
+            → sentBy read (targetIn r) (value read (expressionIn k r)) ≡ ruleMessages read (ruleIn k x)
         unfolding ruleMessages ruleIn
-        send-done = sym (simp (sym ran ∙ not-false t h) (ap (λ (r : Rule). sentBy read (targetIn r) (value read (expressionIn r))) is))
+        send-done e is =
+            let (o, h) = test-tells read (testIn k (x .test)) (sym e ∙ ran) in
+            sym (simp h (ap (λ (r : Rule). sentBy read (targetIn r) (value read (expressionIn k r))) is))

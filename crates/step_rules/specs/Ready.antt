@@ -14,6 +14,7 @@ use Rattle.chain.specs.Word.{hasField, column, refersTo}
 use Rattle.program.specs.declared.location.Located.{Located}
 use Rattle.program.specs.Program.{Target, own, remote, Rule, targetField}
 use Rattle.laws.specs.Lists.{Each}
+use Rattle.program.specs.Code.{Codes}
 use Rattle.program.specs.Stored.{targetIn}
 use Rattle.machine.specs.Local.{offends, localRule, localRecords, sumColumn}
 use Rattle.machine.specs.Step.{sumOffence}
@@ -27,14 +28,18 @@ abbrev pub Targets : ℕ → (List ℕ → Reading) → Target → Type 0
 Targets n read (own f) = Unit {0}
 Targets n read (remote k f c) = refersTo n (read c) ≡ true
 
--- a rule that every record can run: over these cells and these places of lines
-pub record RuleReady (s : Sizes) (cells : List Cell) (values : List ℤ) (marks : List ℕ) (x : Located) : Type 0 where
-  pub found : (u : ℕ) → u < s .records → RuleReads s cells values marks u x
+-- a rule that every record can run: over these cells, these places of lines, and these codes with the places of their chains
+pub record RuleReady (s : Sizes) (cells : List Cell) (values : List ℤ) (marks : List ℕ) (k : Codes) (places : List ℕ) (x : Located) : Type 0 where
+  pub found : (u : ℕ) → u < s .records → RuleReads s cells values marks u k places x
   pub field : hasField s (targetField (targetIn (x .slot .rule))) ≡ true
   pub targets : (u : ℕ) → u < s .records → Targets (s .records) (followed s cells u) (targetIn (x .slot .rule))
 
-abbrev pub AllReady : Sizes → List Cell → List ℤ → List ℕ → List Located → Type 0
-AllReady s cells values marks xs = Each (RuleReady s cells values marks) xs
+abbrev pub AllReady : Sizes → List Cell → List ℤ → List ℕ → Codes → List ℕ → List Located → Type 0
+AllReady s cells values marks k places xs = Each (RuleReady s cells values marks k places) xs
+
+-- no sum of these rules leaves the range, at any record
+abbrev pub AllInRange : Sizes → List Cell → List Rule → Type 0
+AllInRange s cells rs = (u : ℕ) → u < s .records → sumColumn s (followed s cells u) rs ≡ none
 
 -- what is left by one local rule at record u
 pub record RuleDone (s : Sizes) (cells : List Cell) (base u : ℕ) (r : Rule) (values : List ℤ) (marks : List ℕ)

@@ -6,6 +6,7 @@ ghost use lib.ListN.{length, take};
 ghost use Rattle.register.specs.File.{cellCount, cellIndex, cellsOfFile};
 ghost use Rattle.register.specs.Shape.{Limits};
 ghost use Rattle.chain.specs.Word.{hasField, column as columnOf};
+ghost use Rattle.program.specs.Code.{codesKept};
 ghost use Rattle.program.specs.Stored.{ruleIn};
 ghost use Rattle.register.specs.declared.cells.Cell.the-variants.{WorkedOut};
 ghost use Rattle.step_cells.specs.Work.{Room, Put};
@@ -45,11 +46,18 @@ pub fn apply_rule(
     sizes: Sizes,
     base: usize,
     u: usize,
+    kinds: &[u8],
+    numbers: &[i32],
+    chains: &[u64],
+    places: &[u8],
     rule: Located,
 ) -> Stop
     requires { ⌜ Limits sizes × (length (now out) ≡ 12 + 5 * cellCount sizes) × (u < sizes .records) × Room base (cellCount sizes) (now values) (now marks) ⌝ }
-    requires { ⌜ RuleReady sizes (cellsOfFile sizes (now out)) (take base (now values)) (take base (now marks)) rule ⌝ }
-    ensures { λ r. ⌜ LocalRule sizes (cellsOfFile sizes (now (out .entry))) base u (ruleIn (rule .slot)) (now (values .entry)) (now (marks .entry)) (now (values .exit)) (now (marks .exit)) r ⌝ }
+    requires { ⌜ RuleReady sizes (cellsOfFile sizes (now out)) (take base (now values)) (take base (now marks))
+        (codesKept (now kinds) (now numbers) (now chains)) (now places) rule ⌝ }
+    ensures { λ r. ⌜ LocalRule sizes (cellsOfFile sizes (now (out .entry))) base u
+        (ruleIn (codesKept (now (kinds .entry)) (now (numbers .entry)) (now (chains .entry))) (rule .slot))
+        (now (values .entry)) (now (marks .entry)) (now (values .exit)) (now (marks .exit)) r ⌝ }
 {
     match stored::local_write(
         cells::values_part(out, sizes),
@@ -58,6 +66,10 @@ pub fn apply_rule(
         &marks[..base],
         sizes,
         u,
+        kinds,
+        numbers,
+        chains,
+        places,
         rule,
     ) {
         Write::Nothing => Stop::Nowhere,

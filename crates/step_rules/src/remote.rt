@@ -1,13 +1,17 @@
 // The remote writes of a step, delivered to the working cells.
 ghost use mathlib.Core.Path.{_≡_};
+ghost use mathlib.Core.Bool.{false};
 ghost use Prim.Native.Nat.{_+_, _*_, _≤_, _<_};
 ghost use lib.ListN.{length, take};
 ghost use Rattle.register.specs.Cells.{cellsOf};
 ghost use Rattle.register.specs.File.{cellCount, cellsOfFile};
 ghost use Rattle.register.specs.Shape.{Limits, Parts};
-ghost use Rattle.program.specs.Stored.{rulesIn};
+ghost use Rattle.program.specs.Code.{codesKept};
+ghost use Rattle.program.specs.Stored.{ruleIn, rulesIn};
+ghost use Rattle.machine.specs.Local.{offends};
+ghost use Rattle.step_terms.specs.Found.{followed};
 ghost use Rattle.step_cells.specs.Work.{Room, Small};
-ghost use Rattle.step_rules.specs.Ready.{RuleReady, AllReady};
+ghost use Rattle.step_rules.specs.Ready.{RuleReady, AllReady, AllInRange};
 ghost use Rattle.step_rules.specs.Delivered.{RuleDelivered, Delivered};
 use program::location::Located;
 use register::Sizes;
@@ -26,13 +30,20 @@ fn apply_rule(
     sizes: Sizes,
     base: usize,
     u: usize,
+    kinds: &[u8],
+    numbers: &[i32],
+    chains: &[u64],
+    places: &[u8],
     rule: Located,
     sent: usize,
 ) -> usize
     requires { ⌜ Parts sizes (now cells) (now filled) × (u < sizes .records) × Room base (length (now filled)) (now values) (now marks) ⌝ }
-    requires { ⌜ RuleReady sizes (cellsOf (now cells) (now filled)) (take base (now values)) (take base (now marks)) rule ⌝ }
+    requires { ⌜ RuleReady sizes (cellsOf (now cells) (now filled)) (take base (now values)) (take base (now marks))
+        (codesKept (now kinds) (now numbers) (now chains)) (now places) rule
+        × (offends (followed sizes (cellsOf (now cells) (now filled)) u) (ruleIn (codesKept (now kinds) (now numbers) (now chains)) (rule .slot)) ≡ false) ⌝ }
     requires { ⌜ Small 4611686018427387904 base (length (now filled)) (now values) (now marks) × (sent < 131072) ⌝ }
-    ensures { λ r. ⌜ RuleDelivered sizes (cellsOf (now (cells .entry)) (now (filled .entry))) base u rule
+    ensures { λ r. ⌜ RuleDelivered sizes (cellsOf (now (cells .entry)) (now (filled .entry))) base u
+        (ruleIn (codesKept (now (kinds .entry)) (now (numbers .entry)) (now (chains .entry))) (rule .slot))
         (now (values .entry)) (now (marks .entry)) (now (values .exit)) (now (marks .exit)) sent r ⌝ }
 {
     match sent::message_of(
@@ -42,6 +53,10 @@ fn apply_rule(
         &marks[..base],
         sizes,
         u,
+        kinds,
+        numbers,
+        chains,
+        places,
         rule,
     ) {
         Sent::Nothing => sent,
@@ -61,20 +76,42 @@ pub fn apply(
     marks: &mut [u8],
     sizes: Sizes,
     base: usize,
+    kinds: &[u8],
+    numbers: &[i32],
+    chains: &[u64],
+    places: &[u8],
     rules: [Located; 32],
     count: usize,
 ) -> usize
     requires { ⌜ Limits sizes × (length (now out) ≡ 12 + 5 * cellCount sizes) × Room base (cellCount sizes) (now values) (now marks) × (count ≤ 32) × (length rules ≡ 32) ⌝ }
-    requires { ⌜ AllReady sizes (cellsOfFile sizes (now out)) (take base (now values)) (take base (now marks)) (take count rules) ⌝ }
+    requires { ⌜ AllReady sizes (cellsOfFile sizes (now out)) (take base (now values)) (take base (now marks))
+        (codesKept (now kinds) (now numbers) (now chains)) (now places) (take count rules)
+        × AllInRange sizes (cellsOfFile sizes (now out)) (rulesIn (codesKept (now kinds) (now numbers) (now chains)) count rules) ⌝ }
     requires { ⌜ Small 2147483648 base (cellCount sizes) (now values) (now marks) ⌝ }
-    ensures { λ r. ⌜ Delivered sizes (cellsOfFile sizes (now (out .entry))) base (rulesIn count rules) (now (values .entry)) (now (marks .entry)) (now (values .exit)) (now (marks .exit)) r ⌝ }
+    ensures { λ r. ⌜ Delivered sizes (cellsOfFile sizes (now (out .entry))) base
+        (rulesIn (codesKept (now (kinds .entry)) (now (numbers .entry)) (now (chains .entry))) count rules)
+        (now (values .entry)) (now (marks .entry)) (now (values .exit)) (now (marks .exit)) r ⌝ }
 {
     let cells = cells::values_part(out, sizes);
     let filled = cells::marks_part(out, sizes);
     let mut sent = 0;
     for u in 0..sizes.records {
         for k in 0..count {
-            sent = apply_rule(cells, filled, values, marks, sizes, base, u, rules[k], sent);
+            sent = apply_rule(
+                cells,
+                filled,
+                values,
+                marks,
+                sizes,
+                base,
+                u,
+                kinds,
+                numbers,
+                chains,
+                places,
+                rules[k],
+                sent,
+            );
         }
     }
     sent

@@ -17,7 +17,7 @@ use Rattle.text_forms.specs.Written.{Term, Condition, always, when, Acti
 use Rattle.program.specs.declared.rule.Comparison.{Comparison}
 use Rattle.program.specs.declared.rule.Comparison.the-variants.{Less, Equal, Unequal}
 use Rattle.program.specs.declared.rule.Operator.{Operator}
-use Rattle.program.specs.declared.rule.Operator.the-variants.{Plus, Minus}
+use Rattle.program.specs.declared.rule.Operator.the-variants.{Plus, Minus, Smaller}
 use Rattle.program.specs.declared.rule.Sort.{Sort}
 use Rattle.program.specs.declared.rule.Sort.the-variants.{Least, Total}
 use Rattle.text_forms.specs.Token.{Token, capital, then, literal, or, finished}
@@ -56,8 +56,8 @@ local-spelled t =
     or-all P _ _
     (finished-all P (set f x) r₂ (λ n. record { text = front ∙ rw (n, append-nil); proper = (c .1, w .proper) }))
     (or-all P _ _
-    (made-all P (combine f Plus x) (operatorText Plus) r₂ (λ y e₃ p. record { text = front ∙ rw e₃; proper = (c .1, w .proper, p) }))
-    (made-all P (combine f Minus x) (operatorText Minus) r₂ (λ y e₃ p. record { text = front ∙ rw e₃; proper = (c .1, w .proper, p) }))))))
+    (made-all P (combine f Plus x) (operatorText Plus) r₂ (λ y e₃ p. record { text = front ∙ rw e₃; proper = (c .1, w .proper, p, tt) }))
+    (made-all P (combine f Minus x) (operatorText Minus) r₂ (λ y e₃ p. record { text = front ∙ rw e₃; proper = (c .1, w .proper, p, tt) }))))))
 
 -- a remote rule behind `remote `
 remote-spelled : (r : List ℕ) (f : C.Form) → C.form r ≡ f → All (SpelledAction (bytes "remote " ++ r)) (remoteForm f)
@@ -156,6 +156,7 @@ unfolding printedAction assigned sentForms or finished literal digits isDigit st
 action-read (set f x) p = ap (λ (l : List ℕ). actionForm (f ∷ (bytes "[u] := " ++ l))) (sym (append-nil (printedTerm x))) ∙ assign-read f x [] (p .0) (p .1) (refl, refl)
 action-read (combine f Plus x y) p = assign-read f x (operatorText Plus ++ printedTerm y) (p .0) (p .1) (refl, refl) ∙ rw (last-read (combine f Plus x) y (p .2))
 action-read (combine f Minus x y) p = assign-read f x (operatorText Minus ++ printedTerm y) (p .0) (p .1) (refl, refl) ∙ rw (last-read (combine f Minus x) y (p .2))
+action-read (combine f Smaller x y) p = absurd (p .3)
 action-read (remote Least f c x) p = target-read f c (sortText Least ++ printedTerm x) (p .0) ∙ rw (last-read (remote Least f c) x (p .1))
 action-read (remote Total f c x) p = target-read f c (sortText Total ++ printedTerm x) (p .0) ∙ rw (last-read (remote Total f c) x (p .1))
 

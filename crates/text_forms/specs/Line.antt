@@ -12,7 +12,7 @@ use Rattle.text_forms.specs.Written.{Term, Condition, always, when, Acti
 use Rattle.program.specs.declared.rule.Comparison.{Comparison}
 use Rattle.program.specs.declared.rule.Comparison.the-variants.{Less, Equal, Unequal}
 use Rattle.program.specs.declared.rule.Operator.{Operator}
-use Rattle.program.specs.declared.rule.Operator.the-variants.{Plus, Minus}
+use Rattle.program.specs.declared.rule.Operator.the-variants.{Plus, Minus, Smaller}
 use Rattle.program.specs.declared.rule.Sort.{Sort}
 use Rattle.program.specs.declared.rule.Sort.the-variants.{Least, Total}
 use Rattle.text_forms.specs.Token.{capital, then, literal, or, finished}
@@ -28,6 +28,7 @@ comparisonText Unequal = bytes " != "
 abbrev pub operatorText : Operator → List ℕ
 operatorText Plus = bytes " + "
 operatorText Minus = bytes " - "
+operatorText Smaller = bytes " <? "
 
 -- a sort of remote write with its spaces
 abbrev pub sortText : Sort → List ℕ
@@ -49,10 +50,16 @@ printedLine (loop f) = bytes "loop " ++ (f ∷ [])
 printedLine (rule always a) = printedAction a
 printedLine (rule (when x c y) a) = bytes "if " ++ (printedTerm x ++ (comparisonText c ++ (printedTerm y ++ (bytes ": " ++ printedAction a))))
 
+-- the operators that a rule may have
+abbrev pub ProperOperator : Operator → Type 0
+ProperOperator Plus = Unit {0}
+ProperOperator Minus = Unit {0}
+ProperOperator Smaller = ⊥
+
 -- what 7 asks of a rule without its test: letters are capitals, numbers are written as they may be
 abbrev pub ProperAction : Action → Type 0
 ProperAction (set f x) = (isCapital f ≡ true) × ProperTerm x
-ProperAction (combine f op x y) = (isCapital f ≡ true) × ProperTerm x × ProperTerm y
+ProperAction (combine f op x y) = (isCapital f ≡ true) × ProperTerm x × ProperTerm y × ProperOperator op
 ProperAction (remote k f c x) = (every isCapital (f ∷ c) ≡ true) × ProperTerm x
 
 -- what 7 asks of a test

@@ -115,6 +115,7 @@ fn read_operand(line: &[u8], at: usize, operator: Operator, sizes: Sizes) -> Las
     match operator {
         Operator::Plus => read_last(line, at, b" + ", sizes),
         Operator::Minus => read_last(line, at, b" - ", sizes),
+        Operator::Smaller => read_last(line, at, b" <? ", sizes),
     }
 }
 

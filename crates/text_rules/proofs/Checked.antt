@@ -1,7 +1,7 @@
 -- A line with no refusal has passed every test, and its rule, as the program has it, keeps to what they ask.
 use Prim.Native.Nat.{ℕ, _+_, _-_, _<_}
 use mathlib.Core.Path.{_≡_, refl, sym, _∙_}
-use mathlib.Core.Bool.{Bool, true, false, cond, not, _&&_}
+use mathlib.Core.Bool.{Bool, true, false, cond, not, _&&_, and-false}
 use mathlib.Core.List.{List, [], _∷_, _++_}
 use native.Mathlib.Omega.{arith}
 use borrow.Author.Tests.{leb-true, lt-ltb, le-ltb, not-true}
@@ -22,7 +22,7 @@ use Rattle.program.specs.declared.rule.Sort.the-variants.{Least, Total}
 use Rattle.program.specs.Program as P
 use Rattle.text_rules.specs.Check.{State, inPlace, hasRoom, sortsAgree, planFits, lineRefusal}
 use Rattle.text_rules.specs.Text.{writtenTerm, writtenTest, writtenTarget, writtenExpression, writtenRule}
-use Rattle.program.specs.Passed.{isReferenceWord, isReferenceExpression, ExpressionPasses, TestPasses, TargetPasses, RulePasses}
+use Rattle.program.specs.Passed.{isReferenceWord, takesReferences, isReferenceExpression, ExpressionPasses, TestPasses, TargetPasses, RulePasses}
 use Rattle.laws.proofs.Lists.{each-front, each-back}
 
 -- the tests that a line with no refusal has passed
@@ -153,7 +153,8 @@ module _ (s : Sizes) (lim : Limits s) where
       let both = and-both (areMeasures f x) (areMeasures f y) h in
       let (field, first) = measured f x n (w .0) (both .0) in
       let (_, second) = measured f y n (w .1 .0) (both .1) in
-      record { target = tt; expression = ((term-passes s x (w .0), first), (term-passes s y (w .1 .0), second)); alike = field }
+      let whole : false ≡ takesReferences op && isReferenceExpression (writtenTerm x) = sym (rw first (and-false (takesReferences op))) in
+      record { target = tt; expression = ((term-passes s x (w .0), first ∙ whole), (term-passes s y (w .1 .0), second ∙ whole)); alike = field ∙ whole }
   action-passes (W.remote Least f c x) n w h =
       let both = and-both (K.isReferenceTerm (chain c)) (sameKind (isReferenceLetter f) (K.isReferenceTerm x)) h in
       record {

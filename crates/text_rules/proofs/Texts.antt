@@ -16,7 +16,7 @@ use Rattle.text_forms.specs.Written.{Term, chain, number, always, when, Action,
 use Rattle.program.specs.declared.rule.Comparison.{Comparison}
 use Rattle.program.specs.declared.rule.Comparison.the-variants.{Less, Equal, Unequal}
 use Rattle.program.specs.declared.rule.Operator.{Operator}
-use Rattle.program.specs.declared.rule.Operator.the-variants.{Plus, Minus}
+use Rattle.program.specs.declared.rule.Operator.the-variants.{Plus, Minus, Smaller}
 use Rattle.program.specs.declared.rule.Sort.{Sort}
 use Rattle.program.specs.declared.rule.Sort.the-variants.{Least, Total}
 use Rattle.text_forms.specs.Term.{printedTerm, ProperTerm}
@@ -85,6 +85,7 @@ operator-within : (op : Operator) → Within (operatorText op)
 unfolding every isWithin
 operator-within Plus = refl
 operator-within Minus = refl
+operator-within Smaller = refl
 
 sort-within : (k : Sort) → Within (sortText k)
 unfolding every isWithin

@@ -12,6 +12,7 @@ use lib.IntN.{ℤ}
 use lib.ListN.{length, take, getD}
 use Rattle.register.specs.File.{cellsOfFile}
 use Rattle.program.specs.declared.frame.Frame.{Frame}
+use Rattle.program.specs.Code.{codesKept}
 use Rattle.program.specs.Kept.{stepsIn, programOf}
 use Rattle.step_cells.specs.Work.{Same}
 use Rattle.step_cells.specs.declared.stop.Stop.{Stop}
@@ -33,40 +34,40 @@ use Rattle.run_steps.proofs.run_steps.Tie as tie
 
 -- the first k rules of the step are taken out
 abbrev Inv-loop2 : tie.InvT-loop2
-Inv-loop2 out values marks sizes machine budget slots frames steps at base rules₀ frame taken step first finished counts k₀ k-end rules k =
+Inv-loop2 out values marks sizes kinds numbers chains places machine budget slots frames steps at base rules₀ frame taken step first finished counts k₀ k-end rules k =
     Taken slots step (frame .rules) rules k
 
 abbrev μ-loop2 : tie.MeasureT-loop2
-μ-loop2 out values marks sizes machine budget slots frames steps at base rules₀ frame taken step first finished counts k₀ k-end rules k = frame .rules - k
+μ-loop2 out values marks sizes kinds numbers chains places machine budget slots frames steps at base rules₀ frame taken step first finished counts k₀ k-end rules k = frame .rules - k
 
 -- the first k rules are done at record u
 abbrev Inv-loop3 : tie.InvT-loop3
-Inv-loop3 out values₀ marks₀ sizes machine budget slots frames steps at base rules frame taken step first finished counts setting used gathered stop₀ u k₀ u-end
-    values marks stop k = RulesDone sizes (cellsOfFile sizes out) base rules used u values₀ marks₀ values marks stop k
+Inv-loop3 out values₀ marks₀ sizes kinds numbers chains places machine budget slots frames steps at base rules frame taken step first finished counts setting used gathered stop₀ u k₀ u-end
+    values marks stop k = RulesDone sizes (cellsOfFile sizes out) base (codesKept kinds numbers chains) rules used u values₀ marks₀ values marks stop k
 
 abbrev μ-loop3 : tie.MeasureT-loop3
-μ-loop3 out values₀ marks₀ sizes machine budget slots frames steps at base rules frame taken step first finished counts setting used gathered stop₀ u k₀ u-end
+μ-loop3 out values₀ marks₀ sizes kinds numbers chains places machine budget slots frames steps at base rules frame taken step first finished counts setting used gathered stop₀ u k₀ u-end
     values marks stop k = used - k
 
 -- all rules are done at the records below u
 abbrev Inv-records : tie.InvT-records
-Inv-records out values₀ marks₀ sizes machine budget slots frames steps at base rules frame taken step first finished counts setting used gathered stop₀ u₀ u-end
-    values marks stop u = RecordsDone sizes (cellsOfFile sizes out) base rules used values₀ marks₀ values marks stop u
+Inv-records out values₀ marks₀ sizes kinds numbers chains places machine budget slots frames steps at base rules frame taken step first finished counts setting used gathered stop₀ u₀ u-end
+    values marks stop u = RecordsDone sizes (cellsOfFile sizes out) base (codesKept kinds numbers chains) rules used values₀ marks₀ values marks stop u
 
 abbrev μ-records : tie.MeasureT-records
-μ-records out values₀ marks₀ sizes machine budget slots frames steps at base rules frame taken step first finished counts setting used gathered stop₀ u₀ u-end
+μ-records out values₀ marks₀ sizes kinds numbers chains places machine budget slots frames steps at base rules frame taken step first finished counts setting used gathered stop₀ u₀ u-end
     values marks stop u = sizes .records - u
 
 -- the run stands before step `step`, the arrays have the lengths that they had, and the frame and rules of step `taken` are held, where
 -- that is a step
 abbrev Inv-loop : tie.InvT-loop
-Inv-loop out₀ values₀ marks₀ sizes machine budget slots frames steps at base rules₀ frame₀ taken₀ step₀ first₀ finished₀ counts₀
+Inv-loop out₀ values₀ marks₀ sizes kinds numbers chains places machine budget slots frames steps at base rules₀ frame₀ taken₀ step₀ first₀ finished₀ counts₀
     out values marks rules frame taken step first finished counts =
-    Stands machine sizes (stepsIn slots (take steps frames)) at budget out₀ step first finished counts out values marks
+    Stands machine sizes (stepsIn (codesKept kinds numbers chains) slots (take steps frames)) at budget out₀ step first finished counts out values marks
     × (length rules ≡ 32) × (length values ≡ length values₀) × (length marks ≡ length marks₀) × (taken < steps → Held slots frames taken frame rules)
 
 abbrev μ-loop : tie.MeasureT-loop
-μ-loop out₀ values₀ marks₀ sizes machine budget slots frames steps at base rules₀ frame₀ taken₀ step₀ first₀ finished₀ counts₀
+μ-loop out₀ values₀ marks₀ sizes kinds numbers chains places machine budget slots frames steps at base rules₀ frame₀ taken₀ step₀ first₀ finished₀ counts₀
     out values marks rules frame taken step first finished counts = budget - finished
 
 -- a state of the function, or a need, with these invariants and measures
@@ -81,7 +82,7 @@ abbrev Entry : Type 0
 Entry = Of tie.Start
 
 abbrev entry : Of tie.After-struct-known2 → Entry
-entry c = c .before .before .before .before .before .before
+entry c = c .before .before .before .before .before .before .before .before .before
 
 -- the head of the loop over the steps
 abbrev Top : Type 0
@@ -265,7 +266,9 @@ module _ (c : Turning) where
   frameHere = getD (e .args .program .frames) (top c .loop .step) noFrame
 
   abbrev TurnOf : Frame → Type 0
-  TurnOf f = Turn (e .args .machine) (e .args .sizes) (e .args .program) (e .args .budget) (now (e .args .out)) (top c .loop .step) (top c .loop .first)
+  TurnOf f = Turn (e .args .machine) (e .args .sizes)
+      (codesKept (now (e .args .kinds)) (now (e .args .numbers)) (now (e .args .chains))) (now (e .args .places))
+      (e .args .program) (e .args .budget) (now (e .args .out)) (top c .loop .step) (top c .loop .first)
       (top c .loop .finished) (top c .loop .counts) (top c .loop .out) (top c .loop .values) (top c .loop .marks) f
 
   -- with what is held of it
@@ -483,7 +486,7 @@ apply-requires c κs =
     let t = turn (holdingOfLeft (leftOfLocal (local c))) in
     let b = prepared (gatheredOfLeft (leftOfLocal (local c))) in
     let l = locals (local c) in
-    ((limits t, out-whole t, room-still b (l .0), few-rules t, b .taken .length-is), (ready-still b (l .0), small-still b (l .0) (l .1)))
+    ((limits t, out-whole t, room-still b (l .0), few-rules t, b .taken .length-is), ((ready-still b (l .0), l .1 .in-range), small-still b (l .0) (l .1)))
 
 -- all rules are done, remote ones too: `w` has what is known behind the call, or that there are none
 done : (c : Joined) → Done (prepared (gatheredOfJoined c)) (c .if3 .values) (c .if3 .marks) (c .if3 .sent)

@@ -14,7 +14,7 @@ use Rattle.program.specs.Program.{isRemote}
 use Rattle.program.specs.Stored.{targetIn, expressionIn}
 use Rattle.machine.specs.Remote.{sentBy}
 use Rattle.step_effects.specs.Answers.{messagesIn}
-use Rattle.step_effects.proofs.Answering.{send-local, send-nothing, send-done}
+use Rattle.step_effects.proofs.Answering.{send-local, send-fails, send-offends, send-formed, send-done}
 use borrow.Author.Needs.{needs}
 use Rattle.step_effects.proofs.sent.message_of.Statement.{statement}
 use Rattle.step_effects.proofs.sent.message_of.Tie as tie
@@ -31,30 +31,61 @@ local (Remote k f c x) h = absurd (⊎-elim (λ e. omega arith) (λ e. omega ari
 
 returns : tie.Need-returns
 unfolding messagesIn
-returns c = send-local _ _ (local _ (c .match .keys2))
+returns c = send-local _ _ _ (local _ (c .match .keys2))
 
-holds-requires : tie.Need-holds-requires
-holds-requires c κs = search needs
+test-at-requires : tie.Need-test-at-requires
+test-at-requires c κs = search needs
+
+enum-told : tie.Need-enum-told
+enum-told c = search needs
+
+enum-told-2 : tie.Need-enum-told-2
+enum-told-2 c = search needs
+
+enum-told-3 : tie.Need-enum-told-3
+enum-told-3 c = search needs
+
+send-requires : tie.Need-send-requires
+unfolding targetIn expressionIn
+send-requires c κs =
+    let t = c .before .before in
+    let r = t .before .before in
+    let p = r .before .before .before .before .before .before .before .before .before .pre in
+    let found = rw (r .rule .given .1) at (p .0 .2 .rule) in
+    let formed = send-formed _ _ _ (t .test-at .ensures) (p .1 .1) (c .enum-told3 .given .1) in
+    ((p .0 .0, p .0 .1, found), (rw (r .rule .given .1) at (p .1 .0), rw (r .rule .given .1) at formed))
 
 returns-2 : tie.Need-returns-2
 unfolding messagesIn
-returns-2 c = send-nothing _ _ (c .before .holds .ensures) (c .if1 .taken)
-
-send-requires : tie.Need-send-requires
-unfolding targetIn
-send-requires c κs =
-    let r = c .before .before .before in
-    let p = r .before .before .before .before .before .before .pre in
-    let found = rw (r .rule .given .1) at (p .0 .2 .rule) in
-    ((p .0 .0, p .0 .1, found), rw (r .rule .given .1) at (p .1))
+returns-2 c = send-fails _ _ _ (c .before .before .test-at .ensures) (c .enum-told .given .1)
 
 returns-3 : tie.Need-returns-3
-unfolding targetIn expressionIn sentBy
+unfolding messagesIn
 returns-3 c =
-    let e = c .before in
-    let r = e .before .before .before in
-    c .send .ensures ∙ send-done _ _ (e .before .holds .ensures) (e .if1 .left) (r .rule .given .1)
+    let t = c .before .before in
+    let p = t .before .before .before .before .before .before .before .before .before .before .before .pre in
+    send-offends _ _ _ (t .test-at .ensures) (p .1 .1) (c .enum-told2 .given .1)
+
+returns-4 : tie.Need-returns-4
+unfolding targetIn expressionIn sentBy
+returns-4 c =
+    let h = c .before in
+    let t = h .before .before in
+    let r = t .before .before in
+    let p = r .before .before .before .before .before .before .before .before .before .pre in
+    c .send .ensures ∙ send-done _ _ _ (t .test-at .ensures) (p .1 .1) (h .enum-told3 .given .1) (r .rule .given .1)
 
 pub message-of-spec : {M : Type 1} → statement M
 message-of-spec =
-    tie.close (tie.spec enum-known-rule returns holds-requires returns-2 send-requires returns-3)
+    tie.close
+    (tie.spec
+    enum-known-rule
+    returns
+    test-at-requires
+    enum-told
+    enum-told-2
+    enum-told-3
+    send-requires
+    returns-2
+    returns-3
+    returns-4)

@@ -3,7 +3,8 @@
 use mathlib.Core.Path.{sym, _∙_}
 use Rattle.machine.specs.Remote.{sentTo}
 use Rattle.step_effects.specs.Answers.{messagesIn}
-use Rattle.step_terms.proofs.Sides.{both-first, both-second, both-values, named}
+use Rattle.step_expressions.proofs.Sides.{both-first, both-second, both-values, named}
+use Rattle.step_effects.proofs.Answering.{amount-told}
 use borrow.Author.Needs.{needs}
 use Rattle.step_effects.proofs.sent.send.Statement.{statement}
 use Rattle.step_effects.proofs.sent.send.Tie as tie
@@ -21,11 +22,14 @@ returns : tie.Need-returns
 unfolding sentTo messagesIn
 returns c =
     let x = c .before .before in
-    let p = x .before .before .before .before .pre in
+    let p = x .before .before .before .before .before .before .before .pre in
     both-first _ _ _ (sym (x .found-at .ensures ∙ p .0 .2 .0 .found-is) ∙ c .enum-told .given .1)
 
 term-value-requires : tie.Need-term-value-requires
 term-value-requires c κs = search needs
+
+reading-of-requires : tie.Need-reading-of-requires
+reading-of-requires c κs = search needs
 
 enum-known-amount : tie.Need-enum-known-amount
 enum-known-amount c = search needs
@@ -35,26 +39,29 @@ enum-told-2 c = search needs
 
 returns-2 : tie.Need-returns-2
 unfolding sentTo messagesIn
-returns-2 c = both-second _ _ _ (sym (c .before .before .term-value .ensures) ∙ c .enum-told2 .given .1)
+returns-2 c =
+    let y = c .before .before in
+    let p = y .before .before .before .before .before .before .before .before .before .before .before .before .pre in
+    both-second _ _ _ (sym (amount-told _ _ _ (y .reading-of .ensures) (y .before .term-value .ensures) (p .1 .1)) ∙ c .enum-told2 .given .1)
 
 index-requires : tie.Need-index-requires
 index-requires c κs =
-    let k = c .before .before .before .before in
+    let k = c .before .before .before .before .before in
     let x = k .before .before .before in
-    let p = x .before .before .before .before .pre in
-    named (sym (x .found-at .ensures ∙ p .0 .2 .0 .found-is) ∙ k .before .to .given .1) (k .known-told .given .0 .1) (p .1)
+    let p = x .before .before .before .before .before .before .before .pre in
+    named (sym (x .found-at .ensures ∙ p .0 .2 .0 .found-is) ∙ k .before .to .given .1) (k .known-told .given .0 .1) (p .1 .0)
 
 returns-3 : tie.Need-returns-3
 unfolding sentTo messagesIn
 returns-3 c =
     let l = c .before in
     let y = l .before .before .before in
-    let k = y .before in
+    let k = y .before .before in
     let x = k .before .before .before in
-    let p = x .before .before .before .before .pre in
+    let p = x .before .before .before .before .before .before .before .pre in
     let to = sym (x .found-at .ensures ∙ p .0 .2 .0 .found-is) ∙ k .before .to .given .1 in
-    let amount = sym (y .term-value .ensures) ∙ l .before .amount .given .1 in
-    rw (c .index .ensures) (both-values _ _ to amount (k .known-told .given .0 .1) (l .known-told2 .given .0 .1))
+    let sent = sym (amount-told _ _ _ (y .reading-of .ensures) (y .before .term-value .ensures) (p .1 .1)) ∙ l .before .amount .given .1 in
+    rw (c .index .ensures) (both-values _ _ to sent (k .known-told .given .0 .1) (l .known-told2 .given .0 .1))
 
 pub send-spec : {M : Type 1} → statement M
 send-spec =
@@ -65,6 +72,7 @@ send-spec =
     enum-told
     returns
     term-value-requires
+    reading-of-requires
     enum-known-amount
     enum-told-2
     returns-2

@@ -15,6 +15,7 @@ use Rattle.chain.specs.declared.reading.Reading.{Reading}
 use Rattle.chain.specs.Word.{hasField}
 use Rattle.chain.proofs.Fields.{field-below}
 use Rattle.program.specs.Program.{Rule, targetField}
+use Rattle.program.specs.Code.{codesKept}
 use Rattle.program.specs.Stored.{ruleIn}
 use Rattle.step_terms.specs.Found.{followed}
 use Rattle.step_effects.specs.Answers.{writeOf}
@@ -32,7 +33,7 @@ module _ (c : tie.Start) where
   read = followed (c .args .sizes) cells (c .args .u)
 
   abbrev rule : Rule
-  rule = ruleIn (c .args .rule .slot)
+  rule = ruleIn (codesKept (now (c .args .kinds)) (now (c .args .numbers)) (now (c .args .chains))) (c .args .rule .slot)
 
   field : hasField (c .args .sizes) (targetField (rule .target)) ≡ true
   unfolding ruleIn
@@ -48,26 +49,26 @@ slice-reshare-prefix-local-write : tie.Need-slice-reshare-prefix-local-write
 slice-reshare-prefix-local-write c = search needs
 
 slice-aggregate-local-write : tie.Need-slice-aggregate-local-write
-slice-aggregate-local-write c = sym (length-take-le _ _ (omega (arith, c .before .before .before .before .before .pre .0 .3 .values-room)))
+slice-aggregate-local-write c = sym (length-take-le _ _ (omega (arith, c .before .before .before .before .before .before .before .before .pre .0 .3 .values-room)))
 
 slice-reshare-prefix-local-write-2 : tie.Need-slice-reshare-prefix-local-write-2
 slice-reshare-prefix-local-write-2 c = search needs
 
 slice-aggregate-local-write-2 : tie.Need-slice-aggregate-local-write-2
-slice-aggregate-local-write-2 c = sym (length-take-le _ _ (omega (arith, c .before .before .before .before .before .before .pre .0 .3 .marks-room)))
+slice-aggregate-local-write-2 c = sym (length-take-le _ _ (omega (arith, c .before .before .before .before .before .before .before .before .before .pre .0 .3 .marks-room)))
 
 local-write-requires : tie.Need-local-write-requires
 unfolding cellsOfFile
 local-write-requires c κs =
     let m = c .before .before in
-    let s = m .before .before .before .before in
+    let s = m .before .before .before .before .before .before .before in
     let p = s .pre .0 in
     rw (m .before .values-part .ensures, m .marks-part .ensures)
     (file-parts (now (s .args .out)) (s .args .sizes) (p .0) (p .1), p .2, s .pre .1 .found _ (p .2))
 
 -- what the rule writes, over the file
 abbrev start : tie.After-local-write → tie.Start
-start c = c .before .before .before .before .before .before .before
+start c = c .before .before .before .before .before .before .before .before .before .before
 
 wrote : (c : tie.After-local-write) → writeOf (read (start c)) (rule (start c)) ≡ c .local-write .result
 unfolding cellsOfFile

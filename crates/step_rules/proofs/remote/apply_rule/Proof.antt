@@ -13,6 +13,8 @@ use Rattle.register.specs.Cells.{cellsOf}
 use Rattle.register.specs.File.{cellCount}
 use Rattle.register.specs.declared.cells.Cell.{Cell}
 use Rattle.chain.specs.declared.reading.Reading.{Reading}
+use Rattle.program.specs.Code.{codesKept}
+use Rattle.program.specs.Program.{Rule}
 use Rattle.program.specs.Stored.{targetIn, ruleIn}
 use Rattle.machine.specs.declared.message.Message.{Message}
 use Rattle.machine.specs.Remote.{ruleMessages}
@@ -23,7 +25,7 @@ use borrow.Author.Needs.{needs}
 use Rattle.step_rules.proofs.remote.apply_rule.Statement.{statement}
 use Rattle.step_rules.proofs.remote.apply_rule.Tie as tie
 
--- over the arguments: the cells before the step, what the record reads, the room for the working cells, and where a message goes
+-- over the arguments: the cells before the step, what the record reads, the rule, the room for the working cells, and where a message goes
 module _ (c : tie.Start) where
   abbrev cells : List Cell
   cells = cellsOf (now (c .args .cells)) (now (c .args .filled))
@@ -31,31 +33,34 @@ module _ (c : tie.Start) where
   abbrev read : List ℕ → Reading
   read = followed (c .args .sizes) cells (c .args .u)
 
+  abbrev rule : Rule
+  rule = ruleIn (codesKept (now (c .args .kinds)) (now (c .args .numbers)) (now (c .args .chains))) (c .args .rule .slot)
+
   room : Room (c .args .base) (cellCount (c .args .sizes)) (now (c .args .values)) (now (c .args .marks))
   room = rw (sym (c .pre .0 .0 .marks-length)) (c .pre .0 .2)
 
-  placed : {m : Message} → m ∷ [] ≡ ruleMessages read (ruleIn (c .args .rule .slot)) → Placed (c .args .sizes) cells (c .args .u) (c .args .rule) m
+  placed : {m : Message} → m ∷ [] ≡ ruleMessages read rule → Placed (c .args .sizes) cells (c .args .u) rule m
   unfolding ruleIn
-  placed e = rule-place _ _ _ (c .args .rule) e (c .pre .0 .0 .limits) (c .pre .1 .0 .targets _ (c .pre .0 .1)) (c .pre .1 .0 .field)
+  placed e = rule-place _ _ _ rule e (c .pre .0 .0 .limits) (c .pre .1 .0 .0 .targets _ (c .pre .0 .1)) (c .pre .1 .0 .0 .field)
 
 slice-reshare-prefix-message-of : tie.Need-slice-reshare-prefix-message-of
 slice-reshare-prefix-message-of c = search needs
 
 slice-aggregate-message-of : tie.Need-slice-aggregate-message-of
-slice-aggregate-message-of c = sym (length-take-le _ _ (omega (arith, c .before .before .before .before .pre .0 .2 .values-room)))
+slice-aggregate-message-of c = sym (length-take-le _ _ (omega (arith, c .before .before .before .before .before .before .before .pre .0 .2 .values-room)))
 
 slice-reshare-prefix-message-of-2 : tie.Need-slice-reshare-prefix-message-of-2
 slice-reshare-prefix-message-of-2 c = search needs
 
 slice-aggregate-message-of-2 : tie.Need-slice-aggregate-message-of-2
-slice-aggregate-message-of-2 c = sym (length-take-le _ _ (omega (arith, c .before .before .before .before .before .pre .0 .2 .marks-room)))
+slice-aggregate-message-of-2 c = sym (length-take-le _ _ (omega (arith, c .before .before .before .before .before .before .before .before .pre .0 .2 .marks-room)))
 
 message-of-requires : tie.Need-message-of-requires
 message-of-requires c κs =
-    let s = c .before .before .before .before .before in
+    let s = c .before .before .before .before .before .before .before .before in
     let inside = s .pre .0 .1 in
-    let points = targets-point (s .args .sizes .records) (read s) (targetIn (s .args .rule .slot .rule)) (s .pre .1 .0 .targets _ inside) in
-    ((s .pre .0 .0, inside, s .pre .1 .0 .found _ inside), points)
+    let points = targets-point (s .args .sizes .records) (read s) (targetIn (s .args .rule .slot .rule)) (s .pre .1 .0 .0 .targets _ inside) in
+    ((s .pre .0 .0, inside, s .pre .1 .0 .0 .found _ inside), (points, s .pre .1 .0 .1))
 
 enum-told : tie.Need-enum-told
 enum-told c = search needs
@@ -65,7 +70,7 @@ enum-known-message c = search needs
 
 -- where its message goes
 abbrev start : tie.After-message-of → tie.Start
-start c = c .before .before .before .before .before .before
+start c = c .before .before .before .before .before .before .before .before .before
 
 place-requires : tie.Need-place-requires
 place-requires c κs =
@@ -105,7 +110,7 @@ same-length-2 c = search needs
 returns : tie.Need-returns
 returns c =
     let w = c .before .before in
-    rule-silent _ _ _ (start w .args .rule) _ _ _ (none-sent (w .message-of .ensures) (c .enum-told .given .1))
+    rule-silent _ _ _ (rule (start w)) _ _ _ (none-sent (w .message-of .ensures) (c .enum-told .given .1))
 
 same-length-3 : tie.Need-same-length-3
 same-length-3 c = search needs
@@ -123,7 +128,7 @@ returns-2 c =
     let st = d .before .struct-told .given in
     let fits : SFits w32 (m .message .given .0 .0 .amount) = search (needs, st) in
     let sent = one-sent (w .message-of .ensures) (m .message .given .1) in
-    rule-delivered _ _ _ (s .args .rule) _ _ _ sent (placed s sent) (room s) fits (k .place .ensures) (rw (← toZ-ofZ {w = w32} fits) (d .deliver .ensures))
+    rule-delivered _ _ _ (rule s) _ _ _ sent (placed s sent) (room s) fits (k .place .ensures) (rw (← toZ-ofZ {w = w32} fits) (d .deliver .ensures))
 
 pub apply-rule-spec : {M : Type 1} → statement M
 apply-rule-spec =

@@ -23,11 +23,23 @@ slice-aggregate-read-last-2 c = search needs
 read-last-requires-2 : tie.Need-read-last-requires-2
 read-last-requires-2 c κs = search needs
 
+enum-told-3 : tie.Need-enum-told-3
+enum-told-3 c = search needs
+
+slice-aggregate-read-last-3 : tie.Need-slice-aggregate-read-last-3
+slice-aggregate-read-last-3 c = search needs
+
+read-last-requires-3 : tie.Need-read-last-requires-3
+read-last-requires-3 c κs = search needs
+
 returns : tie.Need-returns
 returns c = c .read-last .ensures ∙ rw (c .before .before .enum-told .given .1)
 
 returns-2 : tie.Need-returns-2
 returns-2 c = c .read-last2 .ensures ∙ rw (c .before .before .enum-told2 .given .1)
+
+returns-3 : tie.Need-returns-3
+returns-3 c = c .read-last3 .ensures ∙ rw (c .before .before .enum-told3 .given .1)
 
 pub read-operand-spec : {M : Type 1} → statement M
 read-operand-spec =
@@ -39,5 +51,9 @@ read-operand-spec =
     enum-told-2
     slice-aggregate-read-last-2
     read-last-requires-2
+    enum-told-3
+    slice-aggregate-read-last-3
+    read-last-requires-3
     returns
-    returns-2)
+    returns-2
+    returns-3)

@@ -1,0 +1,80 @@
+-- What the readers of expressions answer, by the tokens from a place on.
+use Prim.Native.Nat.{ℕ, _+_, _-_, _≤_, _<_}
+use mathlib.Core.Path.{_≡_}
+use mathlib.Core.Bool.{Bool, true, false}
+use mathlib.Core.List.{List}
+use lib.ListN.{length}
+use Rattle.register.specs.declared.Sizes.{Sizes}
+use Rattle.text_syntax.specs.Token.{Token, Sign, operator, closeRound}
+use Rattle.text_syntax.specs.Form.{Form, formed, unformed}
+use Rattle.text_syntax.specs.Written.{Expression}
+use Rattle.text_syntax.specs.Grammar.{operatorForm}
+use Rattle.text_syntax.specs.Parts.{depth}
+use Rattle.text_syntax.specs.Flat.{summary, merged}
+use Rattle.text_lexer.specs.Lexeme.{signOf}
+use Rattle.text_expressions.specs.declared.place.OperatorRead.{OperatorRead}
+use Rattle.text_expressions.specs.declared.place.OperatorRead.the-variants.{Operator, Nothing}
+use Rattle.text_expressions.specs.declared.summary.Summary.{Summary}
+use Rattle.text_expressions.specs.declared.reader.Reading.{Reading}
+use Rattle.text_expressions.specs.declared.reader.Reading.the-variants.{Read, NoForm, Deep}
+use Rattle.text_expressions.specs.Place.{tokensFrom, Behind, Passing, Absent}
+use Rattle.text_expressions.specs.Summary.{summaryOf}
+use Rattle.text_expressions.specs.Codes.{Arrays, codesOf, Wrote}
+
+-- an operator of a rank stands at a place, or none
+pub record Ranked (rank : Sign → Bool) (o : Sign) (line : List ℕ) (at end : ℕ) : Type 0 where
+  pub passing : Passing false true (operator o) line at end
+  pub of-rank : rank o ≡ true
+
+pub record Unranked (rank : Sign → Bool) (line : List ℕ) (at : ℕ) : Type 0 where
+  pub none : operatorForm rank (tokensFrom false line at) ≡ unformed
+
+abbrev pub RankedAt : (Sign → Bool) → List ℕ → ℕ → OperatorRead → Type 0
+RankedAt rank line at (Operator o end) = Ranked rank (signOf o) line at end
+RankedAt rank line at Nothing = Unranked rank line at
+
+-- whatever is read here is more than k groups deep
+abbrev pub AllDeep : ℕ → Form Expression → Type 0
+AllDeep k unformed = Unit {0}
+AllDeep k (formed e r) = k < depth e
+
+-- what a reader reads at a place where an operand is due: at most `room` groups deep, with what had been gathered before, in 8 less `room`
+-- groups, its codes written from `count` on; nothing; or what is deeper
+pub record ReadAs (reader : List Token → Form Expression) (s : Sizes) (room : ℕ) (before : Summary) (line : List ℕ) (at : ℕ) (a b : Arrays) (count : ℕ)
+    (g : Summary) (end to : ℕ) : Type 0 where
+  pub written : Expression
+  pub form-is : reader (tokensFrom true line at) ≡ formed written (tokensFrom false line end)
+  pub shallow : depth written ≤ room
+  pub summary-is : summaryOf g ≡ merged (8 - room) (summaryOf before) (summary s written)
+  pub behind : Behind line at end
+  pub few : g .operators ≤ end
+  pub wrote : Wrote a b count to (codesOf written)
+  pub few-codes : to + at ≤ count + end
+
+pub record Unread (reader : List Token → Form Expression) (line : List ℕ) (at : ℕ) : Type 0 where
+  pub none : reader (tokensFrom true line at) ≡ unformed
+
+pub record TooDeep (reader : List Token → Form Expression) (room : ℕ) (line : List ℕ) (at : ℕ) : Type 0 where
+  pub deep : AllDeep room (reader (tokensFrom true line at))
+
+abbrev pub ReadingAt : (List Token → Form Expression) → Sizes → ℕ → Summary → List ℕ → ℕ → Arrays → Arrays → ℕ → Reading → Type 0
+ReadingAt reader s room before line at a b count (Read g end to) = ReadAs reader s room before line at a b count g end to
+ReadingAt reader s room before line at a b count NoForm = Unread reader line at
+ReadingAt reader s room before line at a b count Deep = TooDeep reader room line at
+
+-- the end of what was read is inside the line
+abbrev pub EndInside : List ℕ → Reading → Type 0
+EndInside line (Read g end to) = end ≤ length line
+EndInside line NoForm = Unit {0}
+EndInside line Deep = Unit {0}
+
+-- an expression with `)` behind it
+abbrev pub GroupedAt : List ℕ → Summary → ℕ → ℕ → Reading → Type 0
+GroupedAt line g at n (Read h end to) = (h ≡ g) × (to ≡ n) × Passing false false closeRound line at end
+GroupedAt line g at n NoForm = Absent false closeRound line at
+GroupedAt line g at n Deep = ⊥
+
+abbrev pub GroupedBy : List ℕ → Reading → Reading → Type 0
+GroupedBy line (Read g at n) r = GroupedAt line g at n r
+GroupedBy line NoForm r = r ≡ NoForm
+GroupedBy line Deep r = r ≡ Deep

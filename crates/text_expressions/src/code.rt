@@ -1,0 +1,49 @@
+// Codes of an expression, written behind each other: both operands, then their operator.
+ghost use mathlib.Core.Path.{_≡_};
+ghost use mathlib.Core.Logic.{_≢_};
+ghost use Prim.Native.Nat.{_+_, _<_};
+ghost use lib.ListN.{length};
+ghost use Rattle.text_lexer.specs.Lexeme.{signOf};
+ghost use Rattle.text_expressions.specs.Codes.{arrays, termCode, signKind, signCodes, signSize, Wrote, WroteSign};
+use crate::term::TermParts;
+use text_lexer::token::Sign;
+
+// The code of a term, at place `at`.
+pub fn put_term(
+    kinds: &mut [u8],
+    numbers: &mut [i32],
+    chains: &mut [u64],
+    at: usize,
+    parts: TermParts,
+)
+    requires { ⌜ (at < length (now kinds)) × (at < length (now numbers)) × (at < length (now chains)) ⌝ }
+    ensures { λ _. ⌜ Wrote (arrays (now (kinds .entry)) (now (numbers .entry)) (now (chains .entry))) (arrays (now (kinds .exit)) (now (numbers .exit)) (now (chains .exit))) at (at + 1) (termCode parts) ⌝ }
+{
+    let number = parts.number;
+    kinds[at] = parts.kind;
+    numbers[at] = number;
+    chains[at] = parts.packed;
+}
+
+// The kind of an operator's code.
+pub fn kind_of(sign: Sign) -> u8
+    ensures { λ r. ⌜ r ≡ signKind (signOf sign) ⌝ }
+{
+    match sign {
+        Sign::Plus => 2,
+        Sign::Minus => 3,
+        Sign::Smaller => 4,
+    }
+}
+
+// The code of an operator at place `at`, if there is one, and the place behind it.
+pub fn put_sign(kinds: &mut [u8], at: usize, kind: u8) -> usize
+    requires { ⌜ (at < length (now kinds)) × (kind ≢ 1) ⌝ }
+    ensures { λ r. ⌜ WroteSign (now (kinds .entry)) (now (kinds .exit)) at r kind ⌝ }
+{
+    if kind == 0 {
+        return at;
+    }
+    kinds[at] = kind;
+    at + 1
+}

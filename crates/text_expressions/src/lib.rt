@@ -1,0 +1,8 @@
+// The expressions of a line: chains, terms, groups and what operators join, read token by token.
+pub mod chains;
+pub mod code;
+pub mod place;
+pub mod reader;
+pub mod scan;
+pub mod summary;
+pub mod term;
