@@ -1,40 +1,41 @@
 -- A step's plan and the readings behind those that it has.
-use Prim.Native.Nat.{ℕ, _≤_, _<_}
-use mathlib.Core.Path.{_≡_, refl, sym, ap, subst, _∙_}
-use mathlib.Core.Bool.{Bool, true, false}
+use Prim.Native.Nat.{ℕ, zero, suc, _+_, _-_, _≤_, _<_}
+use mathlib.Core.Path.{_≡_, refl, sym, ap, ap₂, _∙_}
+use mathlib.Core.Logic.{_≢_}
+use mathlib.Core.Bool.{Bool, true, false, cond}
 use mathlib.Core.List.{List, [], _∷_, _++_, append-nil, append-assoc}
 use native.Mathlib.Omega.{arith}
-use borrow.Author.Tests.{ltb-true, lt-ltb, le-ltb}
-use lib.Dec.{ltb}
-use lib.ListN.{length}
+use borrow.Author.Tests.{ltb-true, lt-ltb, le-ltb, eq-eqb, ne-eqb}
+use lib.Dec.{eqb, ltb}
+use lib.IntN.{ℤ, pos}
+use lib.ListN.{length, getD}
 use Rattle.laws.proofs.Bools.{true-false}
 use Rattle.chain.specs.Word.{unpack}
-use Rattle.chain.proofs.Packing.{unpack-none}
-use Rattle.plan_theory.specs.Plan.{Fact, read, add, addReadings, plan}
-use Rattle.plan_theory.proofs.Lines.{add-none, readings-append, plan-more, plan-length}
+use Rattle.plan_theory.specs.Plan.{read, add, plan}
+use Rattle.plan_theory.proofs.Lines.{plan-more, plan-length}
 use Rattle.plan_lines.specs.Held.{facts, Keyed, Added, Extended, ExtendedTo}
 use Rattle.plan_lines.specs.declared.Plan.{Plan}
 use Rattle.plan_lines.proofs.Adding.{holds-facts, extended-holds, extended-more, extended-plan}
+use Rattle.program.specs.Code.{Code, chain, number, operator, decoded, codeReadings, operatorOf, codeOf, codeAt, codesFrom, Codes, codesOf, treeIn}
+use Rattle.program.proofs.Codes.{readings-append, postfix-readings, codes-more}
 use Rattle.program.specs.declared.term.Term.{Term}
-use Rattle.program.specs.declared.term.Term.the-variants.{Chain, Number}
+use Rattle.program.specs.declared.term.Term.the-variants.{Chain, Number, Tree}
 use Rattle.program.specs.declared.rule.Test.{Test}
 use Rattle.program.specs.declared.rule.Test.the-variants.{Always, When}
 use Rattle.program.specs.declared.rule.Rule.{Rule}
 use Rattle.program.specs.declared.rule.Rule.the-variants.{Set, Combine, Remote}
 use Rattle.program.specs.declared.rule.Slot.{Slot}
-use Rattle.program.specs.declared.location.Pair.{Pair}
-use Rattle.program.specs.declared.location.Readings.{Readings}
 use Rattle.program.specs.Program.{expressionReadings, testReadings, targetReadings, ruleReadings}
 use Rattle.program.specs.Stored.{termIn, testIn, targetIn, expressionIn, ruleIn}
-use Rattle.program.specs.Location.{chainIn, testChains, ruleChains, slotChains}
-use Rattle.text_plan.specs.Readings.{pairWords, words, Sound, PlannedWith, GrownBy}
+use Rattle.text_plan.specs.Terms.{TestTerms, RuleTerms, SlotTerms, TermFormed}
+use Rattle.text_plan.specs.Readings.{codeWords, termWords, testWords, ruleWords, slotWords, Sound, PlannedWith, Growing, GrownBy}
 
 pub grown-both : {p q r : Plan} (vs us : List (List ℕ)) → GrownBy p vs q → GrownBy q us r → GrownBy p (vs ++ us) r
 grown-both vs us h k = record { growing = k .growing; extends = λ ws e. rw (append-assoc ws vs us) at (k .extends (ws ++ vs) (h .extends ws e)) }
 
--- the readings of a test, and then those of its rule
-pub grown-readings : {p q r : Plan} {x y : Readings} → x ≡ y → GrownBy p (pairWords (x .test)) q → GrownBy q (pairWords (x .rule)) r → GrownBy p (words y) r
-grown-readings {p} {q} {r} {x} e h k = subst (λ (z : Readings). GrownBy p (words z) r) e (grown-both (pairWords (x .test)) (pairWords (x .rule)) h k)
+-- no reading more
+pub grown-none : (p : Plan) → Growing p → GrownBy p [] p
+grown-none p h = record { growing = h; extends = λ ws e. rw (append-nil ws) e }
 
 -- one reading more, of a plan that is full, and of any other
 pub grown-full : (p : Plan) (vs : List (List ℕ)) → 64 < p .count → GrownBy p vs p
@@ -69,49 +70,69 @@ module _ {p r : Plan} {full : Bool} {vs : List (List ℕ)} (n : full ≡ false) 
     extends = λ ws e. record { full-is = n ∙ sym (le-ltb 64 (r .count) k) ∙ grown ws e .full-is; holds = grown ws e .holds };
   }
 
--- readings that add the same lines to any others
-abbrev SameLines : List (List ℕ) → List (List ℕ) → Type 0
-SameLines vs us = (l : List Fact) → addReadings l vs ≡ addReadings l us
+-- the words of codes, whatever their numbers
+one-free : (kind : ℕ) (z z′ : ℤ) (packed : ℕ) (cs ds : List Code) → codeReadings cs ≡ codeReadings ds
+    → codeReadings (codeOf kind z packed ∷ cs) ≡ codeReadings (codeOf kind z′ packed ∷ ds)
+unfolding codeOf codeReadings
+one-free kind z z′ packed cs ds e = go (eqb kind 0) (eqb kind 1)
+  where
+    go : (a b : Bool) → codeReadings (cond a (chain (unpack packed)) (cond b (number z) (operator (operatorOf kind))) ∷ cs)
+        ≡ codeReadings (cond a (chain (unpack packed)) (cond b (number z′) (operator (operatorOf kind))) ∷ ds)
+    go true b = ap (λ (l : List (List ℕ)). unpack packed ∷ l) e
+    go false true = e
+    go false false = e
 
-same-both : (vs us ws ts : List (List ℕ)) → SameLines vs us → SameLines ws ts → SameLines (vs ++ ws) (us ++ ts)
-same-both vs us ws ts h k l = readings-append l vs ws ∙ k (addReadings l vs) ∙ ap (λ (m : List Fact). addReadings m ts) (h l) ∙ sym (readings-append l us ts)
+words-free : (kinds : List ℕ) (numbers numbers′ : List ℤ) (chains : List ℕ) (i n : ℕ)
+    → codeReadings (codesFrom kinds numbers chains i n) ≡ codeReadings (codesFrom kinds numbers′ chains i n)
+unfolding codesFrom codeAt
+words-free kinds numbers numbers′ chains i zero = refl
+words-free kinds numbers numbers′ chains i (suc n) = one-free _ _ _ _ _ _ (words-free kinds numbers numbers′ chains (suc i) n)
 
--- the chain `u` adds none
-none-same : SameLines (unpack 0 ∷ []) []
-unfolding addReadings
-none-same l = rw unpack-none (add-none l (read []) (omega arith))
+-- the words of one code more
+module _ (kinds chains : List ℕ) (from at : ℕ) (h : from ≤ at) where
+  words-more : codeWords kinds chains from (suc at) ≡ codeWords kinds chains from at ++ codeReadings (codeAt kinds [] chains at ∷ [])
+  words-more =
+      let n : suc at - from ≡ suc (at - from) = omega arith in
+      let m : from + (at - from) ≡ at = omega arith in
+      ap (λ (k : ℕ). codeReadings (codesFrom kinds [] chains from k)) n
+      ∙ ap codeReadings (codes-more kinds [] chains from (at - from))
+      ∙ readings-append (codesFrom kinds [] chains from (at - from)) (codeAt kinds [] chains (from + (at - from)) ∷ [])
+      ∙ ap (λ (k : ℕ). codeWords kinds chains from at ++ codeReadings (codeAt kinds [] chains k ∷ [])) m
 
-module _ where
-  term-same : (t : Term) → SameLines (unpack (chainIn t) ∷ []) (expressionReadings (termIn t))
-  unfolding chainIn expressionReadings termIn
-  term-same (Chain n) l = refl
-  term-same (Number z) l = none-same l
+  pub words-chain : getD kinds at 0 ≡ 0 → codeWords kinds chains from (suc at) ≡ codeWords kinds chains from at ++ (unpack (getD chains at 0) ∷ [])
+  unfolding codeAt codeOf codeReadings
+  words-chain k = words-more ∙ simp (eq-eqb (getD kinds at 0) 0 k)
 
-  terms-same : (x y : Term) → SameLines (unpack (chainIn x) ∷ unpack (chainIn y) ∷ []) (expressionReadings (termIn x) ++ expressionReadings (termIn y))
-  terms-same x y =
-      same-both (unpack (chainIn x) ∷ []) (expressionReadings (termIn x)) (unpack (chainIn y) ∷ []) (expressionReadings (termIn y)) (term-same x) (term-same y)
+  pub words-other : getD kinds at 0 ≢ 0 → codeWords kinds chains from (suc at) ≡ codeWords kinds chains from at
+  unfolding codeAt codeOf codeReadings
+  words-other k = words-more ∙ go (eqb (getD kinds at 0) 1) (ne-eqb (getD kinds at 0) 0 k)
+    where
+      go : (b : Bool) → eqb (getD kinds at 0) 0 ≡ false
+          → codeWords kinds chains from at ++ codeReadings (cond (eqb (getD kinds at 0) 0) (chain (unpack (getD chains at 0))) (cond b (number (getD [] at (pos 0))) (operator (operatorOf (getD kinds at 0)))) ∷ [])
+          ≡ codeWords kinds chains from at
+      go true e = rw (e, append-nil)
+      go false e = rw (e, append-nil)
 
-  target-same : (c : ℕ) (x : Term) → SameLines (unpack c ∷ unpack (chainIn x) ∷ []) (unpack c ∷ expressionReadings (termIn x))
-  unfolding addReadings
-  target-same c x l = term-same x (add l (read (unpack c)))
+-- the words of a rule in the array are the readings of the rule
+module _ (k : Codes) where
+  term-words : (x : Term) → TermFormed k x → termWords (k .kinds) (k .chains) x ≡ expressionReadings (termIn k x)
+  unfolding termWords expressionReadings termIn treeIn
+  term-words (Chain c) h = refl
+  term-words (Number z) h = refl
+  term-words (Tree from to) h =
+      words-free (k .kinds) [] (k .numbers) (k .chains) from (to - from) ∙ ap codeReadings (h .formed) ∙ postfix-readings (decoded (codesOf k from to))
 
-  test-same : (t : Test) → SameLines (pairWords (testChains t)) (testReadings (testIn t))
-  unfolding testChains testReadings testIn
-  test-same Always = same-both (unpack 0 ∷ []) [] (unpack 0 ∷ []) [] none-same none-same
-  test-same (When x c y) = terms-same x y
+  test-words : (x : Test) → TestTerms (TermFormed k) x → testWords (k .kinds) (k .chains) x ≡ testReadings (testIn k x)
+  unfolding testWords testReadings testIn
+  test-words Always h = refl
+  test-words (When x c y) h = ap₂ (λ (v w : List (List ℕ)). v ++ w) (term-words x (h .0)) (term-words y (h .1))
 
-  rule-same : (r : Rule) → SameLines (pairWords (ruleChains r)) (targetReadings (targetIn r) ++ expressionReadings (expressionIn r))
-  unfolding ruleChains targetReadings targetIn expressionIn expressionReadings
-  rule-same (Set f x) = λ (l : List Fact). same-both (unpack (chainIn x) ∷ []) (expressionReadings (termIn x)) (unpack 0 ∷ []) [] (term-same x) none-same l
-      ∙ ap (addReadings l) (append-nil (expressionReadings (termIn x)))
-  rule-same (Combine f op x y) = terms-same x y
-  rule-same (Remote k f c x) = target-same c x
+  rule-words : (x : Rule) → RuleTerms (TermFormed k) x → ruleWords (k .kinds) (k .chains) x ≡ targetReadings (targetIn x) ++ expressionReadings (expressionIn k x)
+  unfolding ruleWords targetReadings targetIn expressionIn expressionReadings
+  rule-words (Set f x) h = term-words x h
+  rule-words (Combine f op x y) h = ap₂ (λ (v w : List (List ℕ)). v ++ w) (term-words x (h .0)) (term-words y (h .1))
+  rule-words (Remote sort f c x) h = ap (λ (v : List (List ℕ)). unpack c ∷ v) (term-words x h)
 
--- the plan with the chains of a rule in the array is that with the readings of the rule
-pub slot-plan : (ws : List (List ℕ)) (x : Slot) → plan (ws ++ words (slotChains x)) ≡ plan (ws ++ ruleReadings (ruleIn x))
-unfolding plan slotChains ruleReadings ruleIn
-slot-plan ws x =
-    readings-append [] ws (words (slotChains x))
-    ∙ same-both (pairWords (testChains (x .test))) (testReadings (testIn (x .test))) (pairWords (ruleChains (x .rule))) _
-    (test-same (x .test)) (rule-same (x .rule)) (addReadings [] ws)
-    ∙ sym (readings-append [] ws (ruleReadings (ruleIn x)))
+  pub slot-words : (x : Slot) → SlotTerms (TermFormed k) x → slotWords (k .kinds) (k .chains) x ≡ ruleReadings (ruleIn k x)
+  unfolding ruleReadings ruleIn
+  slot-words x h = ap₂ (λ (v w : List (List ℕ)). v ++ w) (test-words (x .test) (h .0)) (rule-words (x .rule) (h .1))
