@@ -5,7 +5,7 @@ use mathlib.Core.Bool.{Bool, cond}
 use mathlib.Core.List.{List, [], _∷_, _++_}
 use lib.IntN.{ℤ, pos}
 use lib.Dec.{eqb, ltb}
-use lib.ListN.{getD}
+use lib.ListN.{length, getD}
 use Rattle.chain.specs.Word.{unpack}
 use Rattle.program.specs.declared.rule.Operator.{Operator}
 use Rattle.program.specs.declared.rule.Operator.the-variants.{Plus, Minus, Smaller}
@@ -86,6 +86,15 @@ pub record Codes : Type 0 where
   pub kinds : List ℕ
   pub numbers : List ℤ
   pub chains : List ℕ
+
+abbrev pub codesKept : List ℕ → List ℤ → List ℕ → Codes
+codesKept kinds numbers chains = record { kinds = kinds; numbers = numbers; chains = chains }
+
+-- the arrays have the places below `to`
+pub record Arrays (kinds : List ℕ) (numbers : List ℤ) (places : List ℕ) (to : ℕ) : Type 0 where
+  pub in-kinds : to ≤ length kinds
+  pub in-numbers : to ≤ length numbers
+  pub in-places : to ≤ length places
 
 -- their codes from..to, and the expression that these are those of
 abbrev pub codesOf : Codes → ℕ → ℕ → List Code

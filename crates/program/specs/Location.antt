@@ -16,7 +16,7 @@ use Rattle.program.specs.declared.location.Location.{Location}
 use Rattle.program.specs.declared.location.Location.the-variants.{Own, Cell, Line}
 use Rattle.program.specs.declared.location.Places.{Places}
 use Rattle.program.specs.declared.location.Located.{Located}
-use Rattle.program.specs.Code.{Codes, Formed, codesOf, EachChain}
+use Rattle.program.specs.Code.{Codes, Arrays, Formed, codesOf, EachChain}
 
 -- where a word is found in a step whose plan has the lines l: "Read of at most one hop needs no line"
 unfoldable pub locationOf : List Fact → List ℕ → Location
@@ -39,6 +39,7 @@ pub record WordLocated (l : List Fact) (wanted : List Bool) (at : Location) (w :
 pub record TreeLocated (l : List Fact) (wanted : List Bool) (k : Codes) (places : List ℕ) (from to : ℕ) : Type 0 where
   pub formed : Formed (codesOf k from to)
   pub some : from < to
+  pub kept : Arrays (k .kinds) (k .numbers) places to
   pub located : EachChain (WordLocated l wanted) (k .kinds) (k .chains) places from to
 
 -- where the readings of a term, of a test and of a rule are found

@@ -17,7 +17,7 @@ use Rattle.program.specs.declared.rule.Rule.the-variants.{Set, Combine, Remote}
 use Rattle.program.specs.declared.location.Location.{Location}
 use Rattle.program.specs.declared.location.Places.{Places}
 use Rattle.program.specs.declared.location.Located.{Located}
-use Rattle.program.specs.Code.{Codes}
+use Rattle.program.specs.Code.{Codes, Arrays}
 use Rattle.program.specs.Location.{locationOf, WordLocated, TermLocated, TestLocated, RuleLocated, LocatedAmong}
 use Rattle.program.proofs.Codes.{chain-listed}
 use Rattle.text_plan.specs.Terms.{TestTerms, RuleTerms, SlotTerms, TermInside, TermFormed, TermPlaced, TestPlaced, RulePlaced, SlotPlaced}
@@ -105,30 +105,35 @@ word-listed l h at w k p =
     let listed : isListed (length l) at ≡ true = rw (p .at-is) k in
     record { located = record { at-is = p .at-is; wants = p .wants (listed-le h at listed) }; listed = listed }
 
--- a rule whose words are placed so, and whose trees are those of expressions, is located
-module _ {l : List Fact} {wanted : List Bool} (k : Codes) {places : List ℕ} where
-  term-located : (x : Term) → TermFormed k x → (at : Location) → TermPlaced (WordPlaced l wanted) (k .kinds) (k .chains) places at x
+-- a rule whose words are placed so, and whose trees are those of expressions kept below n, is located
+module _ {l : List Fact} {wanted : List Bool} (k : Codes) {places : List ℕ} (n : ℕ) (kept : Arrays (k .kinds) (k .numbers) places n) where
+  term-located : (x : Term) → TermFormed k x → TermInside n x → (at : Location) → TermPlaced (WordPlaced l wanted) (k .kinds) (k .chains) places at x
       → TermLocated l wanted k places at x
-  term-located (Chain c) f at h = h .located
-  term-located (Number z) f at h = tt
-  term-located (Tree from to) f at h = record { formed = f .formed; some = f .some; located = λ i a b e. h i a b e .located }
+  term-located (Chain c) f t at h = h .located
+  term-located (Number z) f t at h = tt
+  term-located (Tree from to) f t at h = record {
+    formed = f .formed;
+    some = f .some;
+    kept = record { in-kinds = omega (arith, kept .in-kinds, t); in-numbers = omega (arith, kept .in-numbers, t); in-places = omega (arith, kept .in-places, t) };
+    located = λ i a b e. h i a b e .located;
+  }
 
-  test-located : (x : Test) → TestTerms (TermFormed k) x → (p : Places) → TestPlaced (WordPlaced l wanted) (k .kinds) (k .chains) places p x
-      → TestLocated l wanted k places p x
-  test-located Always f p h = tt
-  test-located (When x c y) f p h = (term-located x (f .0) (p .first) (h .0), term-located y (f .1) (p .second) (h .1))
+  test-located : (x : Test) → TestTerms (TermFormed k) x → TestTerms (TermInside n) x → (p : Places)
+      → TestPlaced (WordPlaced l wanted) (k .kinds) (k .chains) places p x → TestLocated l wanted k places p x
+  test-located Always f t p h = tt
+  test-located (When x c y) f t p h = (term-located x (f .0) (t .0) (p .first) (h .0), term-located y (f .1) (t .1) (p .second) (h .1))
 
-  rule-located : (x : Rule) → RuleTerms (TermFormed k) x → (p : Places) → RulePlaced (WordPlaced l wanted) (k .kinds) (k .chains) places p x
-      → RuleLocated l wanted k places p x
-  rule-located (Set g x) f p h = term-located x f (p .first) h
-  rule-located (Combine g op x y) f p h = (term-located x (f .0) (p .first) (h .0), term-located y (f .1) (p .second) (h .1))
-  rule-located (Remote sort g c x) f p h = (h .0 .located, term-located x f (p .second) (h .1))
+  rule-located : (x : Rule) → RuleTerms (TermFormed k) x → RuleTerms (TermInside n) x → (p : Places)
+      → RulePlaced (WordPlaced l wanted) (k .kinds) (k .chains) places p x → RuleLocated l wanted k places p x
+  rule-located (Set g x) f t p h = term-located x f t (p .first) h
+  rule-located (Combine g op x y) f t p h = (term-located x (f .0) (t .0) (p .first) (h .0), term-located y (f .1) (t .1) (p .second) (h .1))
+  rule-located (Remote sort g c x) f t p h = (h .0 .located, term-located x f t (p .second) (h .1))
 
-  pub slot-located : (x : Located) → SlotTerms (TermFormed k) (x .slot) → SlotPlaced (WordPlaced l wanted) (k .kinds) (k .chains) places x
-      → LocatedAmong l wanted k places x
-  slot-located x f h = record {
-    test = test-located (x .slot .test) (f .0) (x .at .test) (h .0);
-    rule = rule-located (x .slot .rule) (f .1) (x .at .rule) (h .1);
+  pub slot-located : (x : Located) → SlotTerms (TermFormed k) (x .slot) → SlotTerms (TermInside n) (x .slot)
+      → SlotPlaced (WordPlaced l wanted) (k .kinds) (k .chains) places x → LocatedAmong l wanted k places x
+  slot-located x f t h = record {
+    test = test-located (x .slot .test) (f .0) (t .0) (x .at .test) (h .0);
+    rule = rule-located (x .slot .rule) (f .1) (t .1) (x .at .rule) (h .1);
   }
 
 -- the plan of some readings with others behind them: what was placed stays, and what is found of the others is placed
