@@ -22,7 +22,7 @@ use Rattle.program.specs.declared.location.Location.the-variants.{Own, Cell, Li
 use Rattle.program.specs.declared.location.Places.{Places}
 use Rattle.program.specs.Code.{EachChain, locationAt, placeOf}
 use Rattle.program.specs.Location.{Wants, locationOf}
-use Rattle.text_plan.specs.Terms.{TermPlaced, TestPlaced}
+use Rattle.program.specs.Terms.{TermPlaced, TestPlaced}
 use Rattle.text_plan.specs.Listed.{isListed, withLine, Placeable, WordFound, Marked, Below, FoundMore, Finds}
 use Rattle.text_plan.proofs.Listing.{place-told}
 

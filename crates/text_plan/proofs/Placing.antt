@@ -20,7 +20,7 @@ use Rattle.program.specs.declared.location.Located.{Located}
 use Rattle.program.specs.Code.{Codes, Arrays}
 use Rattle.program.specs.Location.{locationOf, WordLocated, TermLocated, TestLocated, RuleLocated, LocatedAmong}
 use Rattle.program.proofs.Codes.{chain-listed}
-use Rattle.text_plan.specs.Terms.{TestTerms, RuleTerms, SlotTerms, TermInside, TermFormed, TermPlaced, TestPlaced, RulePlaced, SlotPlaced}
+use Rattle.program.specs.Terms.{TestTerms, RuleTerms, SlotTerms, TermInside, TermFormed, TermPlaced, TestPlaced, RulePlaced, SlotPlaced}
 use Rattle.text_plan.specs.Readings.{termWords, testWords, ruleWords, slotWords}
 use Rattle.text_plan.specs.Listed.{isListed, Marked, WordFound}
 use Rattle.text_plan.proofs.Listing.{had-listed, listed-le, listed-stays}

@@ -27,7 +27,7 @@ use Rattle.program.specs.declared.rule.Rule.the-variants.{Set, Combine, Remote}
 use Rattle.program.specs.declared.rule.Slot.{Slot}
 use Rattle.program.specs.Program.{expressionReadings, testReadings, targetReadings, ruleReadings}
 use Rattle.program.specs.Stored.{termIn, testIn, targetIn, expressionIn, ruleIn}
-use Rattle.text_plan.specs.Terms.{TestTerms, RuleTerms, SlotTerms, TermFormed}
+use Rattle.program.specs.Terms.{TestTerms, RuleTerms, SlotTerms, TermFormed}
 use Rattle.text_plan.specs.Readings.{codeWords, termWords, testWords, ruleWords, slotWords, Sound, PlannedWith, Growing, GrownBy}
 
 pub grown-both : {p q r : Plan} (vs us : List (List ℕ)) → GrownBy p vs q → GrownBy q us r → GrownBy p (vs ++ us) r

@@ -13,7 +13,7 @@ use Rattle.program.specs.declared.rule.Slot.{Slot}
 use Rattle.program.specs.declared.location.Location.{Location}
 use Rattle.program.specs.declared.location.Location.the-variants.{Own, Cell, Line}
 use Rattle.program.specs.declared.location.Locations.{Locations}
-use Rattle.text_plan.specs.Terms.{SlotTerms, TermFrom, SlotPlaced}
+use Rattle.program.specs.Terms.{SlotTerms, TermFrom, SlotPlaced}
 use Rattle.text_plan.specs.Readings.{slotWords, PlannedWith}
 
 -- whether a location names no line, or one of n lines

@@ -7,7 +7,7 @@ ghost use Rattle.plan_lines.specs.Held.{factsIn, Keyed};
 ghost use Rattle.program.specs.Code.{EachChain, placeOf};
 ghost use Rattle.program.specs.Location.{locationOf};
 ghost use Rattle.text_plan.specs.Readings.{Sound, addedOf, codeWords, termWords, testWords, ruleWords, slotWords, Short};
-ghost use Rattle.text_plan.specs.Terms.{TermInside, TermFrom, TestTerms, RuleTerms, SlotTerms, TermPlaced, TestPlaced, RulePlaced};
+ghost use Rattle.program.specs.Terms.{TermInside, TermFrom, TestTerms, RuleTerms, SlotTerms, TermPlaced, TestPlaced, RulePlaced};
 ghost use Rattle.text_plan.specs.Listed.{withLine, Placeable, WordFound, Marked, Finds, RulePlanned};
 use crate::readings;
 use plan_lines::Found;

@@ -6,7 +6,7 @@ ghost use lib.ListN.{length};
 ghost use Rattle.chain.specs.Word.{unpack};
 ghost use Rattle.plan_lines.specs.Held.{planOf};
 ghost use Rattle.text_plan.specs.Readings.{Growing, GrownBy, Sound, PlannedWith, addedOf, codeWords, termWords, testWords, ruleWords, slotWords, Short};
-ghost use Rattle.text_plan.specs.Terms.{TermInside, TestTerms, RuleTerms, SlotTerms};
+ghost use Rattle.program.specs.Terms.{TermInside, TestTerms, RuleTerms, SlotTerms};
 use program::rule::Rule;
 use program::rule::Slot;
 use program::rule::Test;

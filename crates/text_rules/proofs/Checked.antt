@@ -27,7 +27,7 @@ use Rattle.program.specs.declared.rule.Sort.{Sort}
 use Rattle.program.specs.declared.rule.Sort.the-variants.{Least, Total}
 use Rattle.program.specs.Program as P
 use Rattle.text_rules.specs.Check.{State, inPlace, hasRoom, sortsAgree, planFits, lineRefusal}
-use Rattle.text_rules.specs.Text.{operatorOf, writtenRule}
+use Rattle.text_rules.specs.Text.{writtenOperator, writtenRule}
 use Rattle.program.specs.Passed.{isReferenceWord, takesReferences, isReferenceExpression, ExpressionPasses, TestPasses, RemotePasses, TargetPasses, RulePasses}
 use Rattle.laws.proofs.Lists.{each-front, each-back}
 
@@ -200,10 +200,10 @@ kind-of e h = record { references = refl; measures = go (K.isReference e) (isMea
 record OneKinds (o : Sign) (x y : Expression) (reference : Bool) : Type 0 where
   first : OneKind x reference
   second : OneKind y reference
-  whole : takesReferences (operatorOf o) && reference ≡ reference
+  whole : takesReferences (writtenOperator o) && reference ≡ reference
 
-takes-sums : (o : Sign) → isSum o ≡ false → takesReferences (operatorOf o) ≡ true
-unfolding isSum takesReferences operatorOf
+takes-sums : (o : Sign) → isSum o ≡ false → takesReferences (writtenOperator o) ≡ true
+unfolding isSum takesReferences writtenOperator
 takes-sums plus h = true-false refl h
 takes-sums minus h = true-false refl h
 takes-sums smaller h = refl
@@ -226,18 +226,18 @@ kinds-of o x y false w =
     record {
       first = record { references = r .0; measures = some-kind x (r .0) };
       second = record { references = r .1; measures = some-kind y (r .1) };
-      whole = and-false (takesReferences (operatorOf o));
+      whole = and-false (takesReferences (writtenOperator o));
     }
 
 -- an expression as the program has it
 abbrev tree : Expression → P.Expression
-tree e = treeOf operatorOf e
+tree e = treeOf writtenOperator e
 
 -- what an action adds to its test: the fields of a rule that passes
 record ActionPasses (s : Sizes) (a : W.Action) : Type 0 where
-  target : TargetPasses s (targetOf operatorOf a)
-  expression : ExpressionPasses s (sourceOf operatorOf a)
-  alike : isReference (P.targetField (targetOf operatorOf a)) ≡ isReferenceExpression (sourceOf operatorOf a)
+  target : TargetPasses s (targetOf writtenOperator a)
+  expression : ExpressionPasses s (sourceOf writtenOperator a)
+  alike : isReference (P.targetField (targetOf writtenOperator a)) ≡ isReferenceExpression (sourceOf writtenOperator a)
 
 -- an expression that passes has the kind of what it holds
 record Treed (s : Sizes) (e : Expression) (reference : Bool) : Type 0 where
@@ -265,13 +265,13 @@ module _ (s : Sizes) (lim : Limits s) where
       let ks = kinds-of o x y reference k in
       let a = treed x reference (w .0) (ks .first) in
       let b = treed y reference (w .1) (ks .second) in
-      let whole : takesReferences (operatorOf o) && isReferenceExpression (tree x) ≡ reference = rw (a .kind-is) (ks .whole) in
+      let whole : takesReferences (writtenOperator o) && isReferenceExpression (tree x) ≡ reference = rw (a .kind-is) (ks .whole) in
       record { passes = ((a .passes, a .kind-is ∙ sym whole), (b .passes, b .kind-is ∙ sym whole)); kind-is = whole }
 
   fine-treed : (e : Expression) → Fine s e → Treed s e (K.isReference e)
   fine-treed e w = treed e (K.isReference e) (terms-fine s e (w .is-named) (w .is-kinded) (w .is-short) (w .in-range)) (kind-of e (w .one-kind))
 
-  test-passes : (c : W.Condition) → Each (Fine s) (conditionExpressions c) → conditionKinds c ≡ true → TestPasses s (testOf operatorOf c)
+  test-passes : (c : W.Condition) → Each (Fine s) (conditionExpressions c) → conditionKinds c ≡ true → TestPasses s (testOf writtenOperator c)
   unfolding conditionExpressions conditionKinds testOf
   test-passes W.always w h = tt
   test-passes (W.when x c y) w h =
@@ -311,7 +311,7 @@ module _ (s : Sizes) (lim : Limits s) where
         alike = field ∙ sym (t .kind-is ∙ not-true _ (measures .1));
       }
 
-  target-field : (a : W.Action) → P.targetField (targetOf operatorOf a) ≡ letterField (target a)
+  target-field : (a : W.Action) → P.targetField (targetOf writtenOperator a) ≡ letterField (target a)
   unfolding target targetOf P.targetField
   target-field (W.set f e) = refl
   target-field (W.remote k f c e) = refl

@@ -50,14 +50,14 @@ pieceForm (ended t) = lineForm (tokens t)
 pieceForm (cut t) = none
 
 -- a written operator as one of the program
-unfoldable pub operatorOf : Sign → Operator
-operatorOf plus = Plus
-operatorOf minus = Minus
-operatorOf smaller = Smaller
+unfoldable pub writtenOperator : Sign → Operator
+writtenOperator plus = Plus
+writtenOperator minus = Minus
+writtenOperator smaller = Smaller
 
 -- a written rule as a rule of the program
 unfoldable pub writtenRule : Condition → Action → Rule
-writtenRule c a = ruleOf operatorOf c a
+writtenRule c a = ruleOf writtenOperator c a
 
 -- where the next step stands, whether or not it will be the last of its loop
 unfoldable pub settingIn : Around → Setting
