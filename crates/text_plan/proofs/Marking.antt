@@ -118,9 +118,9 @@ module _ (l : List Fact) (kinds chains : List ℕ) where
     below-place n h j k = getD-set-other places i j (placeOf x) 0 (λ e. omega arith)
 
   -- a code that is no chain
-  pub each-other : {P : Location → List ℕ → Type 0} (places : List ℕ) (from i : ℕ) → getD kinds i 0 ≢ 0 → EachChain P kinds chains places from i
+  pub each-other : (P : Location → List ℕ → Type 0) (places : List ℕ) (from i : ℕ) → getD kinds i 0 ≢ 0 → EachChain P kinds chains places from i
       → EachChain P kinds chains places from (suc i)
-  each-other {P} places from i n h j f t e = go (ℕ-discrete j i)
+  each-other P places from i n h j f t e = go (ℕ-discrete j i)
     where
       go : Dec (j ≡ i) → P (locationAt (getD places j 0)) (unpack (getD chains j 0))
       go (yes q) = absurd (n (rw q at e))

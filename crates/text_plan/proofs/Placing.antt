@@ -65,7 +65,7 @@ module _ (P Q : Location → List ℕ → Type 0) (kinds chains places : List �
   )
 
 -- arrays that agree below n hold the same of trees below n
-module _ (P : Location → List ℕ → Type 0) {kinds chains places kinds′ chains′ places′ : List ℕ} (n : ℕ)
+module _ (P : Location → List ℕ → Type 0) (kinds chains places kinds′ chains′ places′ : List ℕ) (n : ℕ)
     (k : (i : ℕ) → i < n → getD kinds′ i 0 ≡ getD kinds i 0) (c : (i : ℕ) → i < n → getD chains′ i 0 ≡ getD chains i 0)
     (p : (i : ℕ) → i < n → getD places′ i 0 ≡ getD places i 0) where
   term-agrees : (x : Term) → TermInside n x → (at : Location) → TermPlaced P kinds chains places at x → TermPlaced P kinds′ chains′ places′ at x
@@ -106,7 +106,7 @@ word-listed l h at w k p =
     record { located = record { at-is = p .at-is; wants = p .wants (listed-le h at listed) }; listed = listed }
 
 -- a rule whose words are placed so, and whose trees are those of expressions kept below n, is located
-module _ {l : List Fact} {wanted : List Bool} (k : Codes) {places : List ℕ} (n : ℕ) (kept : Arrays (k .kinds) (k .numbers) places n) where
+module _ (l : List Fact) (wanted : List Bool) (k : Codes) (places : List ℕ) (n : ℕ) (kept : Arrays (k .kinds) (k .numbers) places n) where
   term-located : (x : Term) → TermFormed k x → TermInside n x → (at : Location) → TermPlaced (WordPlaced l wanted) (k .kinds) (k .chains) places at x
       → TermLocated l wanted k places at x
   term-located (Chain c) f t at h = h .located

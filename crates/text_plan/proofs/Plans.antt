@@ -5,11 +5,13 @@ use mathlib.Core.Logic.{_≢_}
 use mathlib.Core.Bool.{Bool, true, false, cond}
 use mathlib.Core.List.{List, [], _∷_, _++_, append-nil, append-assoc}
 use native.Mathlib.Omega.{arith}
+use native.Mathlib.Decide.{ℕ-discrete}
 use borrow.Author.Tests.{ltb-true, lt-ltb, le-ltb, eq-eqb, ne-eqb}
 use lib.Dec.{eqb, ltb}
 use lib.IntN.{ℤ, pos}
 use lib.ListN.{length, getD}
 use Rattle.laws.proofs.Bools.{true-false}
+use Rattle.laws.proofs.Lists.{each-of}
 use Rattle.chain.specs.Word.{unpack}
 use Rattle.plan_theory.specs.Plan.{read, add, plan}
 use Rattle.plan_theory.proofs.Lines.{plan-more, plan-length}
@@ -17,7 +19,7 @@ use Rattle.plan_lines.specs.Held.{facts, Keyed, Added, Extended, ExtendedTo}
 use Rattle.plan_lines.specs.declared.Plan.{Plan}
 use Rattle.plan_lines.proofs.Adding.{holds-facts, extended-holds, extended-more, extended-plan}
 use Rattle.program.specs.Code.{Code, chain, number, operator, decoded, codeReadings, operatorOf, codeOf, codeAt, codesFrom, Codes, codesOf, treeIn}
-use Rattle.program.proofs.Codes.{readings-append, postfix-readings, codes-more}
+use Rattle.program.proofs.Codes.{readings-append, postfix-readings, codes-first, codes-none, codes-more, chain-listed}
 use Rattle.program.specs.declared.term.Term.{Term}
 use Rattle.program.specs.declared.term.Term.the-variants.{Chain, Number, Tree}
 use Rattle.program.specs.declared.rule.Test.{Test}
@@ -28,7 +30,7 @@ use Rattle.program.specs.declared.rule.Slot.{Slot}
 use Rattle.program.specs.Program.{expressionReadings, testReadings, targetReadings, ruleReadings}
 use Rattle.program.specs.Stored.{termIn, testIn, targetIn, expressionIn, ruleIn}
 use Rattle.program.specs.Terms.{TestTerms, RuleTerms, SlotTerms, TermFormed}
-use Rattle.text_plan.specs.Readings.{codeWords, termWords, testWords, ruleWords, slotWords, Sound, PlannedWith, Growing, GrownBy}
+use Rattle.text_plan.specs.Readings.{codeWords, termWords, testWords, ruleWords, slotWords, Short, Sound, PlannedWith, Growing, GrownBy}
 
 pub grown-both : {p q r : Plan} (vs us : List (List ℕ)) → GrownBy p vs q → GrownBy q us r → GrownBy p (vs ++ us) r
 grown-both vs us h k = record { growing = k .growing; extends = λ ws e. rw (append-assoc ws vs us) at (k .extends (ws ++ vs) (h .extends ws e)) }
@@ -88,30 +90,45 @@ unfolding codesFrom codeAt
 words-free kinds numbers numbers′ chains i zero = refl
 words-free kinds numbers numbers′ chains i (suc n) = one-free _ _ _ _ _ _ (words-free kinds numbers numbers′ chains (suc i) n)
 
--- the words of one code more
-module _ (kinds chains : List ℕ) (from at : ℕ) (h : from ≤ at) where
-  words-more : codeWords kinds chains from (suc at) ≡ codeWords kinds chains from at ++ codeReadings (codeAt kinds [] chains at ∷ [])
-  words-more =
-      let n : suc at - from ≡ suc (at - from) = omega arith in
-      let m : from + (at - from) ≡ at = omega arith in
-      ap (λ (k : ℕ). codeReadings (codesFrom kinds [] chains from k)) n
-      ∙ ap codeReadings (codes-more kinds [] chains from (at - from))
-      ∙ readings-append (codesFrom kinds [] chains from (at - from)) (codeAt kinds [] chains (from + (at - from)) ∷ [])
-      ∙ ap (λ (k : ℕ). codeWords kinds chains from at ++ codeReadings (codeAt kinds [] chains k ∷ [])) m
+-- the words of one code
+module _ (kinds chains : List ℕ) (at : ℕ) where
+  one-code : codeWords kinds chains at (suc at) ≡ codeReadings (codeAt kinds [] chains at ∷ [])
+  one-code = ap codeReadings (codes-first kinds [] chains at (suc at) (omega arith)
+      ∙ ap (λ (l : List Code). codeAt kinds [] chains at ∷ l) (codes-none kinds [] chains (suc at) (suc at) (omega arith)))
 
-  pub words-chain : getD kinds at 0 ≡ 0 → codeWords kinds chains from (suc at) ≡ codeWords kinds chains from at ++ (unpack (getD chains at 0) ∷ [])
+  pub words-chain : getD kinds at 0 ≡ 0 → codeWords kinds chains at (suc at) ≡ unpack (getD chains at 0) ∷ []
   unfolding codeAt codeOf codeReadings
-  words-chain k = words-more ∙ simp (eq-eqb (getD kinds at 0) 0 k)
+  words-chain k = one-code ∙ simp (eq-eqb (getD kinds at 0) 0 k)
 
-  pub words-other : getD kinds at 0 ≢ 0 → codeWords kinds chains from (suc at) ≡ codeWords kinds chains from at
+  pub words-other : getD kinds at 0 ≢ 0 → codeWords kinds chains at (suc at) ≡ []
   unfolding codeAt codeOf codeReadings
-  words-other k = words-more ∙ go (eqb (getD kinds at 0) 1) (ne-eqb (getD kinds at 0) 0 k)
+  words-other k = one-code ∙ go (eqb (getD kinds at 0) 0) (eqb (getD kinds at 0) 1) (ne-eqb (getD kinds at 0) 0 k)
     where
-      go : (b : Bool) → eqb (getD kinds at 0) 0 ≡ false
-          → codeWords kinds chains from at ++ codeReadings (cond (eqb (getD kinds at 0) 0) (chain (unpack (getD chains at 0))) (cond b (number (getD [] at (pos 0))) (operator (operatorOf (getD kinds at 0)))) ∷ [])
-          ≡ codeWords kinds chains from at
-      go true e = rw (e, append-nil)
-      go false e = rw (e, append-nil)
+      go : (a b : Bool) → a ≡ false
+          → codeReadings (cond a (chain (unpack (getD chains at 0))) (cond b (number (getD [] at (pos 0))) (operator (operatorOf (getD kinds at 0)))) ∷ []) ≡ []
+      go true b e = true-false refl e
+      go false true e = refl
+      go false false e = refl
+
+-- the words of one code more
+pub words-more : (kinds chains : List ℕ) (from at : ℕ) → from ≤ at
+    → codeWords kinds chains from (suc at) ≡ codeWords kinds chains from at ++ codeWords kinds chains at (suc at)
+words-more kinds chains from at h =
+    let n : suc at - from ≡ suc (at - from) = omega arith in
+    let m : from + (at - from) ≡ at = omega arith in
+    ap (λ (k : ℕ). codeReadings (codesFrom kinds [] chains from k)) n
+    ∙ ap codeReadings (codes-more kinds [] chains from (at - from))
+    ∙ readings-append (codesFrom kinds [] chains from (at - from)) (codeAt kinds [] chains (from + (at - from)) ∷ [])
+    ∙ ap (λ (k : ℕ). codeWords kinds chains from at ++ codeReadings (codeAt kinds [] chains k ∷ [])) m
+    ∙ ap (λ (l : List (List ℕ)). codeWords kinds chains from at ++ l) (sym (one-code kinds chains at))
+
+-- each chain of short words is short
+pub short-at : (kinds chains : List ℕ) (from to at : ℕ) → from ≤ at → at < to → Short (codeWords kinds chains from to) → Short (codeWords kinds chains at (suc at))
+short-at kinds chains from to at f t h = go (ℕ-discrete (getD kinds at 0) 0)
+  where
+    go : Dec (getD kinds at 0 ≡ 0) → Short (codeWords kinds chains at (suc at))
+    go (yes e) = rw (words-chain kinds chains at e) (each-of _ h (chain-listed kinds [] chains from to at f t e), tt)
+    go (no n) = rw (words-other kinds chains at n) tt
 
 -- the words of a rule in the array are the readings of the rule
 module _ (k : Codes) where

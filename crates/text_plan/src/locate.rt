@@ -1,6 +1,6 @@
 // Where the readings of a rule are found. A plan only grows, so that a line once found stays the line of its reading.
 ghost use mathlib.Core.Path.{_≡_};
-ghost use Prim.Native.Nat.{_≤_};
+ghost use Prim.Native.Nat.{suc, _≤_, _<_};
 ghost use lib.ListN.{length};
 ghost use Rattle.chain.specs.Word.{unpack};
 ghost use Rattle.plan_lines.specs.Held.{factsIn, Keyed};
@@ -73,6 +73,28 @@ fn place_of(location: Location) -> u8
     }
 }
 
+// The place of the code at `at`, if it is a chain.
+fn locate_code(
+    keys: &[u64; 64],
+    count: usize,
+    wanted: &mut [bool; 64],
+    kinds: &[u8],
+    chains: &[u64],
+    places: &mut [u8],
+    at: usize,
+)
+    requires { ⌜ Keyed (now keys) count × (length (now wanted) ≡ 64) × Short (codeWords (now kinds) (now chains) at (suc at)) ⌝ }
+    requires { ⌜ (at < length (now kinds)) × (at < length (now chains)) × (at < length (now places)) ⌝ }
+    ensures { λ _. ⌜ Finds (factsIn (now (keys .entry)) count) (now (kinds .entry)) (now (chains .entry)) (λ n. n ≤ at)
+        (λ w q. EachChain (WordFound (factsIn (now (keys .entry)) count) w) (now (kinds .entry)) (now (chains .entry)) q at (suc at))
+        (now (wanted .entry)) (now (places .entry)) (now (wanted .exit)) (now (places .exit)) ⌝ }
+{
+    if kinds[at] != 0 {
+        return;
+    }
+    places[at] = place_of(find_chain(keys, count, wanted, chains[at]));
+}
+
 // The places of the chains of an expression, by its codes from..to.
 fn locate_codes(
     keys: &[u64; 64],
@@ -93,9 +115,7 @@ fn locate_codes(
     let end = to as usize;
     let mut at = from as usize;
     while at < end {
-        if kinds[at] == 0 {
-            places[at] = place_of(find_chain(keys, count, wanted, chains[at]));
-        }
+        locate_code(keys, count, wanted, kinds, chains, places, at);
         at += 1;
     }
 }

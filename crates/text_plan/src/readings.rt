@@ -1,7 +1,7 @@
 // A step's plan, which grows by the readings of each rule: "in a rule the chains from left to right, C standing for the
 // remote target".
 ghost use mathlib.Core.List.{[], _∷_};
-ghost use Prim.Native.Nat.{_≤_};
+ghost use Prim.Native.Nat.{suc, _≤_, _<_};
 ghost use lib.ListN.{length};
 ghost use Rattle.chain.specs.Word.{unpack};
 ghost use Rattle.plan_lines.specs.Held.{planOf};
@@ -32,6 +32,29 @@ fn with_reading(
     plan_builder::add(keys, rounds, backs, reads, count, chain)
 }
 
+// The code at `at`, if it is a chain.
+fn with_code(
+    keys: &mut [u64; 64],
+    rounds: &mut [u8; 64],
+    backs: &mut [u8; 64],
+    reads: &mut [u8; 64],
+    count: usize,
+    kinds: &[u8],
+    chains: &[u64],
+    at: usize,
+) -> usize
+    requires { ⌜ Growing (planOf (now keys) (now rounds) (now backs) (now reads) count) × Short (codeWords (now kinds) (now chains) at (suc at))
+        × (at < length (now kinds)) × (at < length (now chains)) ⌝ }
+    ensures { λ r. ⌜ GrownBy (planOf (now (keys .entry)) (now (rounds .entry)) (now (backs .entry)) (now (reads .entry)) count)
+        (codeWords (now (kinds .entry)) (now (chains .entry)) at (suc at))
+        (planOf (now (keys .exit)) (now (rounds .exit)) (now (backs .exit)) (now (reads .exit)) r) ⌝ }
+{
+    if kinds[at] != 0 {
+        return count;
+    }
+    with_reading(keys, rounds, backs, reads, count, chains[at])
+}
+
 // The chains of an expression, by its codes from..to.
 fn with_codes(
     keys: &mut [u64; 64],
@@ -54,9 +77,7 @@ fn with_codes(
     let mut lines = count;
     let mut at = from as usize;
     while at < end {
-        if kinds[at] == 0 {
-            lines = with_reading(keys, rounds, backs, reads, lines, chains[at]);
-        }
+        lines = with_code(keys, rounds, backs, reads, lines, kinds, chains, at);
         at += 1;
     }
     lines

@@ -144,9 +144,9 @@ counts-rule {x} {rs} c r h e k = go c e k
         (h .leasts-length) (length-set (x .totals) f true ∙ h .totals-length)
         (sort-same h r isLeast (x .leasts) (h .leasts-are) (λ i. ap (isLeast i) e)) taken)
 
-rule-target : {k : Codes} {x : Slot} {r : Rule} → ruleIn k x ≡ r → r .target ≡ targetIn (x .rule)
+rule-target : (k : Codes) (x : Slot) (r : Rule) → ruleIn k x ≡ r → r .target ≡ targetIn (x .rule)
 unfolding ruleIn
-rule-target e = sym (ap (λ (r : Rule). r .target) e)
+rule-target k x r e = sym (ap (λ (r : Rule). r .target) e)
 
 -- the most lines with one more step, and with the last step the last of its loop
 most-append : (xs : List Step) (x : Step) → mostLines (xs ++ (x ∷ [])) ≡ max (mostLines xs) (length (stepPlan (x .rules)))
@@ -167,7 +167,7 @@ clean-passes k = rw (k .is-named, k .is-kinded, k .is-short, k .in-range, k .is-
 
 -- behind a line that has passed; n is the number of lines of the open step's plan, y is what was read of the line
 module _ (s : Sizes) (lim : Limits s) {x : State} {st : K.State} (h : Stands x st) (n : ℕ) where
-  pub advance-stands : {k : Codes} {l : Line} {y : LineRead} → Reads s k (some l) y → Clean s st l → (l ≡ end → n ≡ length (stepPlan (openRules st)))
+  pub advance-stands : {codes : Codes} {l : Line} {y : LineRead} → Reads s codes (some l) y → Clean s st l → (l ≡ end → n ≡ length (stepPlan (openRules st)))
       → Stands (advanceOf x n y) (advance st l)
   unfolding advanceOf standing advance isOpen openRules named fieldNamed
   advance-stands step-line k e = record { steps-are = h .steps-are; lines-are = h .lines-are; around-is = h .around-is; in-step = refl; tally-is = counts-none }
@@ -186,7 +186,7 @@ module _ (s : Sizes) (lim : Limits s) {x : State} {st : K.State} (h : Stands x s
     tally-is = counts-none;
   }
   advance-stands (loop-line f) k e = record { steps-are = h .steps-are; lines-are = h .lines-are; around-is = refl; in-step = refl; tally-is = counts-none }
-  advance-stands (rule-line c a y w) k e =
+  advance-stands {codes} (rule-line c a y w) k e =
       let r : Rule = writtenRule c a in
       let passed = rule-passes s lim st c a k in
       record {
@@ -194,5 +194,5 @@ module _ (s : Sizes) (lim : Limits s) {x : State} {st : K.State} (h : Stands x s
         lines-are = h .lines-are;
         around-is = h .around-is;
         in-step = refl;
-        tally-is = counts-rule (y .rule) r (h .tally-is) (rule-target (w (clean-passes k) .rule-is)) (field-below s lim (P.targetField (r .target)) (passed .field));
+        tally-is = counts-rule (y .rule) r (h .tally-is) (rule-target codes y r (w (clean-passes k) .rule-is)) (field-below s lim (P.targetField (r .target)) (passed .field));
       }
