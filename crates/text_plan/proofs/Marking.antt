@@ -106,25 +106,31 @@ module _ (l : List Fact) (kinds chains : List ℕ) where
     pub more-place : FoundMore l kinds chains a places b placed
     more-place = record { marked = m; sized = length-set places i (placeOf x); keeps = place-keeps }
 
-    -- and the chains before it with it
-    pub each-place : (from : ℕ) → EachChain (WordFound l a) kinds chains places from i → EachChain (WordFound l b) kinds chains placed from (suc i)
-    each-place from h j f t e = go (ℕ-discrete j i)
-      where
-        go : Dec (j ≡ i) → WordFound l b (locationAt (getD placed j 0)) (unpack (getD chains j 0))
-        go (yes q) = rw q here
-        go (no n) = place-keeps from i h j f (omega arith) e
+    pub each-place : EachChain (WordFound l b) kinds chains placed i (suc i)
+    each-place j f t e = let q : j ≡ i = omega arith in rw q here
 
     pub below-place : (n : ℕ) → n ≤ i → Below n places placed
     below-place n h j k = getD-set-other places i j (placeOf x) 0 (λ e. omega arith)
 
   -- a code that is no chain
-  pub each-other : (P : Location → List ℕ → Type 0) (places : List ℕ) (from i : ℕ) → getD kinds i 0 ≢ 0 → EachChain P kinds chains places from i
-      → EachChain P kinds chains places from (suc i)
-  each-other P places from i n h j f t e = go (ℕ-discrete j i)
-    where
-      go : Dec (j ≡ i) → P (locationAt (getD places j 0)) (unpack (getD chains j 0))
-      go (yes q) = absurd (n (rw q at e))
-      go (no m) = h j f (omega arith) e
+  pub each-other : (P : Location → List ℕ → Type 0) (places : List ℕ) (i : ℕ) → getD kinds i 0 ≢ 0 → EachChain P kinds chains places i (suc i)
+  each-other P places i n j f t e = let q : j ≡ i = omega arith in absurd (n (rw q at e))
+
+  -- no code, and one code more
+  pub finds-none : (wanted : List Bool) (places : List ℕ) (from : ℕ)
+      → Finds l kinds chains (λ n. n ≤ from) (λ w q. EachChain (WordFound l w) kinds chains q from from) wanted places wanted places
+  finds-none wanted places from = record { more = more-none wanted places; below = λ n f i j. refl; found = λ i f t e. absurd (omega arith) }
+
+  pub finds-more : (from at : ℕ) → from ≤ at → {a b c : List Bool} {p q r : List ℕ}
+      → Finds l kinds chains (λ n. n ≤ from) (λ w z. EachChain (WordFound l w) kinds chains z from at) a p b q
+      → Finds l kinds chains (λ n. n ≤ at) (λ w z. EachChain (WordFound l w) kinds chains z at (suc at)) b q c r
+      → Finds l kinds chains (λ n. n ≤ from) (λ w z. EachChain (WordFound l w) kinds chains z from (suc at)) a p c r
+  finds-more from at o h k = record {
+    more = more-both (h .more) (k .more);
+    below = λ n f i j. k .below n (omega arith) i j ∙ h .below n f i j;
+    found = λ i f t e.
+        ⊎-elim (λ (b : i < at). k .more .keeps from at (h .found) i f b e) (λ (b : at ≤ i). k .found i b t e) (lt-or-le i at);
+  }
 
   -- a term whose chains are found stays so
   pub term-more : {a b : List Bool} {p q : List ℕ} → FoundMore l kinds chains a p b q → (at : Location) (x : Term)

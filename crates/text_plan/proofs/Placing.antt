@@ -151,7 +151,7 @@ module _ (ws vs : List (List ℕ)) where
         → SlotPlaced (WordPlaced (plan (ws ++ vs)) b) kinds chains places x
     placed-old k p = let (m, e) = grown-is in rw e (slot-changed _ _ kinds chains places x (λ at w i. word-stays (plan ws) m k at w) p)
 
-    pub placed-new : {wanted : List Bool} → length (plan (ws ++ vs)) ≤ length wanted → vs ≡ slotWords kinds chains (x .slot)
+    pub placed-new : (wanted : List Bool) → length (plan (ws ++ vs)) ≤ length wanted → vs ≡ slotWords kinds chains (x .slot)
         → SlotPlaced (WordFound (plan (ws ++ vs)) wanted) kinds chains places x → SlotPlaced (WordPlaced (plan (ws ++ vs)) wanted) kinds chains places x
-    placed-new h e p =
+    placed-new wanted h e p =
         slot-changed _ _ kinds chains places x (λ at w i. word-listed (plan (ws ++ vs)) h at w (grown-listed (rw (← e) at i))) p

@@ -122,6 +122,14 @@ words-more kinds chains from at h =
     ∙ ap (λ (k : ℕ). codeWords kinds chains from at ++ codeReadings (codeAt kinds [] chains k ∷ [])) m
     ∙ ap (λ (l : List (List ℕ)). codeWords kinds chains from at ++ l) (sym (one-code kinds chains at))
 
+-- of no code, and of as many
+pub words-none : (kinds chains : List ℕ) (from : ℕ) → codeWords kinds chains from from ≡ []
+unfolding codeReadings
+words-none kinds chains from = ap codeReadings (codes-none kinds [] chains from from (omega arith))
+
+pub words-end : (kinds chains : List ℕ) (from at to : ℕ) → at - from ≡ to - from → codeWords kinds chains from at ≡ codeWords kinds chains from to
+words-end kinds chains from at to e = ap (λ (n : ℕ). codeReadings (codesFrom kinds [] chains from n)) e
+
 -- each chain of short words is short
 pub short-at : (kinds chains : List ℕ) (from to at : ℕ) → from ≤ at → at < to → Short (codeWords kinds chains from to) → Short (codeWords kinds chains at (suc at))
 short-at kinds chains from to at f t h = go (ℕ-discrete (getD kinds at 0) 0)

@@ -107,8 +107,8 @@ checks-first c n m = go (c .named) (c .kinded) (c .short) (c .ranged) (c .shallo
 module _ (s : Sizes) {x : S.State} {st : State} (h : Stands x st) (full : Bool) (f : full ≡ ltb 64 (length (stepPlan (openRules st)))) where
   -- 13 and 14, of a rule that passes what is asked before
   rule-behind : {k : Codes} (c : W.Condition) (a : W.Action) (y : Slot) → RuleRead k c a y
-      → cond (not (ltb (x .tally .rules) 32)) 13 (cond (otherSort (x .tally) (y .rule)) 14 0)
-      ≡ cond (not (ltb (length (openRules st)) 32)) 13 (cond (not (oneSort (openRules st) a)) 14 0)
+      → _≡_ {A = ℕ} (cond (not (ltb (x .tally .rules) 32)) 13 (cond (otherSort (x .tally) (y .rule)) 14 0))
+      (cond (not (ltb (length (openRules st)) 32)) 13 (cond (not (oneSort (openRules st) a)) 14 0))
   rule-behind c a y w = rw (target-sort (x .tally) (openRules st) (y .rule) (h .tally-is) a (read-target w), h .tally-is .rules-are)
 
   rule-number : {k : Codes} (c : W.Condition) (a : W.Action) (y : Slot) → (allPass (lineChecks s (rule c a)) ≡ true → RuleRead k c a y)
