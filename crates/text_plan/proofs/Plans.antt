@@ -111,7 +111,7 @@ module _ (kinds chains : List ℕ) (at : ℕ) where
       go false false e = refl
 
 -- the words of one code more
-pub words-more : (kinds chains : List ℕ) (from at : ℕ) → from ≤ at
+words-more : (kinds chains : List ℕ) (from at : ℕ) → from ≤ at
     → codeWords kinds chains from (suc at) ≡ codeWords kinds chains from at ++ codeWords kinds chains at (suc at)
 words-more kinds chains from at h =
     let n : suc at - from ≡ suc (at - from) = omega arith in
@@ -121,6 +121,10 @@ words-more kinds chains from at h =
     ∙ readings-append (codesFrom kinds [] chains from (at - from)) (codeAt kinds [] chains (from + (at - from)) ∷ [])
     ∙ ap (λ (k : ℕ). codeWords kinds chains from at ++ codeReadings (codeAt kinds [] chains k ∷ [])) m
     ∙ ap (λ (l : List (List ℕ)). codeWords kinds chains from at ++ l) (sym (one-code kinds chains at))
+
+pub words-plus : (kinds chains : List ℕ) (from at : ℕ) → from ≤ at
+    → codeWords kinds chains from (at + 1) ≡ codeWords kinds chains from at ++ codeWords kinds chains at (suc at)
+words-plus kinds chains from at h = let e : at + 1 ≡ suc at = omega arith in ap (codeWords kinds chains from) e ∙ words-more kinds chains from at h
 
 -- of no code, and of as many
 pub words-none : (kinds chains : List ℕ) (from : ℕ) → codeWords kinds chains from from ≡ []

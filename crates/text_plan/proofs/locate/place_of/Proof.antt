@@ -15,13 +15,13 @@ enum-known-location : tie.Need-enum-known-location
 enum-known-location c = search needs
 
 add-result : tie.Need-add-result
-add-result c = let h = subst Placeable (c .before .location .given .1) (c .before .before .pre) in omega (arith, h)
+add-result c = let h = subst Placeable (c .before .location .given .1) (c .before .before .before .pre) in omega (arith, h)
 
 enum-known-location-2 : tie.Need-enum-known-location-2
 enum-known-location-2 c = search needs
 
 add-result-2 : tie.Need-add-result-2
-add-result-2 c = let h = subst Placeable (c .before .location2 .given .1) (c .before .before .pre) in omega (arith, h)
+add-result-2 c = let h = subst Placeable (c .before .location2 .given .1) (c .before .before .before .pre) in omega (arith, h)
 
 returns : tie.Need-returns
 unfolding placeOf

@@ -9,7 +9,7 @@ shared-slice-read-if1 : tie.Need-shared-slice-read-if1
 shared-slice-read-if1 c = search needs
 
 returns : tie.Need-returns
-returns c = rw (words-other _ _ _ (c .if1 .taken)) (grown-none _ (c .before .before .pre .0))
+returns c = rw (words-other _ _ _ (c .if1 .taken)) (grown-none _ (c .before .before .before .before .pre .0))
 
 mul-with-reading : tie.Need-mul-with-reading
 mul-with-reading c = search needs
@@ -20,7 +20,7 @@ shared-slice-read-with-reading c = search needs
 with-reading-requires : tie.Need-with-reading-requires
 with-reading-requires c κs =
     let e = c .before .before .before .before .before in
-    let p = e .before .before .pre in
+    let p = e .before .before .before .before .pre in
     (p .0, (rw (words-chain _ _ _ (e .if1 .left)) at (p .1)) .0)
 
 returns-2 : tie.Need-returns-2

@@ -2,9 +2,10 @@
 -- Assumes nothing.
 use Prim.Native.Nat.{_-_, _≤_}
 use native.Mathlib.Omega.{arith}
+use denote.Ref.{now}
 use Rattle.plan_lines.specs.Held.{planOf}
 use Rattle.text_plan.specs.Readings.{codeWords, GrownBy}
-use Rattle.text_plan.proofs.Plans.{grown-none, grown-both, words-none, words-more, words-end, short-at}
+use Rattle.text_plan.proofs.Plans.{grown-none, grown-both, words-none, words-plus, words-end, short-at}
 use Rattle.text_plan.proofs.readings.with_codes.Statement.{statement}
 use Rattle.text_plan.proofs.readings.with_codes.Tie as tie
 
@@ -43,12 +44,13 @@ loop-again : tie.Need-loop-again Inv-loop μ-loop
 loop-again c =
     let i = c .before .before .before .before .before in
     let v = i .before .loop .inv in
-    (rw (words-more _ _ _ _ (v .1)) (grown-both _ _ (v .0) (c .with-code .ensures)), omega (arith, v .1), omega (arith, i .loop-test .taken))
+    (rw (words-plus _ _ _ _ (v .1)) (grown-both _ _ (v .0) (c .with-code .ensures)), omega (arith, v .1), omega (arith, i .loop-test .taken))
 
 returns : tie.Need-returns Inv-loop μ-loop
 returns c =
     let v = c .before .loop .inv in
-    rw (words-end _ _ _ _ _ (omega (arith, v .2, c .loop-test .left))) at (v .0)
+    let a = c .before .before .before .before .args in
+    rw (words-end (now (a .kinds)) (now (a .chains)) (a .from) (c .before .loop .at) (a .to) (omega (arith, v .2, c .loop-test .left))) at (v .0)
 
 pub with-codes-spec : {M : Type 1} → statement M
 with-codes-spec = tie.close (tie.spec Inv-loop μ-loop loop-holds with-code-requires add-at loop-less loop-again returns)
