@@ -1,6 +1,6 @@
 -- A step's plan and the readings behind those that it has.
 use Prim.Native.Nat.{ℕ, zero, suc, _+_, _-_, _≤_, _<_}
-use mathlib.Core.Path.{_≡_, refl, sym, ap, ap₂, _∙_}
+use mathlib.Core.Path.{_≡_, refl, sym, ap, ap₂, subst, _∙_}
 use mathlib.Core.Logic.{_≢_}
 use mathlib.Core.Bool.{Bool, true, false, cond}
 use mathlib.Core.List.{List, [], _∷_, _++_, append-nil, append-assoc}
@@ -141,6 +141,14 @@ short-at kinds chains from to at f t h = go (ℕ-discrete (getD kinds at 0) 0)
     go : Dec (getD kinds at 0 ≡ 0) → Short (codeWords kinds chains at (suc at))
     go (yes e) = rw (words-chain kinds chains at e) (each-of _ h (chain-listed kinds [] chains from to at f t e), tt)
     go (no n) = rw (words-other kinds chains at n) tt
+
+-- a term by what it is known to be
+module _ (kinds chains : List ℕ) {x y : Term} (e : x ≡ y) where
+  pub term-short : Short (termWords kinds chains x) → Short (termWords kinds chains y)
+  term-short h = subst (λ (t : Term). Short (termWords kinds chains t)) e h
+
+  pub term-grown : {p r : Plan} → GrownBy p (termWords kinds chains y) r → GrownBy p (termWords kinds chains x) r
+  term-grown {p} {r} h = subst (λ (t : Term). GrownBy p (termWords kinds chains t) r) (sym e) h
 
 -- the words of a rule in the array are the readings of the rule
 module _ (k : Codes) where

@@ -1,13 +1,11 @@
 -- `text_plan::readings::with_term` meets its contract.
 -- Assumes nothing.
-use Prim.Native.Nat.{_≤_}
-use mathlib.Core.Path.{sym, subst}
+use mathlib.Core.Path.{subst}
 use lib.ListN.{length}
 use denote.Ref.{now}
 use Rattle.program.specs.Terms.{TermInside}
-use Rattle.program.specs.declared.term.Term.{Term}
-use Rattle.text_plan.specs.Readings.{termWords, Short, GrownBy}
-use Rattle.text_plan.proofs.Plans.{grown-none}
+use Rattle.text_plan.specs.Readings.{termWords}
+use Rattle.text_plan.proofs.Plans.{grown-none, term-short, term-grown}
 use borrow.Author.Needs.{needs}
 use Rattle.text_plan.proofs.readings.with_term.Statement.{statement}
 use Rattle.text_plan.proofs.readings.with_term.Tie as tie
@@ -19,8 +17,8 @@ with-reading-requires : tie.Need-with-reading-requires
 unfolding termWords
 with-reading-requires c κs =
     let t = c .before .before .before .before .before in
-    let p = t .before .before .pre in
-    (p .0, subst (λ (x : Term). Short (termWords _ _ x)) (t .term .given .1) (p .1) .0)
+    let s = t .before .before .before .before in
+    (s .pre .0, term-short (now (s .args .kinds)) (now (s .args .chains)) (t .term .given .1) (s .pre .1) .0)
 
 enum-told : tie.Need-enum-told
 enum-told c = search needs
@@ -32,25 +30,34 @@ with-codes-requires : tie.Need-with-codes-requires
 unfolding termWords
 with-codes-requires c κs =
     let t = c .before .before .before .before .before in
-    let p = t .before .before .pre in
+    let s = t .before .before .before .before in
     let e = t .term2 .given .1 in
-    (p .0, subst (λ (x : Term). Short (termWords _ _ x)) e (p .1), subst (TermInside _) e (p .2), subst (TermInside _) e (p .3))
+    (
+      s .pre .0,
+      term-short (now (s .args .kinds)) (now (s .args .chains)) e (s .pre .1),
+      subst (TermInside (length (now (s .args .kinds)))) e (s .pre .2),
+      subst (TermInside (length (now (s .args .chains)))) e (s .pre .3),
+    )
 
 returns : tie.Need-returns
 unfolding termWords
 returns c =
     let t = c .before .before .before .before .before .before in
-    subst (λ (x : Term). GrownBy _ (termWords _ _ x) _) (sym (t .term .given .1)) (c .with-reading .ensures)
+    let a = t .before .before .before .before .args in
+    term-grown (now (a .kinds)) (now (a .chains)) (t .term .given .1) (c .with-reading .ensures)
 
 returns-2 : tie.Need-returns-2
 unfolding termWords
-returns-2 c = subst (λ (x : Term). GrownBy _ (termWords _ _ x) _) (sym (c .enum-told .given .1)) (grown-none _ (c .before .before .pre .0))
+returns-2 c =
+    let s = c .before .before .before .before in
+    term-grown (now (s .args .kinds)) (now (s .args .chains)) (c .enum-told .given .1) (grown-none _ (s .pre .0))
 
 returns-3 : tie.Need-returns-3
 unfolding termWords
 returns-3 c =
     let t = c .before .before .before .before .before .before in
-    subst (λ (x : Term). GrownBy _ (termWords _ _ x) _) (sym (t .term2 .given .1)) (c .with-codes .ensures)
+    let a = t .before .before .before .before .args in
+    term-grown (now (a .kinds)) (now (a .chains)) (t .term2 .given .1) (c .with-codes .ensures)
 
 pub with-term-spec : {M : Type 1} → statement M
 with-term-spec =
