@@ -150,6 +150,21 @@ module _ (kinds chains : List ℕ) {x y : Term} (e : x ≡ y) where
   pub term-grown : {p r : Plan} → GrownBy p (termWords kinds chains y) r → GrownBy p (termWords kinds chains x) r
   term-grown {p} {r} h = subst (λ (t : Term). GrownBy p (termWords kinds chains t) r) (sym e) h
 
+-- a test and a rule so
+module _ (kinds chains : List ℕ) {x y : Test} (e : x ≡ y) where
+  pub test-short : Short (testWords kinds chains x) → Short (testWords kinds chains y)
+  test-short h = subst (λ (t : Test). Short (testWords kinds chains t)) e h
+
+  pub test-grown : {p r : Plan} → GrownBy p (testWords kinds chains y) r → GrownBy p (testWords kinds chains x) r
+  test-grown {p} {r} h = subst (λ (t : Test). GrownBy p (testWords kinds chains t) r) (sym e) h
+
+module _ (kinds chains : List ℕ) {x y : Rule} (e : x ≡ y) where
+  pub rule-short : Short (ruleWords kinds chains x) → Short (ruleWords kinds chains y)
+  rule-short h = subst (λ (t : Rule). Short (ruleWords kinds chains t)) e h
+
+  pub rule-grown : {p r : Plan} → GrownBy p (ruleWords kinds chains y) r → GrownBy p (ruleWords kinds chains x) r
+  rule-grown {p} {r} h = subst (λ (t : Rule). GrownBy p (ruleWords kinds chains t) r) (sym e) h
+
 -- the words of a rule in the array are the readings of the rule
 module _ (k : Codes) where
   term-words : (x : Term) → TermFormed k x → termWords (k .kinds) (k .chains) x ≡ expressionReadings (termIn k x)
