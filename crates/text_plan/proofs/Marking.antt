@@ -1,5 +1,5 @@
 -- Marks of the lines that are wanted, and what was found before more of them are.
-use Prim.Native.Nat.{ℕ, suc, _≤_, _<_}
+use Prim.Native.Nat.{ℕ, suc, _+_, _≤_, _<_}
 use mathlib.Core.Path.{_≡_, refl, sym, ap, subst, _∙_}
 use mathlib.Core.Bool.{Bool, true, false}
 use mathlib.Core.List.{List}
@@ -121,7 +121,7 @@ module _ (l : List Fact) (kinds chains : List ℕ) where
       → Finds l kinds chains (λ n. n ≤ from) (λ w q. EachChain (WordFound l w) kinds chains q from from) wanted places wanted places
   finds-none wanted places from = record { more = more-none wanted places; below = λ n f i j. refl; found = λ i f t e. absurd (omega arith) }
 
-  pub finds-more : (from at : ℕ) → from ≤ at → {a b c : List Bool} {p q r : List ℕ}
+  finds-more : (from at : ℕ) → from ≤ at → {a b c : List Bool} {p q r : List ℕ}
       → Finds l kinds chains (λ n. n ≤ from) (λ w z. EachChain (WordFound l w) kinds chains z from at) a p b q
       → Finds l kinds chains (λ n. n ≤ at) (λ w z. EachChain (WordFound l w) kinds chains z at (suc at)) b q c r
       → Finds l kinds chains (λ n. n ≤ from) (λ w z. EachChain (WordFound l w) kinds chains z from (suc at)) a p c r
@@ -131,6 +131,20 @@ module _ (l : List Fact) (kinds chains : List ℕ) where
     found = λ i f t e.
         ⊎-elim (λ (b : i < at). k .more .keeps from at (h .found) i f b e) (λ (b : at ≤ i). k .found i b t e) (lt-or-le i at);
   }
+
+  pub finds-plus : (from at : ℕ) → from ≤ at → {a b c : List Bool} {p q r : List ℕ}
+      → Finds l kinds chains (λ n. n ≤ from) (λ w z. EachChain (WordFound l w) kinds chains z from at) a p b q
+      → Finds l kinds chains (λ n. n ≤ at) (λ w z. EachChain (WordFound l w) kinds chains z at (suc at)) b q c r
+      → Finds l kinds chains (λ n. n ≤ from) (λ w z. EachChain (WordFound l w) kinds chains z from (at + 1)) a p c r
+  finds-plus from at o h k =
+      let f = finds-more from at o h k in
+      record { more = f .more; below = f .below; found = λ i g t e. f .found i g (omega arith) e }
+
+  -- the codes before those passed
+  pub finds-end : (from at to : ℕ) → to ≤ at → {a b : List Bool} {p q : List ℕ}
+      → Finds l kinds chains (λ n. n ≤ from) (λ w z. EachChain (WordFound l w) kinds chains z from at) a p b q
+      → Finds l kinds chains (λ n. n ≤ from) (λ w z. EachChain (WordFound l w) kinds chains z from to) a p b q
+  finds-end from at to o h = record { more = h .more; below = h .below; found = λ i g t e. h .found i g (omega arith) e }
 
   -- a term whose chains are found stays so
   pub term-more : {a b : List Bool} {p q : List ℕ} → FoundMore l kinds chains a p b q → (at : Location) (x : Term)

@@ -99,9 +99,9 @@ word-stays l m k at w p = record {
   listed = listed-le (simp length-append (omega arith)) at (p .listed);
 }
 
-word-listed : (l : List Fact) {wanted : List Bool} → length l ≤ length wanted → (at : Location) (w : List ℕ)
+word-listed : (l : List Fact) (wanted : List Bool) → length l ≤ length wanted → (at : Location) (w : List ℕ)
     → isListed (length l) (locationOf l w) ≡ true → WordFound l wanted at w → WordPlaced l wanted at w
-word-listed l h at w k p =
+word-listed l wanted h at w k p =
     let listed : isListed (length l) at ≡ true = rw (p .at-is) k in
     record { located = record { at-is = p .at-is; wants = p .wants (listed-le h at listed) }; listed = listed }
 
@@ -154,4 +154,4 @@ module _ (ws vs : List (List ℕ)) where
     pub placed-new : (wanted : List Bool) → length (plan (ws ++ vs)) ≤ length wanted → vs ≡ slotWords kinds chains (x .slot)
         → SlotPlaced (WordFound (plan (ws ++ vs)) wanted) kinds chains places x → SlotPlaced (WordPlaced (plan (ws ++ vs)) wanted) kinds chains places x
     placed-new wanted h e p =
-        slot-changed _ _ kinds chains places x (λ at w i. word-listed (plan (ws ++ vs)) h at w (grown-listed (rw (← e) at i))) p
+        slot-changed _ _ kinds chains places x (λ at w i. word-listed (plan (ws ++ vs)) wanted h at w (grown-listed (rw (← e) at i))) p
