@@ -22,7 +22,7 @@ use Rattle.program.specs.declared.location.Location.the-variants.{Own, Cell, Li
 use Rattle.program.specs.declared.location.Places.{Places}
 use Rattle.program.specs.Code.{EachChain, locationAt, placeOf}
 use Rattle.program.specs.Location.{Wants, locationOf}
-use Rattle.program.specs.Terms.{TermPlaced, TestPlaced}
+use Rattle.program.specs.Terms.{TermFrom, TermPlaced, TestPlaced}
 use Rattle.text_plan.specs.Listed.{isListed, withLine, Placeable, WordFound, Marked, Below, FoundMore, Finds}
 use Rattle.text_plan.proofs.Listing.{place-told}
 
@@ -152,6 +152,12 @@ module _ (l : List Fact) (kinds chains : List ℕ) where
   term-more m at (Chain c) h = word-more l (m .marked) at (unpack c) h
   term-more m at (Number z) h = tt
   term-more m at (Tree from to) h = m .keeps from to h
+
+  -- a term by what it is known to be
+  pub finds-term : {x y : Term} → x ≡ y → (at : Location) {a b : List Bool} {p q : List ℕ}
+      → Finds l kinds chains (λ n. TermFrom n y) (λ w z. TermPlaced (WordFound l w) kinds chains z at y) a p b q
+      → Finds l kinds chains (λ n. TermFrom n x) (λ w z. TermPlaced (WordFound l w) kinds chains z at x) a p b q
+  finds-term e at h = rw e h
 
   pub test-more : {a b : List Bool} {p q : List ℕ} → FoundMore l kinds chains a p b q → (at : Places) (x : Test)
       → TestPlaced (WordFound l a) kinds chains p at x → TestPlaced (WordFound l b) kinds chains q at x
