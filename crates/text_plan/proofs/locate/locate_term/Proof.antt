@@ -68,7 +68,7 @@ returns-3 c =
     let s = t .before .before .before .before .before in
     let ks = now (s .args .kinds) in
     let cs = now (s .args .chains) in
-    finds-term _ ks cs (t .term2 .given .1) _ (c .locate-codes .ensures)
+    finds-term _ ks cs (t .term2 .given .1) _ (c .before .before .locate-codes .ensures)
 
 pub locate-term-spec : {M : Type 1} → statement M
 locate-term-spec =
