@@ -32,7 +32,7 @@ pub postfix-formed : (e : Expression) → Formed (postfix e)
 postfix-formed e = sym (ap postfix (decoded-postfix e))
 
 -- the words of an expression's codes are its readings, in their order
-readings-append : (cs ds : List Code) → codeReadings (cs ++ ds) ≡ codeReadings cs ++ codeReadings ds
+pub readings-append : (cs ds : List Code) → codeReadings (cs ++ ds) ≡ codeReadings cs ++ codeReadings ds
 unfolding codeReadings
 readings-append [] ds = refl
 readings-append (chain w ∷ cs) ds = ap (λ (l : List (List ℕ)). w ∷ l) (readings-append cs ds)

@@ -5,3 +5,4 @@ pub mod Code
 pub mod Stored
 pub mod Location
 pub mod Kept
+pub mod Terms
