@@ -1,8 +1,8 @@
 -- What operators of a rank join, element by element, with a remaining depth.
-use Prim.Native.Nat.{ℕ, suc, _+_, _-_, _≤_, _<_, max}
+use Prim.Native.Nat.{ℕ, suc, _+_, _-_, _≤_, _<_}
 use mathlib.Core.Path.{_≡_, refl, sym, ap, subst, _∙_}
 use mathlib.Core.Logic.{_≢_}
-use mathlib.Core.Bool.{Bool, true, false, cond, not}
+use mathlib.Core.Bool.{Bool, true, false, cond}
 use mathlib.Core.List.{List, [], _∷_, _++_, append-nil}
 use native.Mathlib.Omega.{arith}
 use lib.Dec.{eqb}
@@ -27,10 +27,10 @@ use Rattle.text_expressions.specs.declared.term.TermParts.{TermParts}
 use Rattle.text_expressions.specs.declared.summary.Summary.{Summary}
 use Rattle.text_expressions.specs.declared.reader.Reading.{Reading}
 use Rattle.text_expressions.specs.declared.reader.Reading.the-variants.{Read, NoForm, Deep as TooDeepRead}
-use Rattle.text_expressions.specs.Place.{tokensFrom, Behind, Passing, Absent, NoOperator}
+use Rattle.text_expressions.specs.Place.{tokensFrom, Passing, Absent, NoOperator}
 use Rattle.text_expressions.specs.Term.{partsOf, TermFormed, NoTerm}
 use Rattle.text_expressions.specs.Summary.{summaryOf, termSummary}
-use Rattle.text_expressions.specs.Reading.{Ranked, Unranked, AllDeep, ReadAs, Unread, TooDeep, ReadingAt, EndInside, GroupedAt, GroupedBy}
+use Rattle.text_expressions.specs.Reading.{Ranked, Unranked, AllDeep, ReadAs, Unread, TooDeep, ReadingAt, EndInside, GroupedBy}
 use Rattle.text_expressions.proofs.Places.{past-absent}
 use Rattle.text_expressions.proofs.ChainForms.{behind-behind}
 use Rattle.text_expressions.specs.Codes.{Arrays, arrays, termCode, codesOf, signKind, signOperator, signCodes, signSize, Wrote, WroteSign, Roomy}
@@ -42,7 +42,8 @@ pub ranked-none : (rank : Sign → Bool) {line : List ℕ} {at : ℕ} → NoOper
 unfolding operatorForm then
 ranked-none rank w = record { none = rw (w .none) }
 
-pub ranked-other : (rank : Sign → Bool) {o : Sign} {line : List ℕ} {at end : ℕ} → Passing false true (operator o) line at end → rank o ≡ false → Unranked rank line at
+pub ranked-other : (rank : Sign → Bool) {o : Sign} {line : List ℕ} {at end : ℕ} → Passing false true (operator o) line at end → rank o ≡ false → Unranked
+    rank line at
 unfolding operatorForm then oneOf held operatorIn kind
 ranked-other rank {o} {line} {at} {end} w h = record {
   none = ap (operatorForm rank) (w .text) ∙ ap (λ (b : Bool). cond b (formed o (tokensFrom true line end)) unformed) h;
@@ -95,20 +96,21 @@ smaller-joins = record { first = minimum-joined; more = minimum-more; end = mini
 -- what is joined so far, before the element that is due at place i: joins makes of that element all that is read; behind the element's codes
 -- the code of an operator is to be written, if its kind is not 0
 pub record Joined (element : List S.Token → Form Expression) (from : Expression → List S.Token → Form Expression) (reader : List S.Token → Form Expression)
-    (s : Sizes) (room : ℕ) (before : Summary) (line : List ℕ) (at : ℕ) (a : Arrays) (count : ℕ) (seen : Summary) (i codes kind : ℕ) (b : Arrays) : Type 0 where
-  pub joins : Expression → Expression
-  pub same : reader (tokensFrom true line at) ≡ then (element (tokensFrom true line i)) (λ y. from (joins y))
-  pub gathered : (y : Expression) → merged (8 - room) (summaryOf seen) (summary s y) ≡ merged (8 - room) (summaryOf before) (summary s (joins y))
-  pub deeper : (y : Expression) → depth y ≤ depth (joins y)
-  pub shallow : (y : Expression) → depth y ≤ room → depth (joins y) ≤ room
-  pub onward : at ≤ i
-  pub inside : i ≤ length line
-  pub few : seen .operators ≤ i
-  pub earlier : List Code
-  pub wrote : Wrote a b count codes earlier
-  pub coded : (y : Expression) → earlier ++ (codesOf y ++ signCodes kind) ≡ codesOf (joins y)
-  pub few-codes : codes + at + signSize kind ≤ count + i
-  pub no-number : kind ≢ 1
+    (s : Sizes) (room : ℕ) (before : Summary) (line : List ℕ) (at : ℕ) (a : Arrays) (count : ℕ) (seen : Summary) (i codes kind : ℕ) (b : Arrays) : Type 0
+  where
+    pub joins : Expression → Expression
+    pub same : reader (tokensFrom true line at) ≡ then (element (tokensFrom true line i)) (λ y. from (joins y))
+    pub gathered : (y : Expression) → merged (8 - room) (summaryOf seen) (summary s y) ≡ merged (8 - room) (summaryOf before) (summary s (joins y))
+    pub deeper : (y : Expression) → depth y ≤ depth (joins y)
+    pub shallow : (y : Expression) → depth y ≤ room → depth (joins y) ≤ room
+    pub onward : at ≤ i
+    pub inside : i ≤ length line
+    pub few : seen .operators ≤ i
+    pub earlier : List Code
+    pub wrote : Wrote a b count codes earlier
+    pub coded : (y : Expression) → earlier ++ (codesOf y ++ signCodes kind) ≡ codesOf (joins y)
+    pub few-codes : codes + at + signSize kind ≤ count + i
+    pub no-number : kind ≢ 1
 
 -- the arrays keep their room
 pub roomy-on : {a b : Arrays} {line : List ℕ} {at count i codes : ℕ} {cs : List Code} → Roomy a line at count → Wrote a b count codes cs
@@ -121,7 +123,8 @@ roomy-on r w h = record {
 
 module _ {rank : Sign → Bool} {element : List S.Token → Form Expression} {from : Expression → List S.Token → Form Expression}
     {reader : List S.Token → Form Expression} (j : Joins rank element from reader) where
-  pub joined-start : (s : Sizes) (room : ℕ) (before : Summary) {line : List ℕ} {at : ℕ} (a : Arrays) (count : ℕ) → at ≤ length line → before .operators ≤ at
+  pub joined-start : (s : Sizes) (room : ℕ) (before : Summary) {line : List ℕ} {at : ℕ} (a : Arrays) (count : ℕ) → at ≤ length line → before .operators ≤
+      at
       → Joined element from reader s room before line at a count before at count 0 a
   unfolding signCodes signSize
   joined-start s room before a count h few = record {
@@ -237,10 +240,12 @@ group-none t p = record { none = operand-other _ (t .none) ∙ past-absent openR
 pub group-full : {line : List ℕ} {at inner : ℕ} (room : ℕ) → room ≡ 0 → Passing true true openRound line at inner → TooDeep operand room line at
 group-full {line} {at} {inner} room z p = record {
   deep = subst (λ (k : ℕ). AllDeep k (operand (tokensFrom true line at))) (sym z)
-      (subst (λ (ts : List S.Token). AllDeep 0 (operand ts)) (sym (p .text)) (all-deep 0 (operand (openRound ∷ tokensFrom true line inner)) (group-deep-first (tokensFrom true line inner))));
+      (subst (λ (ts : List S.Token). AllDeep 0 (operand ts)) (sym (p .text))
+      (all-deep 0 (operand (openRound ∷ tokensFrom true line inner)) (group-deep-first (tokensFrom true line inner))));
 }
 
-module _ (s : Sizes) (room : ℕ) (before : Summary) {line : List ℕ} {at inner : ℕ} (low : room ≤ 8) (z : room ≢ 0) (p : Passing true true openRound line at inner) where
+module _ (s : Sizes) (room : ℕ) (before : Summary) {line : List ℕ} {at inner : ℕ} (low : room ≤ 8) (z : room ≢ 0)
+    (p : Passing true true openRound line at inner) where
   grouped : operand (tokensFrom true line at) ≡ then (expression (tokensFrom true line inner)) (λ e r. past closeRound r (formed (group e)))
   grouped = ap operand (p .text) ∙ operand-group _
 
@@ -283,7 +288,8 @@ module _ (s : Sizes) (room : ℕ) (before : Summary) {line : List ℕ} {at inner
         (group-deep (room - 1) (tokensFrom true line inner) (to-deep (room - 1) (expression (tokensFrom true line inner)) (e .deep)))));
   })
 
-pub reading-inside : (reader : List S.Token → Form Expression) (s : Sizes) (room : ℕ) (before : Summary) (line : List ℕ) (at : ℕ) (a b : Arrays) (count : ℕ)
+pub reading-inside : (reader : List S.Token → Form Expression) (s : Sizes) (room : ℕ) (before : Summary) (line : List ℕ) (at : ℕ) (a b : Arrays)
+    (count : ℕ)
     (r : Reading) → ReadingAt reader s room before line at a b count r → EndInside line r
 reading-inside reader s room before line at a b count (Read g end to) h = h .behind .inside
 reading-inside reader s room before line at a b count NoForm h = tt

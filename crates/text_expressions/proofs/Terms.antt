@@ -1,9 +1,9 @@
 -- Terms: a chain or a number, as it is answered.
-use Prim.Native.Nat.{ℕ, _≤_}
-use mathlib.Core.Path.{_≡_, refl, sym, ap, ap₂, _∙_}
+use Prim.Native.Nat.{ℕ}
+use mathlib.Core.Path.{_≡_, refl, sym, ap, _∙_}
 use mathlib.Core.Logic.{_≢_}
 use mathlib.Core.Bool.{Bool, true, false, not}
-use mathlib.Core.List.{List, [], _∷_, _++_}
+use mathlib.Core.List.{List, [], _∷_}
 use native.Mathlib.Omega.{arith}
 use borrow.Author.Tests.{ltb-true, ltb-false, lt-leb, le-leb}
 use lib.Dec.{leb, ltb}
@@ -21,7 +21,7 @@ use Rattle.text_syntax.specs.Token as S
 use Rattle.text_syntax.specs.Kind as K
 use Rattle.text_syntax.specs.Kind.{Kind, kind}
 use Rattle.text_syntax.specs.Form.{Form, formed, unformed, held, oneOf, then, or}
-use Rattle.text_syntax.specs.Written.{Term, chain, number}
+use Rattle.text_syntax.specs.Written.{chain, number}
 use Rattle.text_syntax.specs.Grammar.{chainForm, numberIn, termForm}
 use Rattle.text_syntax.specs.Parts.{termNamed, termKinded, isReferenceTerm, termShort, termInRange}
 use Rattle.text_syntax.specs.Printed.{printedChain}

@@ -4,7 +4,7 @@ ghost use mathlib.Core.Logic.{_≢_};
 ghost use Prim.Native.Nat.{_+_, _<_};
 ghost use lib.ListN.{length};
 ghost use Rattle.text_lexer.specs.Lexeme.{signOf};
-ghost use Rattle.text_expressions.specs.Codes.{arrays, termCode, signKind, signCodes, signSize, Wrote, WroteSign};
+ghost use Rattle.text_expressions.specs.Codes.{arrays, termCode, signKind, Wrote, WroteSign};
 use crate::term::TermParts;
 use text_lexer::token::Sign;
 

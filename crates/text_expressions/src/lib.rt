@@ -1,6 +1,7 @@
 // The expressions of a line: chains, terms, groups and what operators join, read token by token.
 pub mod chains;
 pub mod code;
+pub mod expression;
 pub mod place;
 pub mod reader;
 pub mod scan;

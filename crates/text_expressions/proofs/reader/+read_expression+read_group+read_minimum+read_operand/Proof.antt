@@ -2,9 +2,9 @@
 -- groups that of expressions, with one group less remaining.
 -- Assumes nothing.
 use Prim.Native.Nat.{ℕ, _+_, _-_, _*_, _<_}
-use mathlib.Core.Path.{refl, subst, _∙_}
+use mathlib.Core.Path.{subst, _∙_}
 use mathlib.Core.Bool.{true}
-use mathlib.Core.List.{List, []}
+use mathlib.Core.List.{[]}
 use native.Mathlib.Omega.{arith}
 use borrow.Author.Needs.{needs}
 use borrow.Fn.Kinds.{In}
@@ -134,116 +134,183 @@ group-calls t = (
 
 abbrev expression-joined : read-expression-lts.InvT-loop
 expression-joined line at sizes room kinds₀ numbers₀ chains₀ count seen₀ i₀ codes₀ kind₀ kinds numbers chains seen i codes kind =
-    Joined minimum expressionFrom expression sizes room seen₀ line at (arrays kinds₀ numbers₀ chains₀) count seen i codes kind (arrays kinds numbers chains)
+    Joined minimum expressionFrom expression sizes room seen₀ line at (arrays kinds₀ numbers₀ chains₀) count seen i codes kind
+    (arrays kinds numbers chains)
 
 abbrev expression-left : read-expression-lts.MeasureT-loop
 expression-left line at sizes room kinds₀ numbers₀ chains₀ count seen₀ i₀ codes₀ kind₀ kinds numbers chains seen i codes kind = length line - i
 
 module _ (t : ℕ) where
-  expression-loop-holds : read-expression-lts.Need-loop-holds (expression-calls t) (read-expression-at t) read-expression.Post expression-joined expression-left
+  expression-loop-holds : read-expression-lts.Need-loop-holds (expression-calls t) (read-expression-at t) read-expression.Post expression-joined
+      expression-left
   expression-loop-holds c =
       let p = c .before .before .before .pre .1 .0 in
       joined-start sum-joins _ _ _ _ _ (p .2) (p .3)
 
-  expression-read-minimum-requires : read-expression-lts.Need-read-minimum-requires (expression-calls t) (read-expression-at t) read-expression.Post expression-joined expression-left
+  expression-read-minimum-requires : read-expression-lts.Need-read-minimum-requires (expression-calls t) (read-expression-at t) read-expression.Post
+      expression-joined expression-left
   expression-read-minimum-requires c κs =
       let p = c .before .before .before .before .before .before .before .pre in
       let w = c .before .before .before .loop .inv in
       (omega (arith, p .0), ((p .1 .0 .0, p .1 .0 .1, w .inside, w .few), joined-room sum-joins w (p .1 .1)))
 
-  expression-enum-known-next : read-expression-lts.Need-enum-known-next (expression-calls t) (read-expression-at t) read-expression.Post expression-joined expression-left
+  expression-enum-known-next : read-expression-lts.Need-enum-known-next (expression-calls t) (read-expression-at t) read-expression.Post expression-joined
+      expression-left
   expression-enum-known-next c = search needs
 
   -- the element that is read, and the operator behind it
-  expression-element : (c : read-expression-lts.After-known-told (expression-calls t) (read-expression-at t) read-expression.Post expression-joined expression-left) → let a = c .before .before .before .before .before .before .before .before .before .before .before .before .before .before .before .before .args in let v = c .before .next .given .0 in let l = c .before .before .before .before .before .before .before .before .before .before .before .before .loop in
+  expression-element : (c : read-expression-lts.After-known-told (expression-calls t) (read-expression-at t) read-expression.Post expression-joined
+      expression-left) → let a =
+      c .before .before .before .before .before .before .before .before .before .before .before .before .before .before .before .before .args in let v =
+      c .before .next .given .0 in let l = c .before .before .before .before .before .before .before .before .before .before .before .before .loop in
       let p = c .before .before .before .before .before .before .before .before .read-minimum .last .1 .1 .1 .1 .1 in
-      ReadAs minimum (a .sizes) (a .room) (l .seen) (now (a .line)) (l .i) (arrays (l .kinds) (l .numbers) (l .chains)) (arrays (p .0) (p .1 .0) (p .1 .1 .0)) (l .codes)
+      ReadAs minimum (a .sizes) (a .room) (l .seen) (now (a .line)) (l .i) (arrays (l .kinds) (l .numbers) (l .chains))
+      (arrays (p .0) (p .1 .0) (p .1 .1 .0)) (l .codes)
       (v .0) (v .1 .0) (v .1 .1 .0)
-  expression-element c = subst (ReadingAt minimum _ _ _ _ _ _ _ _) (c .before .next .given .1) (c .before .before .before .before .before .before .before .before .read-minimum .ensures)
+  expression-element c = subst (ReadingAt minimum _ _ _ _ _ _ _ _) (c .before .next .given .1)
+      (c .before .before .before .before .before .before .before .before .read-minimum .ensures)
 
-  expression-room : (c : read-expression-lts.After-known-told (expression-calls t) (read-expression-at t) read-expression.Post expression-joined expression-left) → let a = c .before .before .before .before .before .before .before .before .before .before .before .before .before .before .before .before .args in let v = c .before .next .given .0 in let p = c .before .before .before .before .before .before .before .before .read-minimum .last .1 .1 .1 .1 .1 in
+  expression-room : (c : read-expression-lts.After-known-told (expression-calls t) (read-expression-at t) read-expression.Post expression-joined
+      expression-left) → let a =
+      c .before .before .before .before .before .before .before .before .before .before .before .before .before .before .before .before .args in let v =
+      c .before .next .given .0 in let p = c .before .before .before .before .before .before .before .before .read-minimum .last .1 .1 .1 .1 .1 in
       Roomy (arrays (p .0) (p .1 .0) (p .1 .1 .0)) (now (a .line)) (v .1 .0) (v .1 .1 .0)
   expression-room c = let w = c .before .before .before .before .before .before .before .before .before .before .before .before .loop .inv in
       let e = expression-element c in
-      roomy-on (joined-room sum-joins w (c .before .before .before .before .before .before .before .before .before .before .before .before .before .before .before .before .pre .1 .1)) (e .wrote) (e .few-codes)
+      roomy-on (joined-room sum-joins w
+      (c .before .before .before .before .before .before .before .before .before .before .before .before .before .before .before .before .pre .1 .1))
+      (e .wrote) (e .few-codes)
 
-  expression-put-sign-requires : read-expression-lts.Need-put-sign-requires (expression-calls t) (read-expression-at t) read-expression.Post expression-joined expression-left
-  expression-put-sign-requires c κs = (omega (arith, expression-room (c .before) .kinds, expression-element (c .before) .behind .inside), c .before .before .before .before .before .before .before .before .before .before .before .before .before .loop .inv .no-number)
+  expression-put-sign-requires : read-expression-lts.Need-put-sign-requires (expression-calls t) (read-expression-at t) read-expression.Post
+      expression-joined expression-left
+  expression-put-sign-requires c κs = (
+    omega (arith, expression-room (c .before) .kinds, expression-element (c .before) .behind .inside),
+    c .before .before .before .before .before .before .before .before .before .before .before .before .before .loop .inv .no-number,
+  )
 
-  expression-sum-sign-requires : read-expression-lts.Need-sum-sign-requires (expression-calls t) (read-expression-at t) read-expression.Post expression-joined expression-left
+  expression-sum-sign-requires : read-expression-lts.Need-sum-sign-requires (expression-calls t) (read-expression-at t) read-expression.Post
+      expression-joined expression-left
   expression-sum-sign-requires c κs = expression-element (c .before .before .before .before) .behind .inside
 
-  expression-enum-known-sign : read-expression-lts.Need-enum-known-sign (expression-calls t) (read-expression-at t) read-expression.Post expression-joined expression-left
+  expression-enum-known-sign : read-expression-lts.Need-enum-known-sign (expression-calls t) (read-expression-at t) read-expression.Post expression-joined
+      expression-left
   expression-enum-known-sign c = search needs
 
-  expression-ranked : (c : read-expression-lts.After-known-told2 (expression-calls t) (read-expression-at t) read-expression.Post expression-joined expression-left) → let v = c .before .sign .given .0 in
-      Ranked isSum (signOf (v .0)) (now (c .before .before .before .before .before .before .before .before .before .before .before .before .before .before .before .before .before .before .before .before .before .before .before .before .args .line)) (c .before .before .before .before .before .before .before .before .before .next .given .0 .1 .0) (v .1 .0)
+  expression-ranked : (c : read-expression-lts.After-known-told2 (expression-calls t) (read-expression-at t) read-expression.Post expression-joined
+      expression-left) → let v = c .before .sign .given .0 in
+      Ranked isSum (signOf (v .0))
+      (now (c .before .before .before .before .before .before .before .before .before .before .before .before .before .before .before .before .before .before .before .before .before .before .before .before .args .line)) (c .before .before .before .before .before .before .before .before .before .next .given .0 .1 .0) (v .1 .0)
   expression-ranked c = subst (RankedAt isSum _ _) (c .before .sign .given .1) (c .before .before .before .sum-sign .ensures)
 
-  expression-with-operator-requires : read-expression-lts.Need-with-operator-requires (expression-calls t) (read-expression-at t) read-expression.Post expression-joined expression-left
+  expression-with-operator-requires : read-expression-lts.Need-with-operator-requires (expression-calls t) (read-expression-at t) read-expression.Post
+      expression-joined expression-left
   expression-with-operator-requires c κs =
       let b = expression-ranked c .passing .behind in
-      omega (arith, expression-element (c .before .before .before .before .before .before .before .before) .few, b .onward, b .inside, c .before .before .before .before .before .before .before .before .before .before .before .before .before .before .before .before .before .before .before .before .before .before .before .before .good)
+      omega (
+        arith,
+        expression-element (c .before .before .before .before .before .before .before .before) .few,
+        b .onward,
+        b .inside,
+        c .before .before .before .before .before .before .before .before .before .before .before .before .before .before .before .before .before .before .before .before .before .before .before .before .good,
+      )
 
-  expression-kind-of-requires : read-expression-lts.Need-kind-of-requires (expression-calls t) (read-expression-at t) read-expression.Post expression-joined expression-left
+  expression-kind-of-requires : read-expression-lts.Need-kind-of-requires (expression-calls t) (read-expression-at t) read-expression.Post
+      expression-joined expression-left
   expression-kind-of-requires c κs = tt
 
-  expression-loop-less : read-expression-lts.Need-loop-less (expression-calls t) (read-expression-at t) read-expression.Post expression-joined expression-left
+  expression-loop-less : read-expression-lts.Need-loop-less (expression-calls t) (read-expression-at t) read-expression.Post expression-joined
+      expression-left
   expression-loop-less c =
       let b = expression-ranked (c .before .before) .passing .behind in
-      omega (arith, expression-element (c .before .before .before .before .before .before .before .before .before .before) .behind .onward, b .onward, b .inside)
+      omega (
+        arith,
+        expression-element (c .before .before .before .before .before .before .before .before .before .before) .behind .onward,
+        b .onward,
+        b .inside,
+      )
 
-  expression-loop-again : read-expression-lts.Need-loop-again (expression-calls t) (read-expression-at t) read-expression.Post expression-joined expression-left
+  expression-loop-again : read-expression-lts.Need-loop-again (expression-calls t) (read-expression-at t) read-expression.Post expression-joined
+      expression-left
   expression-loop-again c =
-      joined-more sum-joins (c .before .before .before .before .before .before .before .before .before .before .before .before .before .before .before .before .before .before .before .before .before .before .loop .inv) (expression-element (c .before .before .before .before .before .before .before .before .before .before)) (c .before .before .before .before .before .before .before .before .put-sign .ensures) (expression-ranked (c .before .before))
+      joined-more sum-joins
+      (c .before .before .before .before .before .before .before .before .before .before .before .before .before .before .before .before .before .before .before .before .before .before .loop .inv) (expression-element (c .before .before .before .before .before .before .before .before .before .before)) (c .before .before .before .before .before .before .before .before .put-sign .ensures) (expression-ranked (c .before .before))
       (c .before .with-operator .ensures) (c .kind-of .ensures)
 
-  expression-enum-told : read-expression-lts.Need-enum-told (expression-calls t) (read-expression-at t) read-expression.Post expression-joined expression-left
+  expression-enum-told : read-expression-lts.Need-enum-told (expression-calls t) (read-expression-at t) read-expression.Post expression-joined
+      expression-left
   expression-enum-told c = search needs
 
-  expression-same-length : read-expression-lts.Need-same-length (expression-calls t) (read-expression-at t) read-expression.Post expression-joined expression-left
-  expression-same-length c = c .before .before .before .before .before .put-sign .ensures .wrote [] [] .kinds-length ∙ expression-element (c .before .before .before .before .before .before .before) .wrote .kinds-length ∙ c .before .before .before .before .before .before .before .before .before .before .before .before .before .before .before .before .before .before .before .loop .inv .wrote .kinds-length
+  expression-same-length : read-expression-lts.Need-same-length (expression-calls t) (read-expression-at t) read-expression.Post expression-joined
+      expression-left
+  expression-same-length c = c .before .before .before .before .before .put-sign .ensures .wrote [] [] .kinds-length ∙ expression-element
+      (c .before .before .before .before .before .before .before) .wrote .kinds-length ∙
+      c .before .before .before .before .before .before .before .before .before .before .before .before .before .before .before .before .before .before .before .loop .inv .wrote .kinds-length
 
-  expression-same-length-2 : read-expression-lts.Need-same-length-2 (expression-calls t) (read-expression-at t) read-expression.Post expression-joined expression-left
-  expression-same-length-2 c = expression-element (c .before .before .before .before .before .before .before) .wrote .numbers-length ∙ c .before .before .before .before .before .before .before .before .before .before .before .before .before .before .before .before .before .before .before .loop .inv .wrote .numbers-length
+  expression-same-length-2 : read-expression-lts.Need-same-length-2 (expression-calls t) (read-expression-at t) read-expression.Post expression-joined
+      expression-left
+  expression-same-length-2 c = expression-element (c .before .before .before .before .before .before .before) .wrote .numbers-length ∙
+      c .before .before .before .before .before .before .before .before .before .before .before .before .before .before .before .before .before .before .before .loop .inv .wrote .numbers-length
 
-  expression-same-length-3 : read-expression-lts.Need-same-length-3 (expression-calls t) (read-expression-at t) read-expression.Post expression-joined expression-left
-  expression-same-length-3 c = expression-element (c .before .before .before .before .before .before .before) .wrote .chains-length ∙ c .before .before .before .before .before .before .before .before .before .before .before .before .before .before .before .before .before .before .before .loop .inv .wrote .chains-length
+  expression-same-length-3 : read-expression-lts.Need-same-length-3 (expression-calls t) (read-expression-at t) read-expression.Post expression-joined
+      expression-left
+  expression-same-length-3 c = expression-element (c .before .before .before .before .before .before .before) .wrote .chains-length ∙
+      c .before .before .before .before .before .before .before .before .before .before .before .before .before .before .before .before .before .before .before .loop .inv .wrote .chains-length
 
   expression-returns : read-expression-lts.Need-returns (expression-calls t) (read-expression-at t) read-expression.Post expression-joined expression-left
   expression-returns c =
-      joined-done sum-joins (c .before .before .before .before .before .before .before .before .before .before .before .before .before .before .before .before .before .before .before .loop .inv) (expression-element (c .before .before .before .before .before .before .before)) (c .before .before .before .before .before .put-sign .ensures)
+      joined-done sum-joins
+      (c .before .before .before .before .before .before .before .before .before .before .before .before .before .before .before .before .before .before .before .loop .inv) (expression-element (c .before .before .before .before .before .before .before)) (c .before .before .before .before .before .put-sign .ensures)
       (subst (RankedAt isSum _ _) (c .enum-told .given .1) (c .before .before .sum-sign .ensures))
 
-  expression-enum-told-2 : read-expression-lts.Need-enum-told-2 (expression-calls t) (read-expression-at t) read-expression.Post expression-joined expression-left
+  expression-enum-told-2 : read-expression-lts.Need-enum-told-2 (expression-calls t) (read-expression-at t) read-expression.Post expression-joined
+      expression-left
   expression-enum-told-2 c = search needs
 
-  expression-same-length-4 : read-expression-lts.Need-same-length-4 (expression-calls t) (read-expression-at t) read-expression.Post expression-joined expression-left
-  expression-same-length-4 c = c .before .before .before .before .before .before .before .read-minimum .kept .1 .1 .1 .1 .1 .0 ∙ c .before .before .before .before .before .before .before .before .before .before .before .loop .inv .wrote .kinds-length
+  expression-same-length-4 : read-expression-lts.Need-same-length-4 (expression-calls t) (read-expression-at t) read-expression.Post expression-joined
+      expression-left
+  expression-same-length-4 c = c .before .before .before .before .before .before .before .read-minimum .kept .1 .1 .1 .1 .1 .0 ∙
+      c .before .before .before .before .before .before .before .before .before .before .before .loop .inv .wrote .kinds-length
 
-  expression-same-length-5 : read-expression-lts.Need-same-length-5 (expression-calls t) (read-expression-at t) read-expression.Post expression-joined expression-left
-  expression-same-length-5 c = c .before .before .before .before .before .before .before .read-minimum .kept .1 .1 .1 .1 .1 .1 .0 ∙ c .before .before .before .before .before .before .before .before .before .before .before .loop .inv .wrote .numbers-length
+  expression-same-length-5 : read-expression-lts.Need-same-length-5 (expression-calls t) (read-expression-at t) read-expression.Post expression-joined
+      expression-left
+  expression-same-length-5 c = c .before .before .before .before .before .before .before .read-minimum .kept .1 .1 .1 .1 .1 .1 .0 ∙
+      c .before .before .before .before .before .before .before .before .before .before .before .loop .inv .wrote .numbers-length
 
-  expression-same-length-6 : read-expression-lts.Need-same-length-6 (expression-calls t) (read-expression-at t) read-expression.Post expression-joined expression-left
-  expression-same-length-6 c = c .before .before .before .before .before .before .before .read-minimum .kept .1 .1 .1 .1 .1 .1 .1 .0 ∙ c .before .before .before .before .before .before .before .before .before .before .before .loop .inv .wrote .chains-length
+  expression-same-length-6 : read-expression-lts.Need-same-length-6 (expression-calls t) (read-expression-at t) read-expression.Post expression-joined
+      expression-left
+  expression-same-length-6 c = c .before .before .before .before .before .before .before .read-minimum .kept .1 .1 .1 .1 .1 .1 .1 .0 ∙
+      c .before .before .before .before .before .before .before .before .before .before .before .loop .inv .wrote .chains-length
 
-  expression-returns-2 : read-expression-lts.Need-returns-2 (expression-calls t) (read-expression-at t) read-expression.Post expression-joined expression-left
-  expression-returns-2 c = joined-none sum-joins (c .before .before .before .before .before .before .before .before .before .before .before .loop .inv) (subst (ReadingAt minimum _ _ _ _ _ _ _ _) (c .enum-told2 .given .1) (c .before .before .before .before .before .before .before .read-minimum .ensures))
+  expression-returns-2 : read-expression-lts.Need-returns-2 (expression-calls t) (read-expression-at t) read-expression.Post expression-joined
+      expression-left
+  expression-returns-2 c = joined-none sum-joins (c .before .before .before .before .before .before .before .before .before .before .before .loop .inv)
+      (subst (ReadingAt minimum _ _ _ _ _ _ _ _) (c .enum-told2 .given .1)
+      (c .before .before .before .before .before .before .before .read-minimum .ensures))
 
-  expression-enum-told-3 : read-expression-lts.Need-enum-told-3 (expression-calls t) (read-expression-at t) read-expression.Post expression-joined expression-left
+  expression-enum-told-3 : read-expression-lts.Need-enum-told-3 (expression-calls t) (read-expression-at t) read-expression.Post expression-joined
+      expression-left
   expression-enum-told-3 c = search needs
 
-  expression-same-length-7 : read-expression-lts.Need-same-length-7 (expression-calls t) (read-expression-at t) read-expression.Post expression-joined expression-left
-  expression-same-length-7 c = c .before .before .before .before .before .before .before .read-minimum .kept .1 .1 .1 .1 .1 .0 ∙ c .before .before .before .before .before .before .before .before .before .before .before .loop .inv .wrote .kinds-length
+  expression-same-length-7 : read-expression-lts.Need-same-length-7 (expression-calls t) (read-expression-at t) read-expression.Post expression-joined
+      expression-left
+  expression-same-length-7 c = c .before .before .before .before .before .before .before .read-minimum .kept .1 .1 .1 .1 .1 .0 ∙
+      c .before .before .before .before .before .before .before .before .before .before .before .loop .inv .wrote .kinds-length
 
-  expression-same-length-8 : read-expression-lts.Need-same-length-8 (expression-calls t) (read-expression-at t) read-expression.Post expression-joined expression-left
-  expression-same-length-8 c = c .before .before .before .before .before .before .before .read-minimum .kept .1 .1 .1 .1 .1 .1 .0 ∙ c .before .before .before .before .before .before .before .before .before .before .before .loop .inv .wrote .numbers-length
+  expression-same-length-8 : read-expression-lts.Need-same-length-8 (expression-calls t) (read-expression-at t) read-expression.Post expression-joined
+      expression-left
+  expression-same-length-8 c = c .before .before .before .before .before .before .before .read-minimum .kept .1 .1 .1 .1 .1 .1 .0 ∙
+      c .before .before .before .before .before .before .before .before .before .before .before .loop .inv .wrote .numbers-length
 
-  expression-same-length-9 : read-expression-lts.Need-same-length-9 (expression-calls t) (read-expression-at t) read-expression.Post expression-joined expression-left
-  expression-same-length-9 c = c .before .before .before .before .before .before .before .read-minimum .kept .1 .1 .1 .1 .1 .1 .1 .0 ∙ c .before .before .before .before .before .before .before .before .before .before .before .loop .inv .wrote .chains-length
+  expression-same-length-9 : read-expression-lts.Need-same-length-9 (expression-calls t) (read-expression-at t) read-expression.Post expression-joined
+      expression-left
+  expression-same-length-9 c = c .before .before .before .before .before .before .before .read-minimum .kept .1 .1 .1 .1 .1 .1 .1 .0 ∙
+      c .before .before .before .before .before .before .before .before .before .before .before .loop .inv .wrote .chains-length
 
-  expression-returns-3 : read-expression-lts.Need-returns-3 (expression-calls t) (read-expression-at t) read-expression.Post expression-joined expression-left
-  expression-returns-3 c = joined-deep sum-joins (c .before .before .before .before .before .before .before .before .before .before .before .loop .inv) (subst (ReadingAt minimum _ _ _ _ _ _ _ _) (c .enum-told3 .given .1) (c .before .before .before .before .before .before .before .read-minimum .ensures))
+  expression-returns-3 : read-expression-lts.Need-returns-3 (expression-calls t) (read-expression-at t) read-expression.Post expression-joined
+      expression-left
+  expression-returns-3 c = joined-deep sum-joins (c .before .before .before .before .before .before .before .before .before .before .before .loop .inv)
+      (subst (ReadingAt minimum _ _ _ _ _ _ _ _) (c .enum-told3 .given .1)
+      (c .before .before .before .before .before .before .before .read-minimum .ensures))
 
 abbrev minimum-joined : read-minimum-lts.InvT-loop
 minimum-joined line at sizes room kinds₀ numbers₀ chains₀ count seen₀ i₀ codes₀ kind₀ kinds numbers chains seen i codes kind =
@@ -258,7 +325,8 @@ module _ (t : ℕ) where
       let p = c .before .before .before .pre .1 .0 in
       joined-start smaller-joins _ _ _ _ _ (p .2) (p .3)
 
-  minimum-read-operand-requires : read-minimum-lts.Need-read-operand-requires (minimum-calls t) (read-minimum-at t) read-minimum.Post minimum-joined minimum-left
+  minimum-read-operand-requires : read-minimum-lts.Need-read-operand-requires (minimum-calls t) (read-minimum-at t) read-minimum.Post minimum-joined
+      minimum-left
   minimum-read-operand-requires c κs =
       let p = c .before .before .before .before .before .before .before .pre in
       let w = c .before .before .before .loop .inv in
@@ -268,35 +336,56 @@ module _ (t : ℕ) where
   minimum-enum-known-next c = search needs
 
   -- the element that is read, and the operator behind it
-  minimum-element : (c : read-minimum-lts.After-known-told (minimum-calls t) (read-minimum-at t) read-minimum.Post minimum-joined minimum-left) → let a = c .before .before .before .before .before .before .before .before .before .before .before .before .before .before .before .before .args in let v = c .before .next .given .0 in let l = c .before .before .before .before .before .before .before .before .before .before .before .before .loop in
+  minimum-element : (c : read-minimum-lts.After-known-told (minimum-calls t) (read-minimum-at t) read-minimum.Post minimum-joined minimum-left) → let a =
+      c .before .before .before .before .before .before .before .before .before .before .before .before .before .before .before .before .args in let v =
+      c .before .next .given .0 in let l = c .before .before .before .before .before .before .before .before .before .before .before .before .loop in
       let p = c .before .before .before .before .before .before .before .before .read-operand .last .1 .1 .1 .1 .1 in
-      ReadAs operand (a .sizes) (a .room) (l .seen) (now (a .line)) (l .i) (arrays (l .kinds) (l .numbers) (l .chains)) (arrays (p .0) (p .1 .0) (p .1 .1 .0)) (l .codes)
+      ReadAs operand (a .sizes) (a .room) (l .seen) (now (a .line)) (l .i) (arrays (l .kinds) (l .numbers) (l .chains))
+      (arrays (p .0) (p .1 .0) (p .1 .1 .0)) (l .codes)
       (v .0) (v .1 .0) (v .1 .1 .0)
-  minimum-element c = subst (ReadingAt operand _ _ _ _ _ _ _ _) (c .before .next .given .1) (c .before .before .before .before .before .before .before .before .read-operand .ensures)
+  minimum-element c = subst (ReadingAt operand _ _ _ _ _ _ _ _) (c .before .next .given .1)
+      (c .before .before .before .before .before .before .before .before .read-operand .ensures)
 
-  minimum-room : (c : read-minimum-lts.After-known-told (minimum-calls t) (read-minimum-at t) read-minimum.Post minimum-joined minimum-left) → let a = c .before .before .before .before .before .before .before .before .before .before .before .before .before .before .before .before .args in let v = c .before .next .given .0 in let p = c .before .before .before .before .before .before .before .before .read-operand .last .1 .1 .1 .1 .1 in
+  minimum-room : (c : read-minimum-lts.After-known-told (minimum-calls t) (read-minimum-at t) read-minimum.Post minimum-joined minimum-left) → let a =
+      c .before .before .before .before .before .before .before .before .before .before .before .before .before .before .before .before .args in let v =
+      c .before .next .given .0 in let p = c .before .before .before .before .before .before .before .before .read-operand .last .1 .1 .1 .1 .1 in
       Roomy (arrays (p .0) (p .1 .0) (p .1 .1 .0)) (now (a .line)) (v .1 .0) (v .1 .1 .0)
   minimum-room c = let w = c .before .before .before .before .before .before .before .before .before .before .before .before .loop .inv in
       let e = minimum-element c in
-      roomy-on (joined-room smaller-joins w (c .before .before .before .before .before .before .before .before .before .before .before .before .before .before .before .before .pre .1 .1)) (e .wrote) (e .few-codes)
+      roomy-on (joined-room smaller-joins w
+      (c .before .before .before .before .before .before .before .before .before .before .before .before .before .before .before .before .pre .1 .1))
+      (e .wrote) (e .few-codes)
 
   minimum-put-sign-requires : read-minimum-lts.Need-put-sign-requires (minimum-calls t) (read-minimum-at t) read-minimum.Post minimum-joined minimum-left
-  minimum-put-sign-requires c κs = (omega (arith, minimum-room (c .before) .kinds, minimum-element (c .before) .behind .inside), c .before .before .before .before .before .before .before .before .before .before .before .before .before .loop .inv .no-number)
+  minimum-put-sign-requires c κs = (
+    omega (arith, minimum-room (c .before) .kinds, minimum-element (c .before) .behind .inside),
+    c .before .before .before .before .before .before .before .before .before .before .before .before .before .loop .inv .no-number,
+  )
 
-  minimum-smaller-sign-requires : read-minimum-lts.Need-smaller-sign-requires (minimum-calls t) (read-minimum-at t) read-minimum.Post minimum-joined minimum-left
+  minimum-smaller-sign-requires : read-minimum-lts.Need-smaller-sign-requires (minimum-calls t) (read-minimum-at t) read-minimum.Post minimum-joined
+      minimum-left
   minimum-smaller-sign-requires c κs = minimum-element (c .before .before .before .before) .behind .inside
 
   minimum-enum-known-sign : read-minimum-lts.Need-enum-known-sign (minimum-calls t) (read-minimum-at t) read-minimum.Post minimum-joined minimum-left
   minimum-enum-known-sign c = search needs
 
-  minimum-ranked : (c : read-minimum-lts.After-known-told2 (minimum-calls t) (read-minimum-at t) read-minimum.Post minimum-joined minimum-left) → let v = c .before .sign .given .0 in
-      Ranked isSmaller (signOf (v .0)) (now (c .before .before .before .before .before .before .before .before .before .before .before .before .before .before .before .before .before .before .before .before .before .before .before .before .args .line)) (c .before .before .before .before .before .before .before .before .before .next .given .0 .1 .0) (v .1 .0)
+  minimum-ranked : (c : read-minimum-lts.After-known-told2 (minimum-calls t) (read-minimum-at t) read-minimum.Post minimum-joined minimum-left) → let v =
+      c .before .sign .given .0 in
+      Ranked isSmaller (signOf (v .0))
+      (now (c .before .before .before .before .before .before .before .before .before .before .before .before .before .before .before .before .before .before .before .before .before .before .before .before .args .line)) (c .before .before .before .before .before .before .before .before .before .next .given .0 .1 .0) (v .1 .0)
   minimum-ranked c = subst (RankedAt isSmaller _ _) (c .before .sign .given .1) (c .before .before .before .smaller-sign .ensures)
 
-  minimum-with-operator-requires : read-minimum-lts.Need-with-operator-requires (minimum-calls t) (read-minimum-at t) read-minimum.Post minimum-joined minimum-left
+  minimum-with-operator-requires : read-minimum-lts.Need-with-operator-requires (minimum-calls t) (read-minimum-at t) read-minimum.Post minimum-joined
+      minimum-left
   minimum-with-operator-requires c κs =
       let b = minimum-ranked c .passing .behind in
-      omega (arith, minimum-element (c .before .before .before .before .before .before .before .before) .few, b .onward, b .inside, c .before .before .before .before .before .before .before .before .before .before .before .before .before .before .before .before .before .before .before .before .before .before .before .before .good)
+      omega (
+        arith,
+        minimum-element (c .before .before .before .before .before .before .before .before) .few,
+        b .onward,
+        b .inside,
+        c .before .before .before .before .before .before .before .before .before .before .before .before .before .before .before .before .before .before .before .before .before .before .before .before .good,
+      )
 
   minimum-kind-of-requires : read-minimum-lts.Need-kind-of-requires (minimum-calls t) (read-minimum-at t) read-minimum.Post minimum-joined minimum-left
   minimum-kind-of-requires c κs = tt
@@ -304,59 +393,80 @@ module _ (t : ℕ) where
   minimum-loop-less : read-minimum-lts.Need-loop-less (minimum-calls t) (read-minimum-at t) read-minimum.Post minimum-joined minimum-left
   minimum-loop-less c =
       let b = minimum-ranked (c .before .before) .passing .behind in
-      omega (arith, minimum-element (c .before .before .before .before .before .before .before .before .before .before) .behind .onward, b .onward, b .inside)
+      omega (
+        arith,
+        minimum-element (c .before .before .before .before .before .before .before .before .before .before) .behind .onward,
+        b .onward,
+        b .inside,
+      )
 
   minimum-loop-again : read-minimum-lts.Need-loop-again (minimum-calls t) (read-minimum-at t) read-minimum.Post minimum-joined minimum-left
   minimum-loop-again c =
-      joined-more smaller-joins (c .before .before .before .before .before .before .before .before .before .before .before .before .before .before .before .before .before .before .before .before .before .before .loop .inv) (minimum-element (c .before .before .before .before .before .before .before .before .before .before)) (c .before .before .before .before .before .before .before .before .put-sign .ensures) (minimum-ranked (c .before .before))
+      joined-more smaller-joins
+      (c .before .before .before .before .before .before .before .before .before .before .before .before .before .before .before .before .before .before .before .before .before .before .loop .inv) (minimum-element (c .before .before .before .before .before .before .before .before .before .before)) (c .before .before .before .before .before .before .before .before .put-sign .ensures) (minimum-ranked (c .before .before))
       (c .before .with-operator .ensures) (c .kind-of .ensures)
 
   minimum-enum-told : read-minimum-lts.Need-enum-told (minimum-calls t) (read-minimum-at t) read-minimum.Post minimum-joined minimum-left
   minimum-enum-told c = search needs
 
   minimum-same-length : read-minimum-lts.Need-same-length (minimum-calls t) (read-minimum-at t) read-minimum.Post minimum-joined minimum-left
-  minimum-same-length c = c .before .before .before .before .before .put-sign .ensures .wrote [] [] .kinds-length ∙ minimum-element (c .before .before .before .before .before .before .before) .wrote .kinds-length ∙ c .before .before .before .before .before .before .before .before .before .before .before .before .before .before .before .before .before .before .before .loop .inv .wrote .kinds-length
+  minimum-same-length c = c .before .before .before .before .before .put-sign .ensures .wrote [] [] .kinds-length ∙ minimum-element
+      (c .before .before .before .before .before .before .before) .wrote .kinds-length ∙
+      c .before .before .before .before .before .before .before .before .before .before .before .before .before .before .before .before .before .before .before .loop .inv .wrote .kinds-length
 
   minimum-same-length-2 : read-minimum-lts.Need-same-length-2 (minimum-calls t) (read-minimum-at t) read-minimum.Post minimum-joined minimum-left
-  minimum-same-length-2 c = minimum-element (c .before .before .before .before .before .before .before) .wrote .numbers-length ∙ c .before .before .before .before .before .before .before .before .before .before .before .before .before .before .before .before .before .before .before .loop .inv .wrote .numbers-length
+  minimum-same-length-2 c = minimum-element (c .before .before .before .before .before .before .before) .wrote .numbers-length ∙
+      c .before .before .before .before .before .before .before .before .before .before .before .before .before .before .before .before .before .before .before .loop .inv .wrote .numbers-length
 
   minimum-same-length-3 : read-minimum-lts.Need-same-length-3 (minimum-calls t) (read-minimum-at t) read-minimum.Post minimum-joined minimum-left
-  minimum-same-length-3 c = minimum-element (c .before .before .before .before .before .before .before) .wrote .chains-length ∙ c .before .before .before .before .before .before .before .before .before .before .before .before .before .before .before .before .before .before .before .loop .inv .wrote .chains-length
+  minimum-same-length-3 c = minimum-element (c .before .before .before .before .before .before .before) .wrote .chains-length ∙
+      c .before .before .before .before .before .before .before .before .before .before .before .before .before .before .before .before .before .before .before .loop .inv .wrote .chains-length
 
   minimum-returns : read-minimum-lts.Need-returns (minimum-calls t) (read-minimum-at t) read-minimum.Post minimum-joined minimum-left
   minimum-returns c =
-      joined-done smaller-joins (c .before .before .before .before .before .before .before .before .before .before .before .before .before .before .before .before .before .before .before .loop .inv) (minimum-element (c .before .before .before .before .before .before .before)) (c .before .before .before .before .before .put-sign .ensures)
+      joined-done smaller-joins
+      (c .before .before .before .before .before .before .before .before .before .before .before .before .before .before .before .before .before .before .before .loop .inv) (minimum-element (c .before .before .before .before .before .before .before)) (c .before .before .before .before .before .put-sign .ensures)
       (subst (RankedAt isSmaller _ _) (c .enum-told .given .1) (c .before .before .smaller-sign .ensures))
 
   minimum-enum-told-2 : read-minimum-lts.Need-enum-told-2 (minimum-calls t) (read-minimum-at t) read-minimum.Post minimum-joined minimum-left
   minimum-enum-told-2 c = search needs
 
   minimum-same-length-4 : read-minimum-lts.Need-same-length-4 (minimum-calls t) (read-minimum-at t) read-minimum.Post minimum-joined minimum-left
-  minimum-same-length-4 c = c .before .before .before .before .before .before .before .read-operand .kept .1 .1 .1 .1 .1 .0 ∙ c .before .before .before .before .before .before .before .before .before .before .before .loop .inv .wrote .kinds-length
+  minimum-same-length-4 c = c .before .before .before .before .before .before .before .read-operand .kept .1 .1 .1 .1 .1 .0 ∙
+      c .before .before .before .before .before .before .before .before .before .before .before .loop .inv .wrote .kinds-length
 
   minimum-same-length-5 : read-minimum-lts.Need-same-length-5 (minimum-calls t) (read-minimum-at t) read-minimum.Post minimum-joined minimum-left
-  minimum-same-length-5 c = c .before .before .before .before .before .before .before .read-operand .kept .1 .1 .1 .1 .1 .1 .0 ∙ c .before .before .before .before .before .before .before .before .before .before .before .loop .inv .wrote .numbers-length
+  minimum-same-length-5 c = c .before .before .before .before .before .before .before .read-operand .kept .1 .1 .1 .1 .1 .1 .0 ∙
+      c .before .before .before .before .before .before .before .before .before .before .before .loop .inv .wrote .numbers-length
 
   minimum-same-length-6 : read-minimum-lts.Need-same-length-6 (minimum-calls t) (read-minimum-at t) read-minimum.Post minimum-joined minimum-left
-  minimum-same-length-6 c = c .before .before .before .before .before .before .before .read-operand .kept .1 .1 .1 .1 .1 .1 .1 .0 ∙ c .before .before .before .before .before .before .before .before .before .before .before .loop .inv .wrote .chains-length
+  minimum-same-length-6 c = c .before .before .before .before .before .before .before .read-operand .kept .1 .1 .1 .1 .1 .1 .1 .0 ∙
+      c .before .before .before .before .before .before .before .before .before .before .before .loop .inv .wrote .chains-length
 
   minimum-returns-2 : read-minimum-lts.Need-returns-2 (minimum-calls t) (read-minimum-at t) read-minimum.Post minimum-joined minimum-left
-  minimum-returns-2 c = joined-none smaller-joins (c .before .before .before .before .before .before .before .before .before .before .before .loop .inv) (subst (ReadingAt operand _ _ _ _ _ _ _ _) (c .enum-told2 .given .1) (c .before .before .before .before .before .before .before .read-operand .ensures))
+  minimum-returns-2 c = joined-none smaller-joins (c .before .before .before .before .before .before .before .before .before .before .before .loop .inv)
+      (subst (ReadingAt operand _ _ _ _ _ _ _ _) (c .enum-told2 .given .1)
+      (c .before .before .before .before .before .before .before .read-operand .ensures))
 
   minimum-enum-told-3 : read-minimum-lts.Need-enum-told-3 (minimum-calls t) (read-minimum-at t) read-minimum.Post minimum-joined minimum-left
   minimum-enum-told-3 c = search needs
 
   minimum-same-length-7 : read-minimum-lts.Need-same-length-7 (minimum-calls t) (read-minimum-at t) read-minimum.Post minimum-joined minimum-left
-  minimum-same-length-7 c = c .before .before .before .before .before .before .before .read-operand .kept .1 .1 .1 .1 .1 .0 ∙ c .before .before .before .before .before .before .before .before .before .before .before .loop .inv .wrote .kinds-length
+  minimum-same-length-7 c = c .before .before .before .before .before .before .before .read-operand .kept .1 .1 .1 .1 .1 .0 ∙
+      c .before .before .before .before .before .before .before .before .before .before .before .loop .inv .wrote .kinds-length
 
   minimum-same-length-8 : read-minimum-lts.Need-same-length-8 (minimum-calls t) (read-minimum-at t) read-minimum.Post minimum-joined minimum-left
-  minimum-same-length-8 c = c .before .before .before .before .before .before .before .read-operand .kept .1 .1 .1 .1 .1 .1 .0 ∙ c .before .before .before .before .before .before .before .before .before .before .before .loop .inv .wrote .numbers-length
+  minimum-same-length-8 c = c .before .before .before .before .before .before .before .read-operand .kept .1 .1 .1 .1 .1 .1 .0 ∙
+      c .before .before .before .before .before .before .before .before .before .before .before .loop .inv .wrote .numbers-length
 
   minimum-same-length-9 : read-minimum-lts.Need-same-length-9 (minimum-calls t) (read-minimum-at t) read-minimum.Post minimum-joined minimum-left
-  minimum-same-length-9 c = c .before .before .before .before .before .before .before .read-operand .kept .1 .1 .1 .1 .1 .1 .1 .0 ∙ c .before .before .before .before .before .before .before .before .before .before .before .loop .inv .wrote .chains-length
+  minimum-same-length-9 c = c .before .before .before .before .before .before .before .read-operand .kept .1 .1 .1 .1 .1 .1 .1 .0 ∙
+      c .before .before .before .before .before .before .before .before .before .before .before .loop .inv .wrote .chains-length
 
   minimum-returns-3 : read-minimum-lts.Need-returns-3 (minimum-calls t) (read-minimum-at t) read-minimum.Post minimum-joined minimum-left
-  minimum-returns-3 c = joined-deep smaller-joins (c .before .before .before .before .before .before .before .before .before .before .before .loop .inv) (subst (ReadingAt operand _ _ _ _ _ _ _ _) (c .enum-told3 .given .1) (c .before .before .before .before .before .before .before .read-operand .ensures))
+  minimum-returns-3 c = joined-deep smaller-joins (c .before .before .before .before .before .before .before .before .before .before .before .loop .inv)
+      (subst (ReadingAt operand _ _ _ _ _ _ _ _) (c .enum-told3 .given .1)
+      (c .before .before .before .before .before .before .before .read-operand .ensures))
 
 module _ (t : ℕ) where
   operand-read-term-requires : read-operand-lts.Need-read-term-requires (operand-calls t) (read-operand-at t) read-operand.Post
@@ -372,8 +482,17 @@ module _ (t : ℕ) where
 
   operand-read-group-requires : read-operand-lts.Need-read-group-requires (operand-calls t) (read-operand-at t) read-operand.Post
   operand-read-group-requires c κs =
-      let p = c .before .before .before .before .before .before .before .before .before .pre in
-      (omega (arith, p .0), (p .1 .0, (p .1 .1, subst (TermAt _ _ _) (c .before .before .before .enum-told .given .1) (c .before .before .before .before .before .read-term .ensures))))
+      let p = c .before .before .before .before .before .before .before .before .before .pre in (
+        omega (arith, p .0),
+        (
+          p .1 .0,
+          (
+            p .1 .1,
+            subst (TermAt _ _ _) (c .before .before .before .enum-told .given .1)
+                (c .before .before .before .before .before .read-term .ensures),
+          ),
+        ),
+      )
 
   operand-same-length : read-operand-lts.Need-same-length (operand-calls t) (read-operand-at t) read-operand.Post
   operand-same-length c = c .before .before .before .before .before .read-group .kept .1 .1 .1 .1 .1 .0
@@ -394,13 +513,21 @@ module _ (t : ℕ) where
       (omega (arith, r .kinds, p), omega (arith, r .numbers, p), omega (arith, r .chains, p))
 
   operand-sub-with-term : read-operand-lts.Need-sub-with-term (operand-calls t) (read-operand-at t) read-operand.Post
-  operand-sub-with-term c = c .before .before .before .before .before .before .before .before .before .before .before .before .before .before .before .before .pre .1 .0 .1
+  operand-sub-with-term c =
+      c .before .before .before .before .before .before .before .before .before .before .before .before .before .before .before .before .pre .1 .0 .1
 
   operand-with-term-requires : read-operand-lts.Need-with-term-requires (operand-calls t) (read-operand-at t) read-operand.Post
   operand-with-term-requires c κs = tt
 
   operand-add-t28 : read-operand-lts.Need-add-t28 (operand-calls t) (read-operand-at t) read-operand.Post
-  operand-add-t28 c = record { fits = omega (arith, c .before .before .before .before .before .before .before .before .before .before .before .before .before .before .before .before .before .pre .1 .1 .kinds, c .before .before .before .before .before .before .before .before .before .before .before .before .before .before .before .before .before .pre .1 .0 .2, c .before .before .before .before .before .before .before .before .before .before .before .before .before .before .before .before .before .good) }
+  operand-add-t28 c = record {
+    fits = omega (
+      arith,
+      c .before .before .before .before .before .before .before .before .before .before .before .before .before .before .before .before .before .pre .1 .1 .kinds,
+      c .before .before .before .before .before .before .before .before .before .before .before .before .before .before .before .before .before .pre .1 .0 .2,
+      c .before .before .before .before .before .before .before .before .before .before .before .before .before .before .before .before .before .good,
+    );
+  }
 
   operand-same-length-4 : read-operand-lts.Need-same-length-4 (operand-calls t) (read-operand-at t) read-operand.Post
   operand-same-length-4 c = c .before .before .before .before .before .before .put-term .ensures .kinds-length
@@ -427,10 +554,13 @@ module _ (t : ℕ) where
   group-enum-told c = search needs
 
   group-returns : read-group-lts.Need-returns (group-calls t) (read-group-at t) read-group.Post
-  group-returns c = group-none (c .before .before .before .before .before .before .pre .1 .1 .1) (subst (Passes true true openRound _ _) (c .enum-told .given .1) (c .before .before .open-round .ensures))
+  group-returns c = group-none (c .before .before .before .before .before .before .pre .1 .1 .1)
+      (subst (Passes true true openRound _ _) (c .enum-told .given .1) (c .before .before .open-round .ensures))
 
   -- the group opens
-  group-opens : (c : read-group-lts.After-known-told (group-calls t) (read-group-at t) read-group.Post) → let a = c .before .before .before .before .before .before .before .args in Passing true true openRound (now (a .line)) (a .at) (c .before .inner .given .0 .0)
+  group-opens : (c : read-group-lts.After-known-told (group-calls t) (read-group-at t) read-group.Post) → let a =
+      c .before .before .before .before .before .before .before .args in Passing true true openRound (now (a .line)) (a .at)
+      (c .before .inner .given .0 .0)
   group-opens c = subst (Passes true true openRound _ _) (c .before .inner .given .1) (c .before .before .before .open-round .ensures)
 
   group-returns-2 : read-group-lts.Need-returns-2 (group-calls t) (read-group-at t) read-group.Post
@@ -447,7 +577,12 @@ module _ (t : ℕ) where
         omega (arith, p .0, c .before .before .before .if1 .left),
         (
           (p .1 .0 .0, omega (arith, p .1 .0 .1), b .inside, omega (arith, p .1 .0 .3, b .onward)),
-          record { kinds = omega (arith, r .kinds, b .onward); numbers = omega (arith, r .numbers, b .onward); chains = omega (arith, r .chains, b .onward) },
+          record {
+            kinds = omega (arith, r .kinds, b .onward);
+            numbers = omega (arith, r .numbers, b .onward);
+            chains = omega
+                (arith, r .chains, b .onward);
+          },
         ),
       )
 
@@ -455,7 +590,8 @@ module _ (t : ℕ) where
   group-close-group-requires c κs =
       let a = c .before .before .before .before .before .before .before .before .before .before .before .before .before .before .before .before .before .args in
       let p = c .before .before .before .before .before .read-expression .last .1 .1 .1 .1 .1 in
-      reading-inside expression (a .sizes) (a .room - 1) (a .«before») (now (a .line)) (c .before .before .before .before .before .before .before .before .before .before .before .inner .given .0 .0)
+      reading-inside expression (a .sizes) (a .room - 1) (a .«before») (now (a .line))
+      (c .before .before .before .before .before .before .before .before .before .before .before .inner .given .0 .0)
       (arrays (now (a .kinds)) (now (a .numbers)) (now (a .chains))) (arrays (p .0) (p .1 .0) (p .1 .1 .0)) (a .count)
       (c .before .before .before .before .before .read-expression .result) (c .before .before .before .before .before .read-expression .ensures)
 
@@ -472,9 +608,11 @@ module _ (t : ℕ) where
   group-returns-3 c =
       let a = c .before .before .before .before .before .before .before .before .before .before .before .before .before .before .before .before .before .before .args in
       let p = c .before .before .before .before .before .before .read-expression .last .1 .1 .1 .1 .1 in
-      group-closed (a .sizes) (a .room) (a .«before») (c .before .before .before .before .before .before .before .before .before .before .before .before .before .before .before .before .before .before .pre .1 .0 .1) (c .before .before .before .before .before .before .before .before .before .before .if1 .left) (group-opens (c .before .before .before .before .before .before .before .before .before .before .before))
+      group-closed (a .sizes) (a .room) (a .«before»)
+      (c .before .before .before .before .before .before .before .before .before .before .before .before .before .before .before .before .before .before .pre .1 .0 .1) (c .before .before .before .before .before .before .before .before .before .before .if1 .left) (group-opens (c .before .before .before .before .before .before .before .before .before .before .before))
       (arrays (now (a .kinds)) (now (a .numbers)) (now (a .chains))) (arrays (p .0) (p .1 .0) (p .1 .1 .0)) (a .count)
-      (c .before .before .before .before .before .before .read-expression .result) (c .close-group .result) (c .before .before .before .before .before .before .read-expression .ensures) (c .close-group .ensures)
+      (c .before .before .before .before .before .before .read-expression .result) (c .close-group .result)
+      (c .before .before .before .before .before .before .read-expression .ensures) (c .close-group .ensures)
 
 pub +read-expression+read-group+read-minimum+read-operand-spec : {M : Type 1} → statement M
 +read-expression+read-group+read-minimum+read-operand-spec =

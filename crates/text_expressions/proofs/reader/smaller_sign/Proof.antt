@@ -26,11 +26,17 @@ is-sum-requires c κs = search needs
 
 returns-2 : tie.Need-returns-2
 unfolding isSmaller
-returns-2 c = ranked-other isSmaller (subst (PassesOperator _ _) (c .before .before .before .sign .given .1) (c .before .before .before .before .before .operator .ensures)) (ap not (sym (c .before .is-sum .ensures) ∙ c .if1 .taken))
+returns-2 c = ranked-other isSmaller
+    (subst (PassesOperator _ _) (c .before .before .before .sign .given .1) (c .before .before .before .before .before .operator .ensures))
+    (ap not (sym (c .before .is-sum .ensures) ∙ c .if1 .taken))
 
 returns-3 : tie.Need-returns-3
 unfolding isSmaller
-returns-3 c = record { passing = subst (PassesOperator _ _) (c .before .before .before .sign .given .1) (c .before .before .before .before .before .operator .ensures); of-rank = ap not (sym (c .before .is-sum .ensures) ∙ c .if1 .left) }
+returns-3 c = record {
+  passing = subst (PassesOperator _ _) (c .before .before .before .sign .given .1)
+      (c .before .before .before .before .before .operator .ensures);
+  of-rank = ap not (sym (c .before .is-sum .ensures) ∙ c .if1 .left);
+}
 
 pub smaller-sign-spec : {M : Type 1} → statement M
 smaller-sign-spec = tie.close (tie.spec operator-requires enum-known-sign enum-told returns is-sum-requires returns-2 returns-3)

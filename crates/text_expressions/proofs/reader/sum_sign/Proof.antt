@@ -24,10 +24,16 @@ is-sum-requires : tie.Need-is-sum-requires
 is-sum-requires c κs = search needs
 
 returns-2 : tie.Need-returns-2
-returns-2 c = record { passing = subst (PassesOperator _ _) (c .before .before .before .sign .given .1) (c .before .before .before .before .before .operator .ensures); of-rank = sym (c .before .is-sum .ensures) ∙ c .if1 .taken }
+returns-2 c = record {
+  passing = subst (PassesOperator _ _) (c .before .before .before .sign .given .1)
+      (c .before .before .before .before .before .operator .ensures);
+  of-rank = sym (c .before .is-sum .ensures) ∙ c .if1 .taken;
+}
 
 returns-3 : tie.Need-returns-3
-returns-3 c = ranked-other isSum (subst (PassesOperator _ _) (c .before .before .before .sign .given .1) (c .before .before .before .before .before .operator .ensures)) (sym (c .before .is-sum .ensures) ∙ c .if1 .left)
+returns-3 c = ranked-other isSum
+    (subst (PassesOperator _ _) (c .before .before .before .sign .given .1) (c .before .before .before .before .before .operator .ensures))
+    (sym (c .before .is-sum .ensures) ∙ c .if1 .left)
 
 pub sum-sign-spec : {M : Type 1} → statement M
 sum-sign-spec = tie.close (tie.spec operator-requires enum-known-sign enum-told returns is-sum-requires returns-2 returns-3)
