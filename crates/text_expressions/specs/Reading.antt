@@ -15,8 +15,8 @@ use Rattle.text_lexer.specs.Lexeme.{signOf}
 use Rattle.text_expressions.specs.declared.place.OperatorRead.{OperatorRead}
 use Rattle.text_expressions.specs.declared.place.OperatorRead.the-variants.{Operator, Nothing}
 use Rattle.text_expressions.specs.declared.summary.Summary.{Summary}
-use Rattle.text_expressions.specs.declared.reader.Reading.{Reading}
-use Rattle.text_expressions.specs.declared.reader.Reading.the-variants.{Read, NoForm, Deep}
+use Rattle.text_expressions.specs.declared.join.Reading.{Reading}
+use Rattle.text_expressions.specs.declared.join.Reading.the-variants.{Read, NoForm, Deep}
 use Rattle.text_expressions.specs.declared.expression.ExpressionRead.{ExpressionRead}
 use Rattle.text_expressions.specs.declared.expression.ExpressionRead.the-variants.{Parts, NoForm as NoParts}
 use Rattle.text_expressions.specs.Place.{tokensFrom, Behind, Passing, Absent}

@@ -2,6 +2,7 @@
 pub mod chains;
 pub mod code;
 pub mod expression;
+pub mod join;
 pub mod place;
 pub mod reader;
 pub mod scan;

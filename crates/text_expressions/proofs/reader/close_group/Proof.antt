@@ -7,8 +7,8 @@ use denote.Ref.{now}
 use Rattle.text_syntax.specs.Token.{closeRound}
 use Rattle.text_expressions.specs.Place.{Passes}
 use Rattle.text_expressions.specs.Reading.{EndInside, GroupedBy}
-use Rattle.text_expressions.specs.declared.reader.Reading.{Reading}
-use Rattle.text_expressions.specs.declared.reader.Reading.the-variants.{Read, NoForm, Deep}
+use Rattle.text_expressions.specs.declared.join.Reading.{Reading}
+use Rattle.text_expressions.specs.declared.join.Reading.the-variants.{Read, NoForm, Deep}
 use Rattle.text_expressions.proofs.reader.close_group.Statement.{statement}
 use Rattle.text_expressions.proofs.reader.close_group.Tie as tie
 

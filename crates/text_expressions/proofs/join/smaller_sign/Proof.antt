@@ -1,4 +1,4 @@
--- `text_expressions::reader::smaller_sign` meets its contract.
+-- `text_expressions::join::smaller_sign` meets its contract.
 -- Assumes nothing.
 use mathlib.Core.Path.{sym, ap, subst, _∙_}
 use mathlib.Core.Bool.{not}
@@ -6,8 +6,8 @@ use borrow.Author.Needs.{needs}
 use Rattle.text_syntax.specs.Grammar.{isSmaller}
 use Rattle.text_expressions.specs.Place.{PassesOperator}
 use Rattle.text_expressions.proofs.Joining.{ranked-none, ranked-other}
-use Rattle.text_expressions.proofs.reader.smaller_sign.Statement.{statement}
-use Rattle.text_expressions.proofs.reader.smaller_sign.Tie as tie
+use Rattle.text_expressions.proofs.join.smaller_sign.Statement.{statement}
+use Rattle.text_expressions.proofs.join.smaller_sign.Tie as tie
 
 operator-requires : tie.Need-operator-requires
 operator-requires c κs = search needs

@@ -1,12 +1,12 @@
--- `text_expressions::reader::sum_sign` meets its contract.
+-- `text_expressions::join::sum_sign` meets its contract.
 -- Assumes nothing.
 use mathlib.Core.Path.{sym, subst, _∙_}
 use borrow.Author.Needs.{needs}
 use Rattle.text_syntax.specs.Grammar.{isSum}
 use Rattle.text_expressions.specs.Place.{PassesOperator}
 use Rattle.text_expressions.proofs.Joining.{ranked-none, ranked-other}
-use Rattle.text_expressions.proofs.reader.sum_sign.Statement.{statement}
-use Rattle.text_expressions.proofs.reader.sum_sign.Tie as tie
+use Rattle.text_expressions.proofs.join.sum_sign.Statement.{statement}
+use Rattle.text_expressions.proofs.join.sum_sign.Tie as tie
 
 operator-requires : tie.Need-operator-requires
 operator-requires c κs = search needs
