@@ -17,7 +17,10 @@ pub fn put_term(
     parts: TermParts,
 )
     requires { ⌜ (at < length (now kinds)) × (at < length (now numbers)) × (at < length (now chains)) ⌝ }
-    ensures { λ _. ⌜ Wrote (arrays (now (kinds .entry)) (now (numbers .entry)) (now (chains .entry))) (arrays (now (kinds .exit)) (now (numbers .exit)) (now (chains .exit))) at (at + 1) (termCode parts) ⌝ }
+    ensures { λ _.
+        ⌜ Wrote
+        (arrays (now (kinds .entry)) (now (numbers .entry)) (now (chains .entry)))
+        (arrays (now (kinds .exit)) (now (numbers .exit)) (now (chains .exit))) at (at + 1) (termCode parts) ⌝ }
 {
     let number = parts.number;
     kinds[at] = parts.kind;

@@ -29,7 +29,10 @@ pub fn read(
     count: usize,
 ) -> ExpressionRead
     requires { ⌜ Limits sizes × (at ≤ length (now line)) × Roomy (arrays (now kinds) (now numbers) (now chains)) (now line) at count ⌝ }
-    ensures { λ r. ⌜ ExpressionAt sizes (now (line .entry)) at (arrays (now (kinds .entry)) (now (numbers .entry)) (now (chains .entry))) (arrays (now (kinds .exit)) (now (numbers .exit)) (now (chains .exit))) count r ⌝ }
+    ensures { λ r.
+        ⌜ ExpressionAt sizes (now (line .entry)) at
+        (arrays (now (kinds .entry)) (now (numbers .entry)) (now (chains .entry)))
+        (arrays (now (kinds .exit)) (now (numbers .exit)) (now (chains .exit))) count r ⌝ }
 {
     let before = summary::nothing();
     match reader::read_expression(line, at, sizes, 8, before, kinds, numbers, chains, count) {

@@ -33,7 +33,10 @@ pub fn read_expression(
 ) -> Reading
     requires { ⌜ Limits sizes × (room ≤ 8) × (at ≤ length (now line)) × (before .operators ≤ at) ⌝ }
     requires { ⌜ Roomy (arrays (now kinds) (now numbers) (now chains)) (now line) at count ⌝ }
-    ensures { λ r. ⌜ ReadingAt expression sizes room before (now (line .entry)) at (arrays (now (kinds .entry)) (now (numbers .entry)) (now (chains .entry))) (arrays (now (kinds .exit)) (now (numbers .exit)) (now (chains .exit))) count r ⌝ }
+    ensures { λ r.
+        ⌜ ReadingAt expression sizes room before (now (line .entry)) at
+        (arrays (now (kinds .entry)) (now (numbers .entry)) (now (chains .entry)))
+        (arrays (now (kinds .exit)) (now (numbers .exit)) (now (chains .exit))) count r ⌝ }
 {
     let mut next = Pending {
         at,
@@ -79,7 +82,10 @@ fn read_minimum(
 ) -> Reading
     requires { ⌜ Limits sizes × (room ≤ 8) × (at ≤ length (now line)) × (before .operators ≤ at) ⌝ }
     requires { ⌜ Roomy (arrays (now kinds) (now numbers) (now chains)) (now line) at count ⌝ }
-    ensures { λ r. ⌜ ReadingAt minimum sizes room before (now (line .entry)) at (arrays (now (kinds .entry)) (now (numbers .entry)) (now (chains .entry))) (arrays (now (kinds .exit)) (now (numbers .exit)) (now (chains .exit))) count r ⌝ }
+    ensures { λ r.
+        ⌜ ReadingAt minimum sizes room before (now (line .entry)) at
+        (arrays (now (kinds .entry)) (now (numbers .entry)) (now (chains .entry)))
+        (arrays (now (kinds .exit)) (now (numbers .exit)) (now (chains .exit))) count r ⌝ }
 {
     let mut next = Pending {
         at,
@@ -125,7 +131,10 @@ fn read_operand(
 ) -> Reading
     requires { ⌜ Limits sizes × (room ≤ 8) × (at ≤ length (now line)) × (before .operators ≤ at) ⌝ }
     requires { ⌜ Roomy (arrays (now kinds) (now numbers) (now chains)) (now line) at count ⌝ }
-    ensures { λ r. ⌜ ReadingAt operand sizes room before (now (line .entry)) at (arrays (now (kinds .entry)) (now (numbers .entry)) (now (chains .entry))) (arrays (now (kinds .exit)) (now (numbers .exit)) (now (chains .exit))) count r ⌝ }
+    ensures { λ r.
+        ⌜ ReadingAt operand sizes room before (now (line .entry)) at
+        (arrays (now (kinds .entry)) (now (numbers .entry)) (now (chains .entry)))
+        (arrays (now (kinds .exit)) (now (numbers .exit)) (now (chains .exit))) count r ⌝ }
 {
     let TermRead::Parts(parts, end) = term::read_term(line, at, sizes) else {
         return read_group(line, at, sizes, room, before, kinds, numbers, chains, count);
@@ -148,7 +157,10 @@ fn read_group(
 ) -> Reading
     requires { ⌜ Limits sizes × (room ≤ 8) × (at ≤ length (now line)) × (before .operators ≤ at) ⌝ }
     requires { ⌜ Roomy (arrays (now kinds) (now numbers) (now chains)) (now line) at count × NoTerm (now line) at ⌝ }
-    ensures { λ r. ⌜ ReadingAt operand sizes room before (now (line .entry)) at (arrays (now (kinds .entry)) (now (numbers .entry)) (now (chains .entry))) (arrays (now (kinds .exit)) (now (numbers .exit)) (now (chains .exit))) count r ⌝ }
+    ensures { λ r.
+        ⌜ ReadingAt operand sizes room before (now (line .entry)) at
+        (arrays (now (kinds .entry)) (now (numbers .entry)) (now (chains .entry)))
+        (arrays (now (kinds .exit)) (now (numbers .exit)) (now (chains .exit))) count r ⌝ }
 {
     let Place::At(inner) = place::open_round(line, at) else {
         return Reading::NoForm;

@@ -78,10 +78,10 @@ same-length-9 c = search needs
 
 returns-3 : tie.Need-returns-3
 returns-3 c =
-    let e = c .before .before .before .before .before .before .before .before .before .before .before .read-expression in
-    let kept = e .kept .1 .1 .1 .1 .1 in
-    whole-passed (c .before .before .before .before .before .before .before .before .before .before .before .before .before .before .before .before .before .before .before .pre .2) (kept .0) (kept .1 .0) (kept .1 .1 .0)
-    (subst (ReadingAt expression _ _ _ _ _ _ _ _) (c .before .before .before .before .enum-told2 .given .1) (e .ensures))
+    let e = c .before .before .before .before .before .before .before .before .before .before .before in
+    let kept = e .read-expression .kept .1 .1 .1 .1 .1 in
+    whole-passed (e .before .before .before .before .before .before .before .before .pre .2) (kept .0) (kept .1 .0) (kept .1 .1 .0)
+    (subst (ReadingAt expression _ _ _ _ _ _ _ _) (c .before .before .before .before .enum-told2 .given .1) (e .read-expression .ensures))
     (subst (ScanAt _ _ _) (c .before .seen2 .given .1) (c .before .before .before .scan .ensures))
 
 same-length-10 : tie.Need-same-length-10

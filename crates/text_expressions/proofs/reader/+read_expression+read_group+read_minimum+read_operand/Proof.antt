@@ -14,7 +14,7 @@ use Rattle.text_syntax.specs.Token.{openRound}
 use Rattle.text_syntax.specs.Grammar.{expression, minimum, operand, minimumFrom, expressionFrom}
 use Rattle.text_expressions.specs.Place.{Passing, Passes}
 use Rattle.text_expressions.specs.Term.{TermAt}
-use Rattle.text_expressions.specs.Codes.{arrays}
+use Rattle.text_expressions.specs.Codes.{Arrays, arrays}
 use Rattle.text_expressions.specs.declared.join.Joining.the-variants.{Next}
 use Rattle.text_expressions.proofs.Joining.{sum-joins, smaller-joins, Joined, joined-start, joined-room, joined-ready, JoinedTo, joined-by, term-operand, group-none, group-full, group-closed, reading-inside}
 use Rattle.text_expressions.proofs.reader.read_expression.Reads as read-expression
@@ -116,7 +116,8 @@ group-calls t = (
 
 abbrev expression-joined : read-expression-lts.InvT-loop
 expression-joined line at sizes room kinds₀ numbers₀ chains₀ count next₀ kinds numbers chains next =
-    Joined minimum expressionFrom expression sizes room (next₀ .seen) line at (arrays kinds₀ numbers₀ chains₀) count next (arrays kinds numbers chains)
+    Joined minimum expressionFrom expression sizes room (next₀ .seen) line at (arrays kinds₀ numbers₀ chains₀) count next
+    (arrays kinds numbers chains)
 
 abbrev expression-left : read-expression-lts.MeasureT-loop
 expression-left line at sizes room kinds₀ numbers₀ chains₀ count next₀ kinds numbers chains next = length line - next .at
@@ -135,43 +136,56 @@ module _ (t : ℕ) where
       let w = c .before .before .before .before .loop .inv in
       (omega (arith, p .0), ((p .1 .0 .0, p .1 .0 .1, w .inside, w .few), joined-room sum-joins w (p .1 .1)))
 
-  expression-joined-requires : read-expression-lts.Need-joined-requires (expression-calls t) (read-expression-at t) read-expression.Post expression-joined
-      expression-left
+  -- the ways back: to the loop from an element that was read, to the element, and the arrays behind it
+  abbrev expression-round :
+      (c : read-expression-lts.After-read-minimum (expression-calls t) (read-expression-at t) read-expression.Post expression-joined expression-left)
+      → read-expression-lts.At-loop (expression-calls t) (read-expression-at t) read-expression.Post expression-joined expression-left
+  expression-round c = c .before .before .before .before .before
+
+  abbrev expression-element :
+      (c : read-expression-lts.After-joined (expression-calls t) (read-expression-at t) read-expression.Post expression-joined expression-left) →
+      read-expression-lts.After-read-minimum (expression-calls t) (read-expression-at t) read-expression.Post expression-joined expression-left
+  expression-element c = c .before .before .before .before .before .before .before
+
+  abbrev expression-arrays :
+      (c : read-expression-lts.After-read-minimum (expression-calls t) (read-expression-at t) read-expression.Post expression-joined expression-left)
+      → Arrays
+  expression-arrays c = let p = c .read-minimum .last .1 .1 .1 .1 .1 in arrays (p .0) (p .1 .0) (p .1 .1 .0)
+
+  expression-joined-requires : read-expression-lts.Need-joined-requires (expression-calls t) (read-expression-at t) read-expression.Post
+      expression-joined expression-left
   expression-joined-requires c κs =
-      let e = c .before .before .before .before .before .before .read-minimum in
-      let p = e .last .1 .1 .1 .1 .1 in
-      let w = c .before .before .before .before .before .before .before .before .before .before .before .loop .inv in (
-        joined-ready sum-joins w (arrays (p .0) (p .1 .0) (p .1 .1 .0))
-            (c .before .before .before .before .before .before .before .before .before .before .before .before .before .before .before .pre .1 .1)
-            (e .result) (e .ensures),
-        w .no-number,
+      let e = c .before .before .before .before .before .before in
+      let l = expression-round e in (
+        joined-ready sum-joins (l .loop .inv) (expression-arrays e) (l .before .before .before .before .pre .1 .1) (e .read-minimum .result)
+            (e .read-minimum .ensures),
+        l .loop .inv .no-number,
       )
 
-  expression-enum-known-more : read-expression-lts.Need-enum-known-more (expression-calls t) (read-expression-at t) read-expression.Post expression-joined
-      expression-left
+  expression-enum-known-more : read-expression-lts.Need-enum-known-more (expression-calls t) (read-expression-at t) read-expression.Post
+      expression-joined expression-left
   expression-enum-known-more c = search needs
 
   -- another element is due, or that is all
   expression-answered :
       (c : read-expression-lts.After-joined (expression-calls t) (read-expression-at t) read-expression.Post expression-joined expression-left) →
-      let p = c .before .before .before .before .before .before .before .read-minimum .last .1 .1 .1 .1 .1 in
-      JoinedTo sum-joins (c .before .before .before .before .before .before .before .before .before .before .before .before .loop .inv)
-      (arrays (p .0) (p .1 .0) (p .1 .1 .0)) (c .joined .last .1 .0) (c .joined .result)
+      let e = expression-element c in JoinedTo sum-joins (expression-round e .loop .inv) (expression-arrays e) (c .joined .last .1 .0)
+      (c .joined .result)
   expression-answered c =
-      let e = c .before .before .before .before .before .before .before .read-minimum in
-      let p = e .last .1 .1 .1 .1 .1 in
-      joined-by sum-joins (c .before .before .before .before .before .before .before .before .before .before .before .before .loop .inv)
-      (arrays (p .0) (p .1 .0) (p .1 .1 .0)) (c .joined .last .1 .0) (e .result) (e .ensures) (c .joined .result) (c .joined .ensures)
+      let e = expression-element c in
+      joined-by sum-joins (expression-round e .loop .inv) (expression-arrays e) (c .joined .last .1 .0) (e .read-minimum .result)
+      (e .read-minimum .ensures) (c .joined .result) (c .joined .ensures)
 
   expression-more : (c : read-expression-lts.After-known-told (expression-calls t) (read-expression-at t) read-expression.Post expression-joined
       expression-left) →
-      let p = c .before .before .before .before .before .before .before .before .before .before .before .before .read-minimum .last .1 .1 .1 .1 .1 in
-      JoinedTo sum-joins (c .before .before .before .before .before .before .before .before .before .before .before .before .before .before .before .before .before .loop .inv) (arrays (p .0) (p .1 .0) (p .1 .1 .0)) (c .before .before .before .before .before .joined .last .1 .0) (Next (c .before .more .given .0 .0))
+      let d = c .before .before .before .before .before in
+      let e = expression-element d in
+      JoinedTo sum-joins (expression-round e .loop .inv) (expression-arrays e) (d .joined .last .1 .0) (Next (c .before .more .given .0 .0))
   expression-more c =
       let d = c .before .before .before .before .before in
-      let p = c .before .before .before .before .before .before .before .before .before .before .before .before .read-minimum .last .1 .1 .1 .1 .1 in
-      subst (JoinedTo sum-joins
-      (c .before .before .before .before .before .before .before .before .before .before .before .before .before .before .before .before .before .loop .inv) (arrays (p .0) (p .1 .0) (p .1 .1 .0)) (d .joined .last .1 .0)) (c .before .more .given .1) (expression-answered d)
+      let e = expression-element d in
+      subst (JoinedTo sum-joins (expression-round e .loop .inv) (expression-arrays e) (d .joined .last .1 .0)) (c .before .more .given .1)
+      (expression-answered d)
 
   expression-loop-less : read-expression-lts.Need-loop-less (expression-calls t) (read-expression-at t) read-expression.Post expression-joined
       expression-left
@@ -181,34 +195,38 @@ module _ (t : ℕ) where
       expression-left
   expression-loop-again c = expression-more c .0
 
-  expression-enum-known-done : read-expression-lts.Need-enum-known-done (expression-calls t) (read-expression-at t) read-expression.Post expression-joined
-      expression-left
+  expression-enum-known-done : read-expression-lts.Need-enum-known-done (expression-calls t) (read-expression-at t) read-expression.Post
+      expression-joined expression-left
   expression-enum-known-done c = search needs
 
   expression-same-length : read-expression-lts.Need-same-length (expression-calls t) (read-expression-at t) read-expression.Post expression-joined
       expression-left
-  expression-same-length c = c .before .before .before .before .before .joined .kept .1 .0 ∙
-      c .before .before .before .before .before .before .before .before .before .before .before .before .read-minimum .kept .1 .1 .1 .1 .1 .0 ∙
-      c .before .before .before .before .before .before .before .before .before .before .before .before .before .before .before .before .before .loop .inv .wrote .kinds-length
+  expression-same-length c =
+      let d = c .before .before .before .before .before in
+      let e = expression-element d in
+      d .joined .kept .1 .0 ∙ e .read-minimum .kept .1 .1 .1 .1 .1 .0 ∙ expression-round e .loop .inv .wrote .kinds-length
 
-  expression-same-length-2 : read-expression-lts.Need-same-length-2 (expression-calls t) (read-expression-at t) read-expression.Post expression-joined
-      expression-left
+  expression-same-length-2 : read-expression-lts.Need-same-length-2 (expression-calls t) (read-expression-at t) read-expression.Post
+      expression-joined expression-left
   expression-same-length-2 c =
-      c .before .before .before .before .before .before .before .before .before .before .before .before .read-minimum .kept .1 .1 .1 .1 .1 .1 .0 ∙
-      c .before .before .before .before .before .before .before .before .before .before .before .before .before .before .before .before .before .loop .inv .wrote .numbers-length
+      let d = c .before .before .before .before .before in
+      let e = expression-element d in
+      e .read-minimum .kept .1 .1 .1 .1 .1 .1 .0 ∙ expression-round e .loop .inv .wrote .numbers-length
 
-  expression-same-length-3 : read-expression-lts.Need-same-length-3 (expression-calls t) (read-expression-at t) read-expression.Post expression-joined
-      expression-left
+  expression-same-length-3 : read-expression-lts.Need-same-length-3 (expression-calls t) (read-expression-at t) read-expression.Post
+      expression-joined expression-left
   expression-same-length-3 c =
-      c .before .before .before .before .before .before .before .before .before .before .before .before .read-minimum .kept .1 .1 .1 .1 .1 .1 .1 .0 ∙
-      c .before .before .before .before .before .before .before .before .before .before .before .before .before .before .before .before .before .loop .inv .wrote .chains-length
+      let d = c .before .before .before .before .before in
+      let e = expression-element d in
+      e .read-minimum .kept .1 .1 .1 .1 .1 .1 .1 .0 ∙ expression-round e .loop .inv .wrote .chains-length
 
-  expression-returns : read-expression-lts.Need-returns (expression-calls t) (read-expression-at t) read-expression.Post expression-joined expression-left
+  expression-returns : read-expression-lts.Need-returns (expression-calls t) (read-expression-at t) read-expression.Post expression-joined
+      expression-left
   expression-returns c =
       let d = c .before .before .before .before .before in
-      let p = c .before .before .before .before .before .before .before .before .before .before .before .before .read-minimum .last .1 .1 .1 .1 .1 in
-      subst (JoinedTo sum-joins
-      (c .before .before .before .before .before .before .before .before .before .before .before .before .before .before .before .before .before .loop .inv) (arrays (p .0) (p .1 .0) (p .1 .1 .0)) (d .joined .last .1 .0)) (c .before .done .given .1) (expression-answered d)
+      let e = expression-element d in
+      subst (JoinedTo sum-joins (expression-round e .loop .inv) (expression-arrays e) (d .joined .last .1 .0)) (c .before .done .given .1)
+      (expression-answered d)
 
 abbrev minimum-joined : read-minimum-lts.InvT-loop
 minimum-joined line at sizes room kinds₀ numbers₀ chains₀ count next₀ kinds numbers chains next =
@@ -230,15 +248,27 @@ module _ (t : ℕ) where
       let w = c .before .before .before .before .loop .inv in
       (omega (arith, p .0), ((p .1 .0 .0, p .1 .0 .1, w .inside, w .few), joined-room smaller-joins w (p .1 .1)))
 
+  -- the ways back: to the loop from an element that was read, to the element, and the arrays behind it
+  abbrev minimum-round :
+      (c : read-minimum-lts.After-read-operand (minimum-calls t) (read-minimum-at t) read-minimum.Post minimum-joined minimum-left) →
+      read-minimum-lts.At-loop (minimum-calls t) (read-minimum-at t) read-minimum.Post minimum-joined minimum-left
+  minimum-round c = c .before .before .before .before .before
+
+  abbrev minimum-element : (c : read-minimum-lts.After-joined (minimum-calls t) (read-minimum-at t) read-minimum.Post minimum-joined minimum-left) →
+      read-minimum-lts.After-read-operand (minimum-calls t) (read-minimum-at t) read-minimum.Post minimum-joined minimum-left
+  minimum-element c = c .before .before .before .before .before .before .before
+
+  abbrev minimum-arrays :
+      (c : read-minimum-lts.After-read-operand (minimum-calls t) (read-minimum-at t) read-minimum.Post minimum-joined minimum-left) → Arrays
+  minimum-arrays c = let p = c .read-operand .last .1 .1 .1 .1 .1 in arrays (p .0) (p .1 .0) (p .1 .1 .0)
+
   minimum-joined-requires : read-minimum-lts.Need-joined-requires (minimum-calls t) (read-minimum-at t) read-minimum.Post minimum-joined minimum-left
   minimum-joined-requires c κs =
-      let e = c .before .before .before .before .before .before .read-operand in
-      let p = e .last .1 .1 .1 .1 .1 in
-      let w = c .before .before .before .before .before .before .before .before .before .before .before .loop .inv in (
-        joined-ready smaller-joins w (arrays (p .0) (p .1 .0) (p .1 .1 .0))
-            (c .before .before .before .before .before .before .before .before .before .before .before .before .before .before .before .pre .1 .1)
-            (e .result) (e .ensures),
-        w .no-number,
+      let e = c .before .before .before .before .before .before in
+      let l = minimum-round e in (
+        joined-ready smaller-joins (l .loop .inv) (minimum-arrays e) (l .before .before .before .before .pre .1 .1) (e .read-operand .result)
+            (e .read-operand .ensures),
+        l .loop .inv .no-number,
       )
 
   minimum-enum-known-more : read-minimum-lts.Need-enum-known-more (minimum-calls t) (read-minimum-at t) read-minimum.Post minimum-joined minimum-left
@@ -246,24 +276,21 @@ module _ (t : ℕ) where
 
   -- another element is due, or that is all
   minimum-answered : (c : read-minimum-lts.After-joined (minimum-calls t) (read-minimum-at t) read-minimum.Post minimum-joined minimum-left) →
-      let p = c .before .before .before .before .before .before .before .read-operand .last .1 .1 .1 .1 .1 in
-      JoinedTo smaller-joins (c .before .before .before .before .before .before .before .before .before .before .before .before .loop .inv)
-      (arrays (p .0) (p .1 .0) (p .1 .1 .0)) (c .joined .last .1 .0) (c .joined .result)
+      let e = minimum-element c in JoinedTo smaller-joins (minimum-round e .loop .inv) (minimum-arrays e) (c .joined .last .1 .0) (c .joined .result)
   minimum-answered c =
-      let e = c .before .before .before .before .before .before .before .read-operand in
-      let p = e .last .1 .1 .1 .1 .1 in
-      joined-by smaller-joins (c .before .before .before .before .before .before .before .before .before .before .before .before .loop .inv)
-      (arrays (p .0) (p .1 .0) (p .1 .1 .0)) (c .joined .last .1 .0) (e .result) (e .ensures) (c .joined .result) (c .joined .ensures)
+      let e = minimum-element c in
+      joined-by smaller-joins (minimum-round e .loop .inv) (minimum-arrays e) (c .joined .last .1 .0) (e .read-operand .result)
+      (e .read-operand .ensures) (c .joined .result) (c .joined .ensures)
 
   minimum-more : (c : read-minimum-lts.After-known-told (minimum-calls t) (read-minimum-at t) read-minimum.Post minimum-joined minimum-left) →
-      let p = c .before .before .before .before .before .before .before .before .before .before .before .before .read-operand .last .1 .1 .1 .1 .1 in
-      JoinedTo smaller-joins
-      (c .before .before .before .before .before .before .before .before .before .before .before .before .before .before .before .before .before .loop .inv) (arrays (p .0) (p .1 .0) (p .1 .1 .0)) (c .before .before .before .before .before .joined .last .1 .0) (Next (c .before .more .given .0 .0))
+      let d = c .before .before .before .before .before in
+      let e = minimum-element d in
+      JoinedTo smaller-joins (minimum-round e .loop .inv) (minimum-arrays e) (d .joined .last .1 .0) (Next (c .before .more .given .0 .0))
   minimum-more c =
       let d = c .before .before .before .before .before in
-      let p = c .before .before .before .before .before .before .before .before .before .before .before .before .read-operand .last .1 .1 .1 .1 .1 in
-      subst (JoinedTo smaller-joins
-      (c .before .before .before .before .before .before .before .before .before .before .before .before .before .before .before .before .before .loop .inv) (arrays (p .0) (p .1 .0) (p .1 .1 .0)) (d .joined .last .1 .0)) (c .before .more .given .1) (minimum-answered d)
+      let e = minimum-element d in
+      subst (JoinedTo smaller-joins (minimum-round e .loop .inv) (minimum-arrays e) (d .joined .last .1 .0)) (c .before .more .given .1)
+      (minimum-answered d)
 
   minimum-loop-less : read-minimum-lts.Need-loop-less (minimum-calls t) (read-minimum-at t) read-minimum.Post minimum-joined minimum-left
   minimum-loop-less c = omega (arith, minimum-more c .1, minimum-more c .0 .inside)
@@ -275,26 +302,29 @@ module _ (t : ℕ) where
   minimum-enum-known-done c = search needs
 
   minimum-same-length : read-minimum-lts.Need-same-length (minimum-calls t) (read-minimum-at t) read-minimum.Post minimum-joined minimum-left
-  minimum-same-length c = c .before .before .before .before .before .joined .kept .1 .0 ∙
-      c .before .before .before .before .before .before .before .before .before .before .before .before .read-operand .kept .1 .1 .1 .1 .1 .0 ∙
-      c .before .before .before .before .before .before .before .before .before .before .before .before .before .before .before .before .before .loop .inv .wrote .kinds-length
+  minimum-same-length c =
+      let d = c .before .before .before .before .before in
+      let e = minimum-element d in
+      d .joined .kept .1 .0 ∙ e .read-operand .kept .1 .1 .1 .1 .1 .0 ∙ minimum-round e .loop .inv .wrote .kinds-length
 
   minimum-same-length-2 : read-minimum-lts.Need-same-length-2 (minimum-calls t) (read-minimum-at t) read-minimum.Post minimum-joined minimum-left
   minimum-same-length-2 c =
-      c .before .before .before .before .before .before .before .before .before .before .before .before .read-operand .kept .1 .1 .1 .1 .1 .1 .0 ∙
-      c .before .before .before .before .before .before .before .before .before .before .before .before .before .before .before .before .before .loop .inv .wrote .numbers-length
+      let d = c .before .before .before .before .before in
+      let e = minimum-element d in
+      e .read-operand .kept .1 .1 .1 .1 .1 .1 .0 ∙ minimum-round e .loop .inv .wrote .numbers-length
 
   minimum-same-length-3 : read-minimum-lts.Need-same-length-3 (minimum-calls t) (read-minimum-at t) read-minimum.Post minimum-joined minimum-left
   minimum-same-length-3 c =
-      c .before .before .before .before .before .before .before .before .before .before .before .before .read-operand .kept .1 .1 .1 .1 .1 .1 .1 .0 ∙
-      c .before .before .before .before .before .before .before .before .before .before .before .before .before .before .before .before .before .loop .inv .wrote .chains-length
+      let d = c .before .before .before .before .before in
+      let e = minimum-element d in
+      e .read-operand .kept .1 .1 .1 .1 .1 .1 .1 .0 ∙ minimum-round e .loop .inv .wrote .chains-length
 
   minimum-returns : read-minimum-lts.Need-returns (minimum-calls t) (read-minimum-at t) read-minimum.Post minimum-joined minimum-left
   minimum-returns c =
       let d = c .before .before .before .before .before in
-      let p = c .before .before .before .before .before .before .before .before .before .before .before .before .read-operand .last .1 .1 .1 .1 .1 in
-      subst (JoinedTo smaller-joins
-      (c .before .before .before .before .before .before .before .before .before .before .before .before .before .before .before .before .before .loop .inv) (arrays (p .0) (p .1 .0) (p .1 .1 .0)) (d .joined .last .1 .0)) (c .before .done .given .1) (minimum-answered d)
+      let e = minimum-element d in
+      subst (JoinedTo smaller-joins (minimum-round e .loop .inv) (minimum-arrays e) (d .joined .last .1 .0)) (c .before .done .given .1)
+      (minimum-answered d)
 
 module _ (t : ℕ) where
   operand-read-term-requires : read-operand-lts.Need-read-term-requires (operand-calls t) (read-operand-at t) read-operand.Post
@@ -368,7 +398,8 @@ module _ (t : ℕ) where
 
   operand-returns-2 : read-operand-lts.Need-returns-2 (operand-calls t) (read-operand-at t) read-operand.Post
   operand-returns-2 c =
-      term-operand (c .before .before .before .before .before .before .before .before .before .before .before .before .before .before .before .before .before .pre .1 .0 .3) (subst (TermAt _ _ _) (c .before .before .before .before .before .before .before .before .before .before .before .parts .given .1) (c .before .before .before .before .before .before .before .before .before .before .before .before .before .read-term .ensures))
+      let k = c .before .before .before .before .before .before .before .before .before .before .before in
+      term-operand (k .before .before .before .before .before .before .pre .1 .0 .3) (subst (TermAt _ _ _) (k .parts .given .1) (k .before .before .read-term .ensures))
       (c .with-term .ensures) (c .before .before .before .before .before .before .put-term .ensures)
 
 module _ (t : ℕ) where
@@ -414,14 +445,26 @@ module _ (t : ℕ) where
         ),
       )
 
+  -- the ways back from the expression that was read, and the arrays before and behind it
+  abbrev group-inner : (c : read-group-lts.After-read-expression (group-calls t) (read-group-at t) read-group.Post) → read-group-lts.After-known-told
+      (group-calls t) (read-group-at t) read-group.Post
+  group-inner c = c .before .before .before .before .before
+
+  abbrev group-old : (c : read-group-lts.After-read-expression (group-calls t) (read-group-at t) read-group.Post) → Arrays
+  group-old c = let a = c .before .before .before .before .before .before .before .before .before .before .before .before .args in arrays
+      (now (a .kinds)) (now (a .numbers)) (now (a .chains))
+
+  abbrev group-new : (c : read-group-lts.After-read-expression (group-calls t) (read-group-at t) read-group.Post) → Arrays
+  group-new c = let p = c .read-expression .last .1 .1 .1 .1 .1 in arrays (p .0) (p .1 .0) (p .1 .1 .0)
+
   group-close-group-requires : read-group-lts.Need-close-group-requires (group-calls t) (read-group-at t) read-group.Post
   group-close-group-requires c κs =
+      let e = c .before .before .before .before .before in
+      let k = group-inner e in
       let a = c .before .before .before .before .before .before .before .before .before .before .before .before .before .before .before .before .before .args in
-      let p = c .before .before .before .before .before .read-expression .last .1 .1 .1 .1 .1 in
-      reading-inside expression (a .sizes) (a .room - 1) (a .«before») (now (a .line))
-      (c .before .before .before .before .before .before .before .before .before .before .before .inner .given .0 .0)
-      (arrays (now (a .kinds)) (now (a .numbers)) (now (a .chains))) (arrays (p .0) (p .1 .0) (p .1 .1 .0)) (a .count)
-      (c .before .before .before .before .before .read-expression .result) (c .before .before .before .before .before .read-expression .ensures)
+      reading-inside expression (a .sizes) (a .room - 1) (a .«before») (now (a .line)) (k .before .inner .given .0 .0) (group-old e) (group-new e)
+      (a .count)
+      (e .read-expression .result) (e .read-expression .ensures)
 
   group-same-length : read-group-lts.Need-same-length (group-calls t) (read-group-at t) read-group.Post
   group-same-length c = c .before .before .before .before .before .before .read-expression .kept .1 .1 .1 .1 .1 .0
@@ -434,13 +477,13 @@ module _ (t : ℕ) where
 
   group-returns-3 : read-group-lts.Need-returns-3 (group-calls t) (read-group-at t) read-group.Post
   group-returns-3 c =
-      let a = c .before .before .before .before .before .before .before .before .before .before .before .before .before .before .before .before .before .before .args in
-      let p = c .before .before .before .before .before .before .read-expression .last .1 .1 .1 .1 .1 in
-      group-closed (a .sizes) (a .room) (a .«before»)
-      (c .before .before .before .before .before .before .before .before .before .before .before .before .before .before .before .before .before .before .pre .1 .0 .1) (c .before .before .before .before .before .before .before .before .before .before .if1 .left) (group-opens (c .before .before .before .before .before .before .before .before .before .before .before))
-      (arrays (now (a .kinds)) (now (a .numbers)) (now (a .chains))) (arrays (p .0) (p .1 .0) (p .1 .1 .0)) (a .count)
-      (c .before .before .before .before .before .before .read-expression .result) (c .close-group .result)
-      (c .before .before .before .before .before .before .read-expression .ensures) (c .close-group .ensures)
+      let e = c .before .before .before .before .before .before in
+      let s = c .before .before .before .before .before .before .before .before .before .before .before .before .before .before .before .before .before .before in
+      let a = s .args in
+      group-closed (a .sizes) (a .room) (a .«before») (s .pre .1 .0 .1)
+      (c .before .before .before .before .before .before .before .before .before .before .if1 .left) (group-opens (group-inner e)) (group-old e)
+      (group-new e) (a .count)
+      (e .read-expression .result) (c .close-group .result) (e .read-expression .ensures) (c .close-group .ensures)
 
 pub +read-expression+read-group+read-minimum+read-operand-spec : {M : Type 1} → statement M
 +read-expression+read-group+read-minimum+read-operand-spec =
@@ -462,7 +505,8 @@ pub +read-expression+read-group+read-minimum+read-operand-spec : {M : Type 1} �
     (λ t.
     read-minimum-lts.spec (minimum-calls t) (read-minimum-at t) read-minimum.Post minimum-joined minimum-left
     (minimum-loop-holds t) (minimum-read-operand-requires t) (minimum-joined-requires t) (minimum-enum-known-more t) (minimum-loop-less t)
-    (minimum-loop-again t) (minimum-enum-known-done t) (minimum-same-length t) (minimum-same-length-2 t) (minimum-same-length-3 t) (minimum-returns t))
+    (minimum-loop-again t) (minimum-enum-known-done t) (minimum-same-length t) (minimum-same-length-2 t) (minimum-same-length-3 t)
+    (minimum-returns t))
     (λ t.
     read-operand-lts.spec (operand-calls t) (read-operand-at t) read-operand.Post
     (operand-read-term-requires t) (operand-enum-known-parts t) (operand-enum-told t) (operand-read-group-requires t) (operand-same-length t)
