@@ -1,19 +1,24 @@
 -- The expression at a place: by its depth, read with its codes or passed.
 use Prim.Native.Nat.{ℕ, _≤_}
-use mathlib.Core.Path.{_≡_, ap, subst, _∙_}
+use mathlib.Core.Path.{_≡_, sym, ap, subst, _∙_}
+use mathlib.Core.Bool.{true}
 use mathlib.Core.List.{List}
 use native.Mathlib.Omega.{arith}
 use lib.ListN.{length}
+use Rattle.register.specs.Shape.{Limits}
 use Rattle.register.specs.declared.Sizes.{Sizes}
+use Rattle.program.specs.Code.{postfix}
 use Rattle.text_syntax.specs.Grammar.{expression}
+use Rattle.text_syntax.specs.Tree.{treeOf}
 use Rattle.text_syntax.specs.Flat as F
 use Rattle.text_syntax.specs.Flat.{empty, summary, merged}
 use Rattle.text_syntax.proofs.Scans.{merged-empty}
 use Rattle.text_expressions.specs.declared.summary.Summary.{Summary}
 use Rattle.text_expressions.specs.Summary.{summaryOf}
-use Rattle.text_expressions.specs.Codes.{Arrays, Roomy}
+use Rattle.text_expressions.specs.Codes.{Arrays, codesBetween, signOperator, Roomy}
 use Rattle.text_expressions.specs.Scan.{ScanFormed, NoExpression}
 use Rattle.text_expressions.specs.Reading.{AllDeep, ReadAs, Unread, TooDeep, ExpressionFormed}
+use Rattle.text_expressions.proofs.Postfix.{codes-postfix}
 use Rattle.text_expressions.proofs.Joining.{roomy-on}
 
 pub nothing-few : {g : Summary} → summaryOf g ≡ empty → (n : ℕ) → g .operators ≤ n
@@ -51,3 +56,17 @@ whole-passed r k n c t w = record {
 
 pub whole-none : {line : List ℕ} {at : ℕ} → NoExpression line at → Unread expression line at
 whole-none w = record { none = w .none }
+
+-- an expression that passes 9, 11, 12 and 24, and whose chains go over references: its codes are those of its tree
+pub whole-postfix : {s : Sizes} {line : List ℕ} {at : ℕ} {a b : Arrays} {count : ℕ} {g : Summary} {end to : ℕ} → Limits s
+    → (w : ExpressionFormed s line at a b count g end to) → g .named ≡ true → g .kinded ≡ true → g .short ≡ true → g .ranged ≡ true → g .depth ≤ 8
+    → codesBetween b count to ≡ postfix (treeOf signOperator (w .written))
+unfolding summary
+whole-postfix {s} l w n k h r d =
+    let e = w .summary-is in
+    w .wrote (omega (arith, d, ap (λ (f : F.Summary). f .depth) e)) .codes-are
+    ∙ codes-postfix s l (w .written)
+    (sym (ap (λ (f : F.Summary). f .named) e) ∙ n)
+    (sym (ap (λ (f : F.Summary). f .kinded) e) ∙ k)
+    (sym (ap (λ (f : F.Summary). f .short) e) ∙ h)
+    (sym (ap (λ (f : F.Summary). f .ranged) e) ∙ r)

@@ -46,24 +46,12 @@ pub fn read_expression(
     };
     loop {
         let seen = next.seen;
-        let read = read_minimum(
-            line,
-            next.at,
-            sizes,
-            room,
-            seen,
-            kinds,
-            numbers,
-            chains,
-            next.codes,
-        );
+        let i = next.at;
+        let codes = next.codes;
+        let read = read_minimum(line, i, sizes, room, seen, kinds, numbers, chains, codes);
         match join::joined(line, kinds, read, next.kind, true) {
-            Joining::Next(more) => {
-                next = more;
-            }
-            Joining::Done(done) => {
-                return done;
-            }
+            Joining::Next(more) => next = more,
+            Joining::Done(done) => return done,
         }
     }
 }
@@ -95,24 +83,12 @@ fn read_minimum(
     };
     loop {
         let seen = next.seen;
-        let read = read_operand(
-            line,
-            next.at,
-            sizes,
-            room,
-            seen,
-            kinds,
-            numbers,
-            chains,
-            next.codes,
-        );
+        let i = next.at;
+        let codes = next.codes;
+        let read = read_operand(line, i, sizes, room, seen, kinds, numbers, chains, codes);
         match join::joined(line, kinds, read, next.kind, false) {
-            Joining::Next(more) => {
-                next = more;
-            }
-            Joining::Done(done) => {
-                return done;
-            }
+            Joining::Next(more) => next = more,
+            Joining::Done(done) => return done,
         }
     }
 }
