@@ -33,6 +33,8 @@ whole-read {s} e r w = record {
   form-is = w .form-is;
   summary-is = w .summary-is ∙ ap (λ (f : F.Summary). merged 0 f (summary s (w .written))) e ∙ merged-empty s (w .written);
   wrote = λ d. w .wrote;
+  more-codes = w .wrote .onward;
+  few-codes = w .few-codes;
   inside = w .behind .inside;
   roomy = roomy-on r (w .wrote) (w .few-codes);
 }
@@ -46,6 +48,8 @@ whole-passed r k n c t w = record {
   form-is = w .form-is;
   summary-is = w .summary-is;
   wrote = λ d. absurd (let more = subst (AllDeep 8) (w .form-is) (t .deep) in omega (arith, more, d));
+  more-codes = omega arith;
+  few-codes = omega (arith, w .onward);
   inside = w .inside;
   roomy = record {
     kinds = omega (arith, r .kinds, k, w .onward);

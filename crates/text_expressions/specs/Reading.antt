@@ -88,6 +88,8 @@ pub record ExpressionFormed (s : Sizes) (line : List ℕ) (at : ℕ) (a b : Arra
   pub form-is : expression (tokensFrom true line at) ≡ formed written (tokensFrom false line end)
   pub summary-is : summaryOf g ≡ summary s written
   pub wrote : depth written ≤ 8 → Wrote a b count to (codesOf written)
+  pub more-codes : count ≤ to
+  pub few-codes : to + at ≤ count + end
   pub inside : end ≤ length line
   pub roomy : Roomy b line end to
 
