@@ -12,11 +12,11 @@ use Rattle.text_expressions.specs.declared.term.TermParts.{TermParts}
 use Rattle.text_rules.specs.declared.line.Checks.{Checks}
 
 -- of nothing
-unfoldable pub allTrue : Checks
+abbrev pub allTrue : Checks
 allTrue = record { named = true; kinded = true; short = true; ranged = true; shallow = true; few = true }
 
 -- by the summary of an expression, and by a term
-unfoldable pub summaryChecks : Summary → Checks
+abbrev pub summaryChecks : Summary → Checks
 summaryChecks g = record {
   named = g .named;
   kinded = g .kinded && not (g .reference && g .measure);
@@ -26,11 +26,11 @@ summaryChecks g = record {
   few = leb (g .operators) 64;
 }
 
-unfoldable pub termChecks : TermParts → Checks
+abbrev pub termChecks : TermParts → Checks
 termChecks p = record { named = p .named; kinded = p .kinded; short = p .short; ranged = p .ranged; shallow = true; few = true }
 
 -- of two parts; and whether a field is named and kinds agree
-unfoldable pub bothChecks : Checks → Checks → Checks
+abbrev pub bothChecks : Checks → Checks → Checks
 bothChecks a b = record {
   named = a .named && b .named;
   kinded = a .kinded && b .kinded;
@@ -40,7 +40,7 @@ bothChecks a b = record {
   few = a .few && b .few;
 }
 
-unfoldable pub withKinds : Checks → Bool → Bool → Checks
+abbrev pub withKinds : Checks → Bool → Bool → Checks
 withKinds k named kinded = record {
   named = k .named && named;
   kinded = k .kinded && kinded;

@@ -37,7 +37,7 @@ use Rattle.text_lines.specs.declared.line.TestParts.{TestParts}
 use Rattle.text_lines.specs.declared.line.FirstSide.{FirstSide}
 
 -- no line of document 01
-unfoldable pub noParts : ℕ → LineParts
+abbrev pub noParts : ℕ → LineParts
 noParts count = record { line = NoForm; codes = count }
 
 -- a line that is one word, and a loop's field, by the tokens behind the first
@@ -52,13 +52,13 @@ unfoldable pub loopRead : Sizes → List Token → LineRead
 loopRead s ts = loopField s (oneOf letterIn ts)
 
 -- a test of two sides, and none
-unfoldable pub whenParts : FirstSide → Summary → Term → TestParts
+abbrev pub whenParts : FirstSide → Summary → Term → TestParts
 whenParts x g y = record {
   test = When (x .term) (x .comparison) y;
   checks = withKinds (bothChecks (summaryChecks (x .seen)) (summaryChecks g)) true (sameKind (x .seen .reference) (g .reference));
 }
 
-unfoldable pub alwaysParts : TestParts
+abbrev pub alwaysParts : TestParts
 alwaysParts = record { test = Always; checks = allTrue }
 
 -- a test in the array is the written one; the codes of its terms stand from..to
