@@ -1,6 +1,9 @@
 -- `text_lines::side::single` meets its contract.
 -- Assumes nothing.
+use mathlib.Core.Path.{ap, _∙_}
 use borrow.Author.Needs.{needs}
+use Rattle.integers.proofs.Complement.{kept}
+use Rattle.program.specs.declared.term.Term.the-variants.{Number}
 use Rattle.text_lines.proofs.Sides.{single-chain, single-number}
 use Rattle.text_lines.proofs.side.single.Statement.{statement}
 use Rattle.text_lines.proofs.side.single.Tie as tie
@@ -24,7 +27,7 @@ shared-slice-copy-out-t13 : tie.Need-shared-slice-copy-out-t13
 shared-slice-copy-out-t13 c = search needs
 
 returns-2 : tie.Need-returns-2
-returns-2 c = single-number _ _ (c .before .if1 .left)
+returns-2 c = ap Number (kept _ (c .t13 .given)) ∙ single-number _ _ (c .before .if1 .left)
 
 pub single-spec : {M : Type 1} → statement M
 single-spec =
