@@ -1,8 +1,8 @@
 -- Chains, link by link: what a chain begins with, its inner chain, and the brackets behind it.
-use Prim.Native.Nat.{ℕ, zero, suc, _+_, _-_, _≤_, _<_}
+use Prim.Native.Nat.{ℕ, suc, _+_, _-_, _≤_}
 use mathlib.Core.Path.{_≡_, refl, sym, ap, subst, _∙_}
 use mathlib.Core.Logic.{_≢_}
-use mathlib.Core.Bool.{Bool, true, false}
+use mathlib.Core.Bool.{Bool, false}
 use mathlib.Core.List.{List, [], _∷_, _++_}
 use mathlib.Core.Option.{Option, none, some}
 use native.Mathlib.Omega.{arith}
@@ -13,7 +13,7 @@ use Rattle.chain_text.specs.declared.letters.Letters.{Letters}
 use Rattle.text_syntax.specs.Token as S
 use Rattle.text_syntax.specs.Token.{own, letter, openSquare, closeSquare}
 use Rattle.text_syntax.specs.Kind.{kind, letterIn, fixedIn, same, is}
-use Rattle.text_syntax.specs.Form.{Form, formed, unformed, oneOf, held, past, then, or}
+use Rattle.text_syntax.specs.Form.{Form, formed, unformed, oneOf, held, past, then}
 use Rattle.text_syntax.specs.Grammar.{chainForm}
 use Rattle.text_syntax.specs.Flat.{closedChain, chainFrom}
 use Rattle.text_syntax.proofs.TokenKinds.{letter-token}
@@ -42,7 +42,8 @@ module _ (due : Bool) (line : List ℕ) (at i : ℕ) {l : ℕ} (text : tokensFro
   pub link-none : Absent false openSquare line i → NoChain due line at
   link-none w = record { none = ap chainForm text ∙ chain-letter l _ ∙ past-absent openSquare _ _ (w .absent) }
 
-pub link-other : {due : Bool} {line : List ℕ} {at : ℕ} {x : Lexeme} → Lexed due line at x → x .token ≢ tokenCode own → ((l : ℕ) → x .token ≢ tokenCode (letter l))
+pub link-other : {due : Bool} {line : List ℕ} {at : ℕ} {x : Lexeme} → Lexed due line at x → x .token ≢ tokenCode own →
+    ((l : ℕ) → x .token ≢ tokenCode (letter l))
     → NoChain due line at
 unfolding held chainForm begins oneOf
 link-other {due} {line} {at} w u n = record { none = go (tokensFrom due line at) (absent w own u .absent) (none-of w letterIn letter letter-token n) }
@@ -68,7 +69,8 @@ chain-closed s k x {due} {line} {at} {l} o NoForm r h q = subst (ChainAt s k x d
   none = opened o ∙ ap (λ (f : Form (List ℕ)). then f (λ ls r. past closeSquare r (formed (l ∷ ls)))) (h .none);
 })
 chain-closed s k x {l = l} o (Chain y i) NoForm h q = record {
-  none = opened o ∙ ap (λ (f : Form (List ℕ)). then f (λ ls r. past closeSquare r (formed (l ∷ ls)))) (h .form-is) ∙ past-absent closeSquare _ _ (q .absent);
+  none = opened o ∙ ap (λ (f : Form (List ℕ)). then f (λ ls r. past closeSquare r (formed (l ∷ ls)))) (h .form-is) ∙ past-absent closeSquare _ _
+      (q .absent);
 }
 chain-closed s k x {l = l} o (Chain y i) (Chain z last) h q = record {
   letters = l ∷ h .letters;
@@ -91,7 +93,8 @@ pub step-kept : (s : Sizes) {k : ℕ} (x : Letters) (l : ℕ) → k ≡ 0 → st
 unfolding step
 step-kept s x l e = rw e
 
-pub chain-inside : (s : Sizes) (k : ℕ) (x : Letters) (due : Bool) (line : List ℕ) (at : ℕ) (r : ChainRead) → ChainAt s k x due line at r → EndsInside line r
+pub chain-inside : (s : Sizes) (k : ℕ) (x : Letters) (due : Bool) (line : List ℕ) (at : ℕ) (r : ChainRead) → ChainAt s k x due line at r → EndsInside line
+    r
 chain-inside s k x due line at NoForm h = tt
 chain-inside s k x due line at (Chain y end) h = h .behind .inside
 
@@ -126,7 +129,8 @@ closing-start n h = record { same = λ ls. refl; onward = omega arith; inside = 
 
 pub closing-done : {n : ℕ} {line : List ℕ} {at left i : ℕ} → Closing n line at left i → left ≡ 0 → Closes n line at i
 unfolding closedChain
-closing-done {line = line} {i = i} w e = record { text = λ ls. w .same ls ∙ ap (λ (k : ℕ). closedChain k ls (tokensFrom false line i)) e; onward = w .onward; inside = w .inside }
+closing-done {line = line} {i = i} w e = record
+    { text = λ ls. w .same ls ∙ ap (λ (k : ℕ). closedChain k ls (tokensFrom false line i)) e; onward = w .onward; inside = w .inside }
 
 -- a chain of any length: the letters that have opened, and where the next link stands
 pub record Opening (s : Sizes) (x : Letters) (line : List ℕ) (at : ℕ) (seen : Letters) (i hops : ℕ) : Type 0 where

@@ -2,15 +2,13 @@
 use Prim.Native.Nat.{ℕ, zero, suc, _+_, _-_, _≤_, _<_}
 use mathlib.Core.Path.{_≡_, refl, sym, ap, ap₂, _∙_}
 use mathlib.Core.Logic.{_≢_}
-use mathlib.Core.Bool.{Bool, true, false, cond, _&&_}
-use mathlib.Core.List.{List, [], _∷_, _++_, append-nil}
+use mathlib.Core.List.{List, [], _∷_, _++_}
 use native.Mathlib.Omega.{arith}
-use borrow.Author.Tests.{eq-eqb, ne-eqb}
-use lib.Dec.{eqb}
+use borrow.Author.Tests.{ne-eqb}
 use lib.IntN.{ℤ, pos}
-use lib.ListN.{length, getD, set, length-set}
+use lib.ListN.{length, set, length-set}
 use lib.Seq.{getD-set-same, getD-set-other}
-use Rattle.program.specs.Code.{Code, operator, operatorOf, codeOf, codeAt, codesFrom, codesIn}
+use Rattle.program.specs.Code.{Code, codeOf, codeAt, codesFrom}
 use Rattle.program.proofs.Codes.{codes-first, codes-none, codes-agree}
 use Rattle.text_expressions.specs.Codes.{Arrays, arrays, codeIn, codesBetween, signCodes, signSize, Wrote, WroteSign}
 
@@ -53,7 +51,8 @@ wrote-then {a} {b} {d} {i} {j} {k} v w = record {
   codes-are =
       codes-join d i j k (v .onward) (w .onward)
       ∙ ap₂ (λ (l m : List Code). l ++ m)
-      (codes-agree (d .kinds) (b .kinds) (d .numbers) (b .numbers) (d .chains) (b .chains) i (j - i) (λ m p q. sym (w .kept m (omega (arith, q, v .onward)))) ∙ v .codes-are)
+      (codes-agree (d .kinds) (b .kinds) (d .numbers) (b .numbers) (d .chains) (b .chains) i (j - i)
+      (λ m p q. sym (w .kept m (omega (arith, q, v .onward)))) ∙ v .codes-are)
       (w .codes-are);
   kept = λ m h. v .kept m h ∙ w .kept m (omega (arith, h, v .onward));
   onward = omega (arith, v .onward, w .onward);
@@ -68,7 +67,8 @@ code-one a n =
     codes-first (a .kinds) (a .numbers) (a .chains) n (n + 1) (omega arith)
     ∙ ap (λ (l : List Code). codeIn a n ∷ l) (codes-none (a .kinds) (a .numbers) (a .chains) (suc n) (n + 1) (omega arith))
 
-pub wrote-term : (kinds : List ℕ) (numbers : List ℤ) (chains : List ℕ) (n k : ℕ) (z : ℤ) (p : ℕ) {y : ℤ} → z ≡ y → n < length kinds → n < length numbers → n < length chains
+pub wrote-term : (kinds : List ℕ) (numbers : List ℤ) (chains : List ℕ) (n k : ℕ) (z : ℤ) (p : ℕ) {y : ℤ} → z ≡ y → n < length kinds → n < length numbers →
+    n < length chains
     → Wrote (arrays kinds numbers chains) (arrays (set kinds n k) (set numbers n z) (set chains n p)) n (n + 1) (codeOf k y p ∷ [])
 unfolding codeAt
 wrote-term kinds numbers chains n k z p e hk hz hp = record {
@@ -77,7 +77,12 @@ wrote-term kinds numbers chains n k z p e hk hz hp = record {
       ∙ (rw (getD-set-same kinds n k 0 hk, getD-set-same numbers n z (pos 0) hz, getD-set-same chains n p 0 hp) refl
       ∙ ap (λ (x : ℤ). codeOf k x p ∷ []) e);
   kept = λ i h.
-      rw (getD-set-other kinds n i k 0 (λ q. omega (arith, q, h)), getD-set-other numbers n i z (pos 0) (λ q. omega (arith, q, h)), getD-set-other chains n i p 0 (λ q. omega (arith, q, h)));
+      rw (
+        getD-set-other kinds n i k 0 (λ q. omega (arith, q, h)),
+        getD-set-other numbers n i z (pos 0) (λ q. omega (arith, q, h)),
+        getD-set-other chains
+            n i p 0 (λ q. omega (arith, q, h)),
+      );
   onward = omega arith;
   kinds-length = length-set kinds n k;
   numbers-length = length-set numbers n z;

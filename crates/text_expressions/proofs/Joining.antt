@@ -1,8 +1,8 @@
 -- What operators of a rank join, element by element, with a remaining depth.
-use Prim.Native.Nat.{ℕ, suc, _+_, _-_, _≤_, _<_, max}
+use Prim.Native.Nat.{ℕ, suc, _+_, _-_, _≤_, _<_}
 use mathlib.Core.Path.{_≡_, refl, sym, ap, subst, _∙_}
 use mathlib.Core.Logic.{_≢_}
-use mathlib.Core.Bool.{Bool, true, false, cond, not}
+use mathlib.Core.Bool.{Bool, true, false, cond}
 use mathlib.Core.List.{List, [], _∷_, _++_, append-nil}
 use native.Mathlib.Omega.{arith}
 use lib.Dec.{eqb}
@@ -25,12 +25,16 @@ use Rattle.text_syntax.proofs.Depths.{Grows, minimum-grows, expression-grows, D
 use Rattle.text_syntax.proofs.Scans.{merged-operation, merged-group}
 use Rattle.text_expressions.specs.declared.term.TermParts.{TermParts}
 use Rattle.text_expressions.specs.declared.summary.Summary.{Summary}
-use Rattle.text_expressions.specs.declared.reader.Reading.{Reading}
-use Rattle.text_expressions.specs.declared.reader.Reading.the-variants.{Read, NoForm, Deep as TooDeepRead}
-use Rattle.text_expressions.specs.Place.{tokensFrom, Behind, Passing, Absent, NoOperator}
+use Rattle.text_expressions.specs.declared.join.Reading.{Reading}
+use Rattle.text_expressions.specs.declared.join.Reading.the-variants.{Read, NoForm, Deep as TooDeepRead}
+use Rattle.text_expressions.specs.declared.join.Pending.{Pending}
+use Rattle.text_expressions.specs.declared.join.Joining.{Joining}
+use Rattle.text_expressions.specs.declared.join.Joining.the-variants.{Next, Done}
+use Rattle.text_expressions.specs.Place.{tokensFrom, Passing, Absent, NoOperator}
 use Rattle.text_expressions.specs.Term.{partsOf, TermFormed, NoTerm}
 use Rattle.text_expressions.specs.Summary.{summaryOf, termSummary}
-use Rattle.text_expressions.specs.Reading.{Ranked, Unranked, AllDeep, ReadAs, Unread, TooDeep, ReadingAt, EndInside, GroupedAt, GroupedBy}
+use Rattle.text_expressions.specs.Reading.{Unranked, AllDeep, ReadAs, Unread, TooDeep, ReadingAt, EndInside, GroupedBy}
+use Rattle.text_expressions.specs.Join.{Continues, ReadyFor, PutNext, JoinedBy}
 use Rattle.text_expressions.proofs.Places.{past-absent}
 use Rattle.text_expressions.proofs.ChainForms.{behind-behind}
 use Rattle.text_expressions.specs.Codes.{Arrays, arrays, termCode, codesOf, signKind, signOperator, signCodes, signSize, Wrote, WroteSign, Roomy}
@@ -42,7 +46,8 @@ pub ranked-none : (rank : Sign → Bool) {line : List ℕ} {at : ℕ} → NoOper
 unfolding operatorForm then
 ranked-none rank w = record { none = rw (w .none) }
 
-pub ranked-other : (rank : Sign → Bool) {o : Sign} {line : List ℕ} {at end : ℕ} → Passing false true (operator o) line at end → rank o ≡ false → Unranked rank line at
+pub ranked-other : (rank : Sign → Bool) {o : Sign} {line : List ℕ} {at end : ℕ} → Passing false true (operator o) line at end → rank o ≡ false → Unranked
+    rank line at
 unfolding operatorForm then oneOf held operatorIn kind
 ranked-other rank {o} {line} {at} {end} w h = record {
   none = ap (operatorForm rank) (w .text) ∙ ap (λ (b : Bool). cond b (formed o (tokensFrom true line end)) unformed) h;
@@ -95,20 +100,20 @@ smaller-joins = record { first = minimum-joined; more = minimum-more; end = mini
 -- what is joined so far, before the element that is due at place i: joins makes of that element all that is read; behind the element's codes
 -- the code of an operator is to be written, if its kind is not 0
 pub record Joined (element : List S.Token → Form Expression) (from : Expression → List S.Token → Form Expression) (reader : List S.Token → Form Expression)
-    (s : Sizes) (room : ℕ) (before : Summary) (line : List ℕ) (at : ℕ) (a : Arrays) (count : ℕ) (seen : Summary) (i codes kind : ℕ) (b : Arrays) : Type 0 where
+    (s : Sizes) (room : ℕ) (before : Summary) (line : List ℕ) (at : ℕ) (a : Arrays) (count : ℕ) (x : Pending) (b : Arrays) : Type 0 where
   pub joins : Expression → Expression
-  pub same : reader (tokensFrom true line at) ≡ then (element (tokensFrom true line i)) (λ y. from (joins y))
-  pub gathered : (y : Expression) → merged (8 - room) (summaryOf seen) (summary s y) ≡ merged (8 - room) (summaryOf before) (summary s (joins y))
+  pub same : reader (tokensFrom true line at) ≡ then (element (tokensFrom true line (x .at))) (λ y. from (joins y))
+  pub gathered : (y : Expression) → merged (8 - room) (summaryOf (x .seen)) (summary s y) ≡ merged (8 - room) (summaryOf before) (summary s (joins y))
   pub deeper : (y : Expression) → depth y ≤ depth (joins y)
   pub shallow : (y : Expression) → depth y ≤ room → depth (joins y) ≤ room
-  pub onward : at ≤ i
-  pub inside : i ≤ length line
-  pub few : seen .operators ≤ i
+  pub onward : at ≤ x .at
+  pub inside : x .at ≤ length line
+  pub few : x .seen .operators ≤ x .at
   pub earlier : List Code
-  pub wrote : Wrote a b count codes earlier
-  pub coded : (y : Expression) → earlier ++ (codesOf y ++ signCodes kind) ≡ codesOf (joins y)
-  pub few-codes : codes + at + signSize kind ≤ count + i
-  pub no-number : kind ≢ 1
+  pub wrote : Wrote a b count (x .codes) earlier
+  pub coded : (y : Expression) → earlier ++ (codesOf y ++ signCodes (x .kind)) ≡ codesOf (joins y)
+  pub few-codes : x .codes + at + signSize (x .kind) ≤ count + x .at
+  pub no-number : x .kind ≢ 1
 
 -- the arrays keep their room
 pub roomy-on : {a b : Arrays} {line : List ℕ} {at count i codes : ℕ} {cs : List Code} → Roomy a line at count → Wrote a b count codes cs
@@ -121,8 +126,9 @@ roomy-on r w h = record {
 
 module _ {rank : Sign → Bool} {element : List S.Token → Form Expression} {from : Expression → List S.Token → Form Expression}
     {reader : List S.Token → Form Expression} (j : Joins rank element from reader) where
-  pub joined-start : (s : Sizes) (room : ℕ) (before : Summary) {line : List ℕ} {at : ℕ} (a : Arrays) (count : ℕ) → at ≤ length line → before .operators ≤ at
-      → Joined element from reader s room before line at a count before at count 0 a
+  pub joined-start : (s : Sizes) (room : ℕ) (before : Summary) {line : List ℕ} {at : ℕ} (a : Arrays) (count : ℕ) → at ≤ length line → before .operators ≤
+      at
+      → Joined element from reader s room before line at a count (record { at = at; seen = before; codes = count; kind = 0 }) a
   unfolding signCodes signSize
   joined-start s room before a count h few = record {
     joins = λ y. y;
@@ -140,11 +146,11 @@ module _ {rank : Sign → Bool} {element : List S.Token → Form Expression} {fr
     no-number = λ e. omega (arith, e);
   }
 
-  module _ {s : Sizes} {room : ℕ} {before : Summary} {line : List ℕ} {at : ℕ} {a : Arrays} {count : ℕ} {seen : Summary} {i codes kind : ℕ} {b : Arrays}
-      (w : Joined element from reader s room before line at a count seen i codes kind b) where
+  module _ {s : Sizes} {room : ℕ} {before : Summary} {line : List ℕ} {at : ℕ} {a : Arrays} {count : ℕ} {x : Pending} {b : Arrays}
+      (w : Joined element from reader s room before line at a count x b) where
     -- the element that is read, and its operator's code
-    module _ {d : Arrays} {g : Summary} {end to : ℕ} (e : ReadAs element s room seen line i b d codes g end to)
-        {kinds : List ℕ} {last : ℕ} (o : WroteSign (d .kinds) kinds to last kind) where
+    module _ {d : Arrays} {g : Summary} {end to : ℕ} (e : ReadAs element s room (x .seen) line (x .at) b d (x .codes) g end to)
+        {kinds : List ℕ} {last : ℕ} (o : WroteSign (d .kinds) kinds to last (x .kind)) where
       element-joined : reader (tokensFrom true line at) ≡ from (w .joins (e .written)) (tokensFrom false line end)
       unfolding then
       element-joined = w .same ∙ ap (λ (f : Form Expression). then f (λ y. from (w .joins y))) (e .form-is)
@@ -160,7 +166,7 @@ module _ {rank : Sign → Bool} {element : List S.Token → Form Expression} {fr
       element-few : last + at ≤ count + end
       element-few = omega (arith, o .size, e .few-codes, w .few-codes)
 
-      pub joined-done : Unranked rank line end → ReadAs reader s room before line at a (arrays kinds (d .numbers) (d .chains)) count g end last
+      joined-done : Unranked rank line end → ReadAs reader s room before line at a (arrays kinds (d .numbers) (d .chains)) count g end last
       joined-done n = record {
         written = w .joins (e .written);
         form-is = element-joined ∙ j .end _ _ (n .none);
@@ -172,39 +178,40 @@ module _ {rank : Sign → Bool} {element : List S.Token → Form Expression} {fr
         few-codes = element-few;
       }
 
-      pub joined-more : {o : Sign} {next : ℕ} → Ranked rank o line end next → {h : Summary} → summaryOf h ≡ withOperator o (summaryOf g)
-          → {k : ℕ} → k ≡ signKind o → Joined element from reader s room before line at a count h next last k (arrays kinds (d .numbers) (d .chains))
+      joined-more : {y : Pending} → Continues rank line g end last y → Joined element from reader s room before line at a count y
+          (arrays kinds (d .numbers) (d .chains))
       unfolding depth codesOf
-      joined-more {o} {next} r {h} q {k} z =
-          let x = w .joins (e .written) in
+      joined-more {y} c =
+          let v = w .joins (e .written) in
+          let r = c .ranked in
           record {
-            joins = λ y. operation o x y;
-            same = element-joined ∙ ap (from x) (r .passing .text) ∙ j .more o x _ (r .of-rank);
-            gathered = λ y.
-                ap (λ (f : F.Summary). merged (8 - room) f (summary s y)) (q ∙ ap (withOperator o) element-gathered)
-                ∙ merged-operation s (8 - room) (summaryOf before) o x y;
-            deeper = λ y. omega arith;
-            shallow = λ y d. omega (arith, d, w .shallow (e .written) (e .shallow));
+            joins = λ z. operation (c .sign) v z;
+            same = element-joined ∙ ap (from v) (r .passing .text) ∙ j .more (c .sign) v _ (r .of-rank);
+            gathered = λ z.
+                ap (λ (f : F.Summary). merged (8 - room) f (summary s z)) (c .gathered ∙ ap (withOperator (c .sign)) element-gathered)
+                ∙ merged-operation s (8 - room) (summaryOf before) (c .sign) v z;
+            deeper = λ z. omega arith;
+            shallow = λ z q. omega (arith, q, w .shallow (e .written) (e .shallow));
             onward = omega (arith, w .onward, e .behind .onward, r .passing .behind .onward);
             inside = r .passing .behind .inside;
-            few = omega (arith, operator-few o g q, e .few, r .passing .behind .onward);
-            earlier = codesOf x;
-            wrote = element-wrote;
-            coded = λ y. ap (λ (l : List Code). codesOf x ++ (codesOf y ++ l)) (sign-codes o z);
-            few-codes = omega (arith, element-few, r .passing .behind .onward, sign-size k);
-            no-number = λ e. sign-number o (sym z ∙ e);
+            few = omega (arith, operator-few (c .sign) g (c .gathered), e .few, r .passing .behind .onward);
+            earlier = codesOf v;
+            wrote = subst (λ (n : ℕ). Wrote a (arrays kinds (d .numbers) (d .chains)) count n (codesOf v)) (sym (c .codes-are)) element-wrote;
+            coded = λ z. ap (λ (l : List Code). codesOf v ++ (codesOf z ++ l)) (sign-codes (c .sign) (c .kind-is));
+            few-codes = omega (arith, element-few, r .passing .behind .onward, sign-size (y .kind), c .codes-are);
+            no-number = λ q. sign-number (c .sign) (sym (c .kind-is) ∙ q);
           }
 
-    pub joined-room : Roomy a line at count → Roomy b line i codes
+    pub joined-room : Roomy a line at count → Roomy b line (x .at) (x .codes)
     joined-room r = roomy-on r (w .wrote) (omega (arith, w .few-codes))
 
-    pub joined-none : Unread element line i → Unread reader line at
+    joined-none : Unread element line (x .at) → Unread reader line at
     unfolding then
     joined-none n = record { none = w .same ∙ ap (λ (f : Form Expression). then f (λ y. from (w .joins y))) (n .none) }
 
-    pub joined-deep : TooDeep element room line i → TooDeep reader room line at
+    joined-deep : TooDeep element room line (x .at) → TooDeep reader room line at
     joined-deep n =
-        let here : Form Expression = element (tokensFrom true line i) in
+        let here : Form Expression = element (tokensFrom true line (x .at)) in
         let onward : Expression → List S.Token → Form Expression = λ y. from (w .joins y) in
         record {
           deep = subst (AllDeep room) (sym (w .same)) (all-deep room (then here onward)
@@ -212,6 +219,41 @@ module _ {rank : Sign → Bool} {element : List S.Token → Form Expression} {fr
               all-map (λ e t. Grows (w .joins y) e) (λ e t. room < depth e) (onward y r) (λ e t v. omega (arith, v .deep, d, w .deeper y))
               (j .grows (w .joins y) r))));
         }
+
+    -- there is room for the operator's code
+    pub joined-ready : (d : Arrays) → Roomy a line at count → (r : Reading) → ReadingAt element s room (x .seen) line (x .at) b d (x .codes) r
+        → ReadyFor line (d .kinds) r
+    joined-ready d q (Read g end to) e =
+        (e .behind .inside, e .few, omega (arith, roomy-on (joined-room q) (e .wrote) (e .few-codes) .kinds, e .behind .inside))
+    joined-ready d q NoForm e = tt
+    joined-ready d q TooDeepRead e = tt
+
+    -- what is answered: the next element is due, or that is all
+    module _ (d : Arrays) (kinds : List ℕ) where
+      abbrev after : Arrays
+      after = arrays kinds (d .numbers) (d .chains)
+
+      abbrev pub JoinedTo : Joining → Type 0
+      JoinedTo (Next y) = Joined element from reader s room before line at a count y after × (x .at < y .at)
+      JoinedTo (Done r) = ReadingAt reader s room before line at a after count r
+
+      put-next : {g : Summary} {end to : ℕ} → ReadAs element s room (x .seen) line (x .at) b d (x .codes) g end to → (y : Joining)
+          → PutNext rank line (d .kinds) kinds (x .kind) g end to y → JoinedTo y
+      put-next e (Next y) q = (joined-more e (q .put) (q .next), omega (arith, e .behind .onward, q .next .ranked .passing .behind .onward))
+      put-next {end = end} e (Done (Read h last n)) q =
+          let f = q .next in
+          subst (λ (k : ℕ). ReadAs reader s room before line at a after count h last k) (sym (f .codes-are))
+          (subst (λ (k : ℕ). ReadAs reader s room before line at a after count h k (q .codes)) (sym (f .end-is))
+          (subst (λ (y : Summary). ReadAs reader s room before line at a after count y end (q .codes)) (sym (f .gathered))
+          (joined-done e (q .put) (f .none))))
+      put-next e (Done NoForm) q = absurd (q .next)
+      put-next e (Done TooDeepRead) q = absurd (q .next)
+
+      pub joined-by : (r : Reading) → ReadingAt element s room (x .seen) line (x .at) b d (x .codes) r → (y : Joining)
+          → JoinedBy rank line (d .kinds) kinds (x .kind) r y → JoinedTo y
+      joined-by (Read g end to) e y q = put-next e y q
+      joined-by NoForm e y q = subst JoinedTo (sym q) (joined-none e)
+      joined-by TooDeepRead e y q = subst JoinedTo (sym q) (joined-deep e)
 
 -- a term as an operand
 pub term-operand : {s : Sizes} {room : ℕ} {before : Summary} {line : List ℕ} {at : ℕ} {a b : Arrays} {count : ℕ} {p : TermParts} {g : Summary} {end : ℕ}
@@ -237,10 +279,12 @@ group-none t p = record { none = operand-other _ (t .none) ∙ past-absent openR
 pub group-full : {line : List ℕ} {at inner : ℕ} (room : ℕ) → room ≡ 0 → Passing true true openRound line at inner → TooDeep operand room line at
 group-full {line} {at} {inner} room z p = record {
   deep = subst (λ (k : ℕ). AllDeep k (operand (tokensFrom true line at))) (sym z)
-      (subst (λ (ts : List S.Token). AllDeep 0 (operand ts)) (sym (p .text)) (all-deep 0 (operand (openRound ∷ tokensFrom true line inner)) (group-deep-first (tokensFrom true line inner))));
+      (subst (λ (ts : List S.Token). AllDeep 0 (operand ts)) (sym (p .text))
+      (all-deep 0 (operand (openRound ∷ tokensFrom true line inner)) (group-deep-first (tokensFrom true line inner))));
 }
 
-module _ (s : Sizes) (room : ℕ) (before : Summary) {line : List ℕ} {at inner : ℕ} (low : room ≤ 8) (z : room ≢ 0) (p : Passing true true openRound line at inner) where
+module _ (s : Sizes) (room : ℕ) (before : Summary) {line : List ℕ} {at inner : ℕ} (low : room ≤ 8) (z : room ≢ 0)
+    (p : Passing true true openRound line at inner) where
   grouped : operand (tokensFrom true line at) ≡ then (expression (tokensFrom true line inner)) (λ e r. past closeRound r (formed (group e)))
   grouped = ap operand (p .text) ∙ operand-group _
 
@@ -283,7 +327,8 @@ module _ (s : Sizes) (room : ℕ) (before : Summary) {line : List ℕ} {at inner
         (group-deep (room - 1) (tokensFrom true line inner) (to-deep (room - 1) (expression (tokensFrom true line inner)) (e .deep)))));
   })
 
-pub reading-inside : (reader : List S.Token → Form Expression) (s : Sizes) (room : ℕ) (before : Summary) (line : List ℕ) (at : ℕ) (a b : Arrays) (count : ℕ)
+pub reading-inside : (reader : List S.Token → Form Expression) (s : Sizes) (room : ℕ) (before : Summary) (line : List ℕ) (at : ℕ) (a b : Arrays)
+    (count : ℕ)
     (r : Reading) → ReadingAt reader s room before line at a b count r → EndInside line r
 reading-inside reader s room before line at a b count (Read g end to) h = h .behind .inside
 reading-inside reader s room before line at a b count NoForm h = tt

@@ -5,3 +5,5 @@ pub mod Terms
 pub mod Turning
 pub mod Coding
 pub mod Joining
+pub mod Postfix
+pub mod Whole

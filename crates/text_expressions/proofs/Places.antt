@@ -23,7 +23,6 @@ use Rattle.text_syntax.proofs.TokenKinds.{tokenOf, token-kind, is-true}
 use Rattle.text_syntax.proofs.Lexing.{not-first, tokens-first, tokens-none, tokens-empty}
 use Rattle.text_lexer.specs.Lexeme.{tokenCode, firstCode, Reads, Lexed}
 use Rattle.text_lexer.specs.declared.token.Token.{Token}
-use Rattle.text_lexer.specs.declared.token.Token.the-variants.{LineEnd}
 use Rattle.text_lexer.specs.declared.token.Lexeme.{Lexeme}
 use Rattle.text_lexer.proofs.token.Token.{the-type}
 use Rattle.text_expressions.specs.Place.{tokensFrom, Behind, begins, Absent}
@@ -38,7 +37,8 @@ module _ {due : Bool} {line : List ℕ} {at : ℕ} {x : Lexeme} (w : Lexed due l
   passed e = subst (λ (k : Token). Reads k (tokensFrom due line at) (λ o. tokensFrom o line (x .end))) e (w .reads)
 
   pub goes-on : (k : Token) → x .token ≡ k → T (not (hasKey (19 ∷ []) (tagOf the-type k))) → Behind line at (x .end)
-  goes-on k e h = record { onward = w .onward (λ q. told (19 ∷ []) {w = k} (subst (λ (y : Token). OneOf (19 ∷ []) (tagOf the-type y)) (sym q) refl) h e); inside = w .inside }
+  goes-on k e h = record
+      { onward = w .onward (λ q. told (19 ∷ []) {w = k} (subst (λ (y : Token). OneOf (19 ∷ []) (tagOf the-type y)) (sym q) refl) h e); inside = w .inside }
 
   -- another token than t
   pub absent : (t : S.Token) → x .token ≢ tokenCode t → Absent due t line at
@@ -100,13 +100,27 @@ unfolding firstToken words signs letterIn kind
 first-letter due [] e = not-first e
 first-letter due (b ∷ t) {l} {r} e = minus (eqb b 45 && due) e
   where
-    capital : (y : Bool) → isCapital b ≡ y → cond y (first (S.letter b) t) (fixedToken (words ++ signs) (b ∷ t)) ≡ first (S.letter l) r → isCapital l ≡ true
+    capital : (y : Bool) → isCapital b ≡ y → cond y (first (S.letter b) t) (fixedToken (words ++ signs) (b ∷ t)) ≡ first (S.letter l) r → isCapital l ≡
+        true
     capital true h e = let same : b ≡ l = cc in ap isCapital (sym same) ∙ h
-    capital false h e = absurd (table-letter (words ++ signs) (b ∷ t)
-        (refl, (refl, (refl, (refl, (refl, (refl, (refl, (refl, (refl, (refl, (refl, (refl, (refl, (refl, (refl, (refl, (refl, (refl, (refl, (refl, (refl, tt))))))))))))))))))))) e)
+    capital false h e = absurd (table-letter (words ++ signs) (b ∷ t) (
+      refl,
+      (
+        refl,
+        (
+          refl,
+          (
+            refl,
+            (refl, (refl, (refl, (refl, (refl, (refl, (refl, (refl, (refl, (refl, (refl, (refl, (refl, (refl, (refl, (refl, (refl, tt))))))))))))))))),
+          ),
+        ),
+      ),
+    )
+        e)
 
     digit : (y : Bool)
-        → cond y (numberToken (signedForm false (b ∷ t))) (cond (isCapital b) (first (S.letter b) t) (fixedToken (words ++ signs) (b ∷ t))) ≡ first (S.letter l) r
+        → cond y (numberToken (signedForm false (b ∷ t))) (cond (isCapital b) (first (S.letter b) t) (fixedToken (words ++ signs) (b ∷ t))) ≡ first
+        (S.letter l) r
         → isCapital l ≡ true
     digit true e = absurd (number-letter (signedForm false (b ∷ t)) e)
     digit false e = capital (isCapital b) refl e

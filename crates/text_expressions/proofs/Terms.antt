@@ -1,9 +1,9 @@
 -- Terms: a chain or a number, as it is answered.
-use Prim.Native.Nat.{ℕ, _≤_}
-use mathlib.Core.Path.{_≡_, refl, sym, ap, ap₂, _∙_}
+use Prim.Native.Nat.{ℕ}
+use mathlib.Core.Path.{_≡_, refl, sym, ap, _∙_}
 use mathlib.Core.Logic.{_≢_}
 use mathlib.Core.Bool.{Bool, true, false, not}
-use mathlib.Core.List.{List, [], _∷_, _++_}
+use mathlib.Core.List.{List, [], _∷_}
 use native.Mathlib.Omega.{arith}
 use borrow.Author.Tests.{ltb-true, ltb-false, lt-leb, le-leb}
 use lib.Dec.{leb, ltb}
@@ -20,22 +20,23 @@ use Rattle.text_tokens.proofs.Numbers.{capped-range}
 use Rattle.text_syntax.specs.Token as S
 use Rattle.text_syntax.specs.Kind as K
 use Rattle.text_syntax.specs.Kind.{Kind, kind}
-use Rattle.text_syntax.specs.Form.{Form, formed, unformed, held, oneOf, then, or}
-use Rattle.text_syntax.specs.Written.{Term, chain, number}
+use Rattle.text_syntax.specs.Form.{formed, unformed, held, oneOf, then, or}
+use Rattle.text_syntax.specs.Written.{chain, number}
 use Rattle.text_syntax.specs.Grammar.{chainForm, numberIn, termForm}
 use Rattle.text_syntax.specs.Parts.{termNamed, termKinded, isReferenceTerm, termShort, termInRange}
 use Rattle.text_syntax.specs.Printed.{printedChain}
 use Rattle.text_syntax.proofs.TokenKinds.{tokenOf, token-kind}
 use Rattle.text_syntax.proofs.Readers.{all-formed}
-use Rattle.text_syntax.proofs.Chains.{ChainSpelled, chain-all, chain-own, term-letter}
+use Rattle.text_syntax.proofs.Chains.{ChainSpelled, chain-all, chain-own}
 use Rattle.text_lexer.specs.Lexeme.{tokenCode, firstCode, NumberFirst, Lexed}
 use Rattle.text_lexer.specs.declared.token.Lexeme.{Lexeme}
 use Rattle.text_lexer.specs.declared.token.Token.the-variants.{Number}
+use Rattle.text_expressions.specs.declared.term.TermParts.{TermParts}
 use Rattle.text_expressions.specs.declared.chains.ChainRead.{ChainRead}
 use Rattle.text_expressions.specs.declared.chains.ChainRead.the-variants.{Chain, NoForm}
 use Rattle.text_expressions.specs.Place.{tokensFrom, Behind, Passing}
 use Rattle.text_expressions.specs.Chain.{Opens, NoChain, ChainFormed, ChainAt}
-use Rattle.text_expressions.specs.Term.{chainParts, numberParts, chainTerm, kindOf, numberOf, packedOf, partsOf, TermFormed, NoTerm, TermAt}
+use Rattle.text_expressions.specs.Term.{chainParts, numberParts, chainTerm, kindOf, numberOf, packedOf, partsOf, ChainTerm, ChainPartsAt, TermFormed, NoTerm}
 
 -- the parts of a chain and of a number
 chain-parts : (s : Sizes) (ls : List ℕ) (b : Bool) → b ≡ isReferenceTerm (chain ls) → chainParts (summary s ls) b ≡ partsOf s (chain ls)
@@ -57,24 +58,20 @@ number-parts s negative x = go (inRange (numberValue negative x)) refl
     go true h = rw h
     go false h = rw h
 
--- a chain as a term
-term-chain : (ts : List S.Token) {ls : List ℕ} {r : List S.Token} → chainForm ts ≡ formed ls r → termForm ts ≡ formed (chain ls) r
-unfolding termForm or then
-term-chain ts h = rw h
-
-chain-formed : {s : Sizes} {line : List ℕ} {at : ℕ} {y : Letters} {end : ℕ} (b : Bool) (w : ChainFormed s 16 start true line at y end)
-    → b ≡ isReferenceTerm (chain (w .letters)) → TermFormed s line at (chainParts y b) end
+-- a chain by its letters
+chain-formed : {s : Sizes} {due : Bool} {line : List ℕ} {at : ℕ} {y : Letters} {end : ℕ} (b : Bool) (w : ChainFormed s 16 start due line at y end)
+    → b ≡ isReferenceTerm (chain (w .letters)) → ChainTerm s due line at (chainParts y b) end
 chain-formed {s} b w h = record {
-  written = chain (w .letters);
-  form-is = term-chain _ (w .form-is);
+  letters = w .letters;
+  form-is = w .form-is;
   parts-are = ap (λ (z : Letters). chainParts z b) (w .letters-are ∙ steps-summary s (w .letters)) ∙ chain-parts s (w .letters) b h;
   behind = w .behind;
 }
 
-pub own-term : {s : Sizes} {line : List ℕ} {at end : ℕ} → Passing true false S.own line at end → TermFormed s line at (chainParts start true) end
+pub own-chain : {s : Sizes} {due : Bool} {line : List ℕ} {at end : ℕ} → Passing due false S.own line at end
+    → ChainTerm s due line at (chainParts start true) end
 unfolding isReferenceTerm steps
-own-term {s} w =
-    chain-formed true (record { letters = []; form-is = ap chainForm (w .text) ∙ chain-own _; letters-are = refl; behind = w .behind }) refl
+own-chain w = chain-formed true (record { letters = []; form-is = ap chainForm (w .text) ∙ chain-own _; letters-are = refl; behind = w .behind }) refl
 
 -- the kind of a chain is that of its first letter
 letter-kind : (ts : List S.Token) (ls : List ℕ) {l : ℕ} {r q : List S.Token} → chainForm ts ≡ formed ls r → ts ≡ S.letter l ∷ q
@@ -88,16 +85,15 @@ letter-kind ts (m ∷ ls) {l} e t =
     let same : m ≡ l = cc in
     ap (λ (k : ℕ). ltb k 77) (sym same)
 
-pub letter-term : (s : Sizes) {line : List ℕ} {at l end : ℕ} → Opens true line at l end → (r : ChainRead) → ChainAt s 16 start true line at r
-    → TermAt s line at (chainTerm r (ltb l 77))
-unfolding then
-letter-term s {line} {at} {l} o NoForm h = record {
-  none =
-      ap termForm (o .text)
-      ∙ term-letter l _
-      ∙ ap (λ (f : Form (List ℕ)). then f (λ ls. formed (chain ls))) (sym (ap chainForm (o .text)) ∙ h .none);
-}
-letter-term s o (Chain y end) h = chain-formed _ h (letter-kind _ (h .letters) (h .form-is) (o .text))
+pub letter-chain : (s : Sizes) {due : Bool} {line : List ℕ} {at l end : ℕ} → Opens due line at l end → (r : ChainRead)
+    → ChainAt s 16 start due line at r → ChainPartsAt s due line at (chainTerm r (ltb l 77))
+letter-chain s o NoForm h = h
+letter-chain s o (Chain y end) h = chain-formed _ h (letter-kind _ (h .letters) (h .form-is) (o .text))
+
+-- a chain as a term
+pub chain-term : {s : Sizes} {line : List ℕ} {at : ℕ} {p : TermParts} {end : ℕ} → ChainTerm s true line at p end → TermFormed s line at p end
+unfolding termForm or then
+chain-term w = record { written = chain (w .letters); form-is = rw (w .form-is); parts-are = w .parts-are; behind = w .behind }
 
 -- a number as a term, where no chain stands
 not-chain : {line : List ℕ} {at : ℕ} → NoChain true line at → termForm (tokensFrom true line at) ≡ oneOf numberIn (tokensFrom true line at)

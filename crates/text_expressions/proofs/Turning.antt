@@ -1,9 +1,9 @@
 -- One pass over an expression, turn by turn.
-use Prim.Native.Nat.{ℕ, suc, _+_, _-_, _≤_, _<_}
+use Prim.Native.Nat.{ℕ, suc, _+_, _-_, _≤_}
 use mathlib.Core.Path.{_≡_, refl, sym, ap, _∙_}
 use mathlib.Core.Logic.{_≢_}
 use mathlib.Core.Bool.{Bool, true, false}
-use mathlib.Core.List.{List, _∷_}
+use mathlib.Core.List.{List}
 use native.Mathlib.Omega.{arith}
 use lib.ListN.{length}
 use Rattle.register.specs.declared.Sizes.{Sizes}
@@ -12,7 +12,7 @@ use Rattle.text_syntax.specs.Token.{Sign, operator, openRound, closeRound}
 use Rattle.text_syntax.specs.Kind.{kind, fixedIn, same, is}
 use Rattle.text_syntax.specs.Form.{Form, formed, unformed, past, then, thenOr}
 use Rattle.text_syntax.specs.Written.{Term, Expression, term}
-use Rattle.text_syntax.specs.Grammar.{termForm, expression}
+use Rattle.text_syntax.specs.Grammar.{expression}
 use Rattle.text_syntax.specs.Parts.{everyTerm, isReference, isMeasure, depth, operators}
 use Rattle.text_syntax.specs.Flat as F
 use Rattle.text_syntax.specs.Flat.{empty, summary, merged, withOperator, scanFrom}
@@ -57,7 +57,8 @@ module _ (s : Sizes) {line : List ℕ} (x : State) (w : StateAt line x) where
     same =
         at-due true e
         ∙ scan-term s d g (t .written) _ _ (t .form-is)
-        ∙ ap (λ (f : F.Summary). scanFrom s false d f (tokensFrom false line end)) (ap (merged d g) (sym (term-summary s (t .written) (t .parts-are))) ∙ sym q);
+        ∙ ap (λ (f : F.Summary). scanFrom s false d f (tokensFrom false line end))
+        (ap (merged d g) (sym (term-summary s (t .written) (t .parts-are))) ∙ sym q);
     onward = t .behind .onward;
     stands = record {
       inside = t .behind .inside;
@@ -88,7 +89,8 @@ module _ (s : Sizes) {line : List ℕ} (x : State) (w : StateAt line x) where
     none =
         at-due true e
         ∙ scan-due s d g _
-        ∙ ap (λ (f : Form Term). thenOr f (λ y. scanFrom s false d (merged d g (summary s (term y)))) (past openRound (tokensFrom true line (x .at)) (scanFrom s true (suc d) g))) (t .none)
+        ∙ ap (λ (f : Form Term). thenOr f (λ y. scanFrom s false d (merged d g (summary s (term y))))
+        (past openRound (tokensFrom true line (x .at)) (scanFrom s true (suc d) g))) (t .none)
         ∙ past-absent openRound _ (scanFrom s true (suc d) g) (p .absent);
   }
 
@@ -140,6 +142,7 @@ module _ (s : Sizes) {line : List ℕ} (x : State) (w : StateAt line x) where
 -- the turns so far
 pub record Scanning (s : Sizes) (line : List ℕ) (at : ℕ) (x : State) : Type 0 where
   pub same : scanFrom s true 0 empty (tokensFrom true line at) ≡ scanOf s line x
+  pub onward : at ≤ x .at
   pub stands : StateAt line x
 
 pub scanning-start : (s : Sizes) {line : List ℕ} {at : ℕ} {g : Summary} → at ≤ length line → summaryOf g ≡ empty
@@ -147,24 +150,26 @@ pub scanning-start : (s : Sizes) {line : List ℕ} {at : ℕ} {g : Summary} → 
 unfolding empty
 scanning-start s {line} {at} {g} h e = record {
   same = ap (λ (f : F.Summary). scanFrom s true 0 f (tokensFrom true line at)) (sym e);
+  onward = omega arith;
   stands = record { inside = h; groups = omega arith; operators = omega (arith, ap (λ (f : F.Summary). f .operators) e) };
 }
 
 module _ {s : Sizes} {line : List ℕ} {at : ℕ} {x : State} (w : Scanning s line at x) where
   pub scanning-more : {y : State} → Turns s line x y → Scanning s line at y
-  scanning-more t = record { same = w .same ∙ t .same; stands = t .stands }
+  scanning-more t = record { same = w .same ∙ t .same; onward = omega (arith, w .onward, t .onward); stands = t .stands }
 
   pub scanning-done : {g : Summary} {end : ℕ} → Ends s line x g end → ScanFormed s line at g end
   unfolding then
   scanning-done {g} {end} t = go (expression (tokensFrom true line at)) refl (sym (scan-expression s _) ∙ w .same ∙ t .answer)
     where
-      go : (f : Form Expression) → expression (tokensFrom true line at) ≡ f → then f (λ e. formed (summary s e)) ≡ formed (summaryOf g) (tokensFrom false line end)
+      go : (f : Form Expression) → expression (tokensFrom true line at) ≡ f → then f (λ e. formed (summary s e)) ≡ formed (summaryOf g)
+          (tokensFrom false line end)
           → ScanFormed s line at g end
       go unformed e q = absurd (let z : _≡_ {A = ℕ} 0 1 = cc in omega arith)
       go (formed v r) e q =
           let rest : r ≡ tokensFrom false line end = cc in
           let same : summary s v ≡ summaryOf g = cc in
-          record { written = v; form-is = e ∙ ap (formed v) rest; summary-is = sym same; inside = t .inside }
+          record { written = v; form-is = e ∙ ap (formed v) rest; summary-is = sym same; onward = omega (arith, w .onward, t .onward); inside = t .inside }
 
   pub scanning-none : Fails s line x → NoExpression line at
   unfolding then

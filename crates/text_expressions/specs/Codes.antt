@@ -9,7 +9,7 @@ use lib.ListN.{length}
 use Rattle.program.specs.declared.rule.Operator.{Operator}
 use Rattle.program.specs.Code.{Code, operator, operatorOf, codeOf, codeAt, codesIn}
 use Rattle.text_syntax.specs.Token.{Sign, plus, minus, smaller}
-use Rattle.text_syntax.specs.Written.{Term, Expression, term, group, operation}
+use Rattle.text_syntax.specs.Written.{Expression, term, group, operation}
 use Rattle.text_expressions.specs.declared.term.TermParts.{TermParts}
 use Rattle.text_expressions.specs.Term.{kindOf, numberOf, packedOf}
 

@@ -6,3 +6,4 @@ pub mod Summary
 pub mod Scan
 pub mod Codes
 pub mod Reading
+pub mod Join

@@ -8,18 +8,20 @@ use Rattle.register.specs.declared.Sizes.{Sizes}
 use Rattle.text_syntax.specs.Token.{Token, Sign, operator, closeRound}
 use Rattle.text_syntax.specs.Form.{Form, formed, unformed}
 use Rattle.text_syntax.specs.Written.{Expression}
-use Rattle.text_syntax.specs.Grammar.{operatorForm}
+use Rattle.text_syntax.specs.Grammar.{operatorForm, expression}
 use Rattle.text_syntax.specs.Parts.{depth}
 use Rattle.text_syntax.specs.Flat.{summary, merged}
 use Rattle.text_lexer.specs.Lexeme.{signOf}
 use Rattle.text_expressions.specs.declared.place.OperatorRead.{OperatorRead}
 use Rattle.text_expressions.specs.declared.place.OperatorRead.the-variants.{Operator, Nothing}
 use Rattle.text_expressions.specs.declared.summary.Summary.{Summary}
-use Rattle.text_expressions.specs.declared.reader.Reading.{Reading}
-use Rattle.text_expressions.specs.declared.reader.Reading.the-variants.{Read, NoForm, Deep}
+use Rattle.text_expressions.specs.declared.join.Reading.{Reading}
+use Rattle.text_expressions.specs.declared.join.Reading.the-variants.{Read, NoForm, Deep}
+use Rattle.text_expressions.specs.declared.expression.ExpressionRead.{ExpressionRead}
+use Rattle.text_expressions.specs.declared.expression.ExpressionRead.the-variants.{Parts, NoForm as NoParts}
 use Rattle.text_expressions.specs.Place.{tokensFrom, Behind, Passing, Absent}
 use Rattle.text_expressions.specs.Summary.{summaryOf}
-use Rattle.text_expressions.specs.Codes.{Arrays, codesOf, Wrote}
+use Rattle.text_expressions.specs.Codes.{Arrays, codesOf, Wrote, Roomy}
 
 -- an operator of a rank stands at a place, or none
 pub record Ranked (rank : Sign → Bool) (o : Sign) (line : List ℕ) (at end : ℕ) : Type 0 where
@@ -78,3 +80,19 @@ abbrev pub GroupedBy : List ℕ → Reading → Reading → Type 0
 GroupedBy line (Read g at n) r = GroupedAt line g at n r
 GroupedBy line NoForm r = r ≡ NoForm
 GroupedBy line Deep r = r ≡ Deep
+
+-- an expression stands at a place, with what is asked of it; if it is at most 8 groups deep, its codes were written; there is room for what
+-- follows
+pub record ExpressionFormed (s : Sizes) (line : List ℕ) (at : ℕ) (a b : Arrays) (count : ℕ) (g : Summary) (end to : ℕ) : Type 0 where
+  pub written : Expression
+  pub form-is : expression (tokensFrom true line at) ≡ formed written (tokensFrom false line end)
+  pub summary-is : summaryOf g ≡ summary s written
+  pub wrote : depth written ≤ 8 → Wrote a b count to (codesOf written)
+  pub more-codes : count ≤ to
+  pub few-codes : to + at ≤ count + end
+  pub inside : end ≤ length line
+  pub roomy : Roomy b line end to
+
+abbrev pub ExpressionAt : Sizes → List ℕ → ℕ → Arrays → Arrays → ℕ → ExpressionRead → Type 0
+ExpressionAt s line at a b count (Parts g end to) = ExpressionFormed s line at a b count g end to
+ExpressionAt s line at a b count NoParts = Unread expression line at

@@ -53,6 +53,7 @@ pub record ScanFormed (s : Sizes) (line : List ℕ) (at : ℕ) (g : Summary) (en
   pub written : Expression
   pub form-is : expression (tokensFrom true line at) ≡ formed written (tokensFrom false line end)
   pub summary-is : summaryOf g ≡ summary s written
+  pub onward : at ≤ end
   pub inside : end ≤ length line
 
 pub record NoExpression (line : List ℕ) (at : ℕ) : Type 0 where

@@ -15,7 +15,7 @@ use Rattle.chain_text.specs.declared.letters.Letters.{Letters}
 use Rattle.text_forms.specs.Numeral.{numberValue}
 use Rattle.text_syntax.specs.Form.{formed, unformed}
 use Rattle.text_syntax.specs.Written.{Term, chain, number}
-use Rattle.text_syntax.specs.Grammar.{termForm}
+use Rattle.text_syntax.specs.Grammar.{chainForm, termForm}
 use Rattle.text_syntax.specs.Parts.{termNamed, termKinded, isReferenceTerm, termShort, termInRange}
 use Rattle.text_expressions.specs.declared.chains.ChainRead.{ChainRead}
 use Rattle.text_expressions.specs.declared.chains.ChainRead.the-variants.{Chain, NoForm}
@@ -23,6 +23,7 @@ use Rattle.text_expressions.specs.declared.term.TermParts.{TermParts}
 use Rattle.text_expressions.specs.declared.term.TermRead.{TermRead}
 use Rattle.text_expressions.specs.declared.term.TermRead.the-variants.{Parts, NoForm as NoTermRead}
 use Rattle.text_expressions.specs.Place.{tokensFrom, Behind}
+use Rattle.text_expressions.specs.Chain.{NoChain}
 
 -- a chain's code by what is known of its letters, and whether it is a reference
 abbrev pub chainParts : Letters → Bool → TermParts
@@ -79,6 +80,17 @@ partsOf s x = record {
   short = termShort x;
   ranged = termInRange x;
 }
+
+-- a chain stands at a place where an operand is due or not, or none
+pub record ChainTerm (s : Sizes) (due : Bool) (line : List ℕ) (at : ℕ) (p : TermParts) (end : ℕ) : Type 0 where
+  pub letters : List ℕ
+  pub form-is : chainForm (tokensFrom due line at) ≡ formed letters (tokensFrom false line end)
+  pub parts-are : p ≡ partsOf s (chain letters)
+  pub behind : Behind line at end
+
+abbrev pub ChainPartsAt : Sizes → Bool → List ℕ → ℕ → TermRead → Type 0
+ChainPartsAt s due line at (Parts p end) = ChainTerm s due line at p end
+ChainPartsAt s due line at NoTermRead = NoChain due line at
 
 -- a term stands at a place where an operand is due, or none
 pub record TermFormed (s : Sizes) (line : List ℕ) (at : ℕ) (p : TermParts) (end : ℕ) : Type 0 where

@@ -4,7 +4,7 @@ ghost use mathlib.Core.Logic.{_≢_};
 ghost use Prim.Native.Nat.{_+_, _<_};
 ghost use lib.ListN.{length};
 ghost use Rattle.text_lexer.specs.Lexeme.{signOf};
-ghost use Rattle.text_expressions.specs.Codes.{arrays, termCode, signKind, signCodes, signSize, Wrote, WroteSign};
+ghost use Rattle.text_expressions.specs.Codes.{arrays, termCode, signKind, Wrote, WroteSign};
 use crate::term::TermParts;
 use text_lexer::token::Sign;
 
@@ -17,7 +17,10 @@ pub fn put_term(
     parts: TermParts,
 )
     requires { ⌜ (at < length (now kinds)) × (at < length (now numbers)) × (at < length (now chains)) ⌝ }
-    ensures { λ _. ⌜ Wrote (arrays (now (kinds .entry)) (now (numbers .entry)) (now (chains .entry))) (arrays (now (kinds .exit)) (now (numbers .exit)) (now (chains .exit))) at (at + 1) (termCode parts) ⌝ }
+    ensures { λ _.
+        ⌜ Wrote
+        (arrays (now (kinds .entry)) (now (numbers .entry)) (now (chains .entry)))
+        (arrays (now (kinds .exit)) (now (numbers .exit)) (now (chains .exit))) at (at + 1) (termCode parts) ⌝ }
 {
     let number = parts.number;
     kinds[at] = parts.kind;

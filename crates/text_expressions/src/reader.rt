@@ -1,58 +1,23 @@
 // Expressions, operands and groups, which read each other, with a remaining depth.
-ghost use mathlib.Core.Path.{_≡_};
-ghost use mathlib.Core.Bool.{true};
 ghost use Prim.Native.Nat.{_≤_};
 ghost use lib.ListN.{length};
 ghost use Rattle.register.specs.Shape.{Limits};
-ghost use Rattle.text_syntax.specs.Grammar.{isSum, isSmaller, expression, minimum, operand};
+ghost use Rattle.text_syntax.specs.Grammar.{expression, minimum, operand};
 ghost use Rattle.text_expressions.specs.Term.{NoTerm};
 ghost use Rattle.text_expressions.specs.Codes.{arrays, Roomy};
-ghost use Rattle.text_expressions.specs.Reading.{RankedAt, ReadingAt, EndInside, GroupedBy};
+ghost use Rattle.text_expressions.specs.Reading.{ReadingAt, EndInside, GroupedBy};
 use crate::code;
+use crate::join;
+use crate::join::Joining;
+use crate::join::Pending;
+use crate::join::Reading;
 use crate::place;
-use crate::place::OperatorRead;
 use crate::summary;
 use crate::summary::Summary;
 use crate::term;
 use crate::term::TermRead;
 use register::Sizes;
 use text_tokens::token::Place;
-
-// What has been gathered then, the place behind and the number of codes; no form stands there; or one that is deeper than
-// what remains.
-pub enum Reading {
-    Read(Summary, usize, usize),
-    NoForm,
-    Deep,
-}
-
-// `+` or `-` at `at`.
-fn sum_sign(line: &[u8], at: usize) -> OperatorRead
-    requires { ⌜ at ≤ length (now line) ⌝ }
-    ensures { λ r. ⌜ RankedAt isSum (now (line .entry)) at r ⌝ }
-{
-    let OperatorRead::Operator(sign, end) = place::operator(line, at) else {
-        return OperatorRead::Nothing;
-    };
-    if summary::is_sum(sign) {
-        return OperatorRead::Operator(sign, end);
-    }
-    OperatorRead::Nothing
-}
-
-// `<?` at `at`.
-fn smaller_sign(line: &[u8], at: usize) -> OperatorRead
-    requires { ⌜ at ≤ length (now line) ⌝ }
-    ensures { λ r. ⌜ RankedAt isSmaller (now (line .entry)) at r ⌝ }
-{
-    let OperatorRead::Operator(sign, end) = place::operator(line, at) else {
-        return OperatorRead::Nothing;
-    };
-    if summary::is_sum(sign) {
-        return OperatorRead::Nothing;
-    }
-    OperatorRead::Operator(sign, end)
-}
 
 // The expression at `at`: what `<?` joins, joined by `+` and `-`.
 pub fn read_expression(
@@ -68,33 +33,25 @@ pub fn read_expression(
 ) -> Reading
     requires { ⌜ Limits sizes × (room ≤ 8) × (at ≤ length (now line)) × (before .operators ≤ at) ⌝ }
     requires { ⌜ Roomy (arrays (now kinds) (now numbers) (now chains)) (now line) at count ⌝ }
-    ensures { λ r. ⌜ ReadingAt expression sizes room before (now (line .entry)) at (arrays (now (kinds .entry)) (now (numbers .entry)) (now (chains .entry))) (arrays (now (kinds .exit)) (now (numbers .exit)) (now (chains .exit))) count r ⌝ }
+    ensures { λ r.
+        ⌜ ReadingAt expression sizes room before (now (line .entry)) at
+        (arrays (now (kinds .entry)) (now (numbers .entry)) (now (chains .entry)))
+        (arrays (now (kinds .exit)) (now (numbers .exit)) (now (chains .exit))) count r ⌝ }
 {
-    let mut seen = before;
-    let mut i = at;
-    let mut codes = count;
-    let mut kind = 0;
+    let mut next = Pending {
+        at,
+        seen: before,
+        codes: count,
+        kind: 0,
+    };
     loop {
-        match read_minimum(line, i, sizes, room, seen, kinds, numbers, chains, codes) {
-            Reading::Read(next, end, read) => {
-                codes = code::put_sign(kinds, read, kind);
-                match sum_sign(line, end) {
-                    OperatorRead::Operator(sign, behind) => {
-                        seen = summary::with_operator(sign, next);
-                        kind = code::kind_of(sign);
-                        i = behind;
-                    }
-                    OperatorRead::Nothing => {
-                        return Reading::Read(next, end, codes);
-                    }
-                }
-            }
-            Reading::NoForm => {
-                return Reading::NoForm;
-            }
-            Reading::Deep => {
-                return Reading::Deep;
-            }
+        let seen = next.seen;
+        let i = next.at;
+        let codes = next.codes;
+        let read = read_minimum(line, i, sizes, room, seen, kinds, numbers, chains, codes);
+        match join::joined(line, kinds, read, next.kind, true) {
+            Joining::Next(more) => next = more,
+            Joining::Done(done) => return done,
         }
     }
 }
@@ -113,33 +70,25 @@ fn read_minimum(
 ) -> Reading
     requires { ⌜ Limits sizes × (room ≤ 8) × (at ≤ length (now line)) × (before .operators ≤ at) ⌝ }
     requires { ⌜ Roomy (arrays (now kinds) (now numbers) (now chains)) (now line) at count ⌝ }
-    ensures { λ r. ⌜ ReadingAt minimum sizes room before (now (line .entry)) at (arrays (now (kinds .entry)) (now (numbers .entry)) (now (chains .entry))) (arrays (now (kinds .exit)) (now (numbers .exit)) (now (chains .exit))) count r ⌝ }
+    ensures { λ r.
+        ⌜ ReadingAt minimum sizes room before (now (line .entry)) at
+        (arrays (now (kinds .entry)) (now (numbers .entry)) (now (chains .entry)))
+        (arrays (now (kinds .exit)) (now (numbers .exit)) (now (chains .exit))) count r ⌝ }
 {
-    let mut seen = before;
-    let mut i = at;
-    let mut codes = count;
-    let mut kind = 0;
+    let mut next = Pending {
+        at,
+        seen: before,
+        codes: count,
+        kind: 0,
+    };
     loop {
-        match read_operand(line, i, sizes, room, seen, kinds, numbers, chains, codes) {
-            Reading::Read(next, end, read) => {
-                codes = code::put_sign(kinds, read, kind);
-                match smaller_sign(line, end) {
-                    OperatorRead::Operator(sign, behind) => {
-                        seen = summary::with_operator(sign, next);
-                        kind = code::kind_of(sign);
-                        i = behind;
-                    }
-                    OperatorRead::Nothing => {
-                        return Reading::Read(next, end, codes);
-                    }
-                }
-            }
-            Reading::NoForm => {
-                return Reading::NoForm;
-            }
-            Reading::Deep => {
-                return Reading::Deep;
-            }
+        let seen = next.seen;
+        let i = next.at;
+        let codes = next.codes;
+        let read = read_operand(line, i, sizes, room, seen, kinds, numbers, chains, codes);
+        match join::joined(line, kinds, read, next.kind, false) {
+            Joining::Next(more) => next = more,
+            Joining::Done(done) => return done,
         }
     }
 }
@@ -158,7 +107,10 @@ fn read_operand(
 ) -> Reading
     requires { ⌜ Limits sizes × (room ≤ 8) × (at ≤ length (now line)) × (before .operators ≤ at) ⌝ }
     requires { ⌜ Roomy (arrays (now kinds) (now numbers) (now chains)) (now line) at count ⌝ }
-    ensures { λ r. ⌜ ReadingAt operand sizes room before (now (line .entry)) at (arrays (now (kinds .entry)) (now (numbers .entry)) (now (chains .entry))) (arrays (now (kinds .exit)) (now (numbers .exit)) (now (chains .exit))) count r ⌝ }
+    ensures { λ r.
+        ⌜ ReadingAt operand sizes room before (now (line .entry)) at
+        (arrays (now (kinds .entry)) (now (numbers .entry)) (now (chains .entry)))
+        (arrays (now (kinds .exit)) (now (numbers .exit)) (now (chains .exit))) count r ⌝ }
 {
     let TermRead::Parts(parts, end) = term::read_term(line, at, sizes) else {
         return read_group(line, at, sizes, room, before, kinds, numbers, chains, count);
@@ -181,7 +133,10 @@ fn read_group(
 ) -> Reading
     requires { ⌜ Limits sizes × (room ≤ 8) × (at ≤ length (now line)) × (before .operators ≤ at) ⌝ }
     requires { ⌜ Roomy (arrays (now kinds) (now numbers) (now chains)) (now line) at count × NoTerm (now line) at ⌝ }
-    ensures { λ r. ⌜ ReadingAt operand sizes room before (now (line .entry)) at (arrays (now (kinds .entry)) (now (numbers .entry)) (now (chains .entry))) (arrays (now (kinds .exit)) (now (numbers .exit)) (now (chains .exit))) count r ⌝ }
+    ensures { λ r.
+        ⌜ ReadingAt operand sizes room before (now (line .entry)) at
+        (arrays (now (kinds .entry)) (now (numbers .entry)) (now (chains .entry)))
+        (arrays (now (kinds .exit)) (now (numbers .exit)) (now (chains .exit))) count r ⌝ }
 {
     let Place::At(inner) = place::open_round(line, at) else {
         return Reading::NoForm;

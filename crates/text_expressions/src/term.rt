@@ -6,7 +6,7 @@ ghost use lib.ListN.{length};
 ghost use Rattle.register.specs.Shape.{Limits};
 ghost use Rattle.integers.specs.Range.{sumOf};
 ghost use Rattle.text_expressions.specs.Chain.{NoChain};
-ghost use Rattle.text_expressions.specs.Term.{chainParts, chainTerm, plainParts, numberParts, TermAt};
+ghost use Rattle.text_expressions.specs.Term.{chainParts, chainTerm, plainParts, numberParts, ChainPartsAt, TermAt};
 use crate::chains;
 use crate::chains::ChainRead;
 use crate::chains::Link;
@@ -99,10 +99,10 @@ fn number_term(line: &[u8], at: usize, sizes: Sizes) -> TermRead
     TermRead::Parts(number_parts(value), read.end)
 }
 
-// The term at `at`.
-pub fn read_term(line: &[u8], at: usize, sizes: Sizes) -> TermRead
+// The chain at `at`, where an operand is due or not, as a term.
+pub fn read_chain(line: &[u8], at: usize, due: bool, sizes: Sizes) -> TermRead
     requires { ⌜ Limits sizes × (at ≤ length (now line)) ⌝ }
-    ensures { λ r. ⌜ TermAt sizes (now (line .entry)) at r ⌝ }
+    ensures { λ r. ⌜ ChainPartsAt sizes due (now (line .entry)) at r ⌝ }
 {
     let start = Letters {
         packed: 0,
@@ -110,13 +110,24 @@ pub fn read_term(line: &[u8], at: usize, sizes: Sizes) -> TermRead
         kinded: true,
         long: false,
     };
-    match chains::first_link(line, at, true) {
+    match chains::first_link(line, at, due) {
         Link::Own(end) => TermRead::Parts(chain_parts(start, true), end),
         Link::Letter(letter, end) => {
             let next = letters::step(sizes, 16, start, letter);
             let read = chains::closed(line, chains::read(line, end, sizes, next, 15));
             chain_term(read, letter < b'M')
         }
-        Link::Nothing => number_term(line, at, sizes),
+        Link::Nothing => TermRead::NoForm,
     }
+}
+
+// The term at `at`.
+pub fn read_term(line: &[u8], at: usize, sizes: Sizes) -> TermRead
+    requires { ⌜ Limits sizes × (at ≤ length (now line)) ⌝ }
+    ensures { λ r. ⌜ TermAt sizes (now (line .entry)) at r ⌝ }
+{
+    let TermRead::Parts(parts, end) = read_chain(line, at, true, sizes) else {
+        return number_term(line, at, sizes);
+    };
+    TermRead::Parts(parts, end)
 }

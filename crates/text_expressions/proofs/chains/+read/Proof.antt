@@ -1,18 +1,16 @@
 -- `text_expressions::chains::read` meets its contract: it calls itself on the inner chain, with room for one hop less.
 -- Assumes nothing.
 use Prim.Native.Nat.{ℕ, _+_, _-_, _*_, _^_, _≤_, _<_}
-use mathlib.Core.Path.{_≡_, refl, sym, ap, subst, _∙_}
+use mathlib.Core.Path.{_≡_, ap, subst}
 use mathlib.Core.Bool.{false}
 use native.Mathlib.Omega.{arith}
 use borrow.Author.Needs.{needs}
 use borrow.Fn.Kinds.{In}
 use borrow.Fn.PlainCycle.{Measures, is, falls, and}
 use denote.Ref.{now}
-use Rattle.chain_text.specs.Scan.{step, steps}
+use Rattle.chain_text.specs.Scan.{step}
 use Rattle.chain_text.specs.declared.letters.Letters.{Letters}
 use Rattle.chain_text.proofs.Scanning.{step-small}
-use Rattle.text_syntax.specs.Form.{formed}
-use Rattle.text_syntax.proofs.Chains.{chain-own}
 use Rattle.text_expressions.specs.Chain.{LinkAt, Opens, ChainAt}
 use Rattle.text_expressions.proofs.ChainForms.{chain-alone, chain-closed, chain-inside, step-kept}
 use Rattle.text_expressions.proofs.chains.read.Reads as read
@@ -74,22 +72,37 @@ module _ (t : ℕ) where
   overlong-requires c κs =
       let p = c .before .before .before .before .before .before .before .pre .1 in
       let a = c .before .before .before .before .before .before .before .args in
-      let few : a .letters .packed + 5 ≤ 5 * 8 ^ 16 = subst (λ (k : ℕ). a .letters .packed + 5 ≤ 5 * 8 ^ (16 - k)) (c .if1 .taken) (p .2) in
-      (p .0, omega (arith, few, ap (λ (y : Letters). y .packed) (c .before .step .ensures), step-kept (a .sizes) (a .letters) (c .before .before .before .letter .given .0 .0) (c .if1 .taken)), opens (c .before .before) .behind .inside)
+      let few : a .letters .packed + 5 ≤ 5 * 8 ^ 16 = subst (λ (k : ℕ). a .letters .packed + 5 ≤ 5 * 8 ^ (16 - k)) (c .if1 .taken) (p .2) in (
+        p .0,
+        omega (
+          arith,
+          few,
+          ap (λ (y : Letters). y .packed) (c .before .step .ensures),
+          step-kept (a .sizes) (a .letters)
+              (c .before .before .before .letter .given .0 .0) (c .if1 .taken),
+        ),
+        opens (c .before .before) .behind .inside,
+      )
 
   closed-requires : read-lts.Need-closed-requires (called t) (read-at t) read.Post
   closed-requires c κs =
       let a = c .before .before .before .before .before .before .before .before .args in
-      chain-inside (a .sizes) 0 (c .before .before .step .result) false (now (a .line)) (c .before .before .before .before .letter .given .0 .1 .0) (c .overlong .result) (c .overlong .ensures)
+      chain-inside (a .sizes) 0 (c .before .before .step .result) false (now (a .line)) (c .before .before .before .before .letter .given .0 .1 .0)
+      (c .overlong .result) (c .overlong .ensures)
 
   returns : read-lts.Need-returns (called t) (read-at t) read.Post
   returns c =
       let a = c .before .before .before .before .before .before .before .before .before .args in
       let room : 0 ≡ a .room - 1 = omega (arith, c .before .before .if1 .taken) in
-      let inner : ChainAt (a .sizes) (a .room - 1) (step (a .sizes) (a .room) (a .letters) (c .before .before .before .before .before .letter .given .0 .0)) false (now (a .line)) (c .before .before .before .before .before .letter .given .0 .1 .0) (c .before .overlong .result) =
-      subst (λ (k : ℕ). ChainAt (a .sizes) k (step (a .sizes) (a .room) (a .letters) (c .before .before .before .before .before .letter .given .0 .0)) false (now (a .line)) (c .before .before .before .before .before .letter .given .0 .1 .0) (c .before .overlong .result)) room
-      (subst (λ (y : Letters). ChainAt (a .sizes) 0 y false (now (a .line)) (c .before .before .before .before .before .letter .given .0 .1 .0) (c .before .overlong .result)) (c .before .before .before .step .ensures) (c .before .overlong .ensures)) in
-      chain-closed (a .sizes) (a .room) (a .letters) (opens (c .before .before .before .before)) (c .before .overlong .result) (c .closed .result) inner (c .closed .ensures)
+      let inner : ChainAt (a .sizes) (a .room - 1)
+      (step (a .sizes) (a .room) (a .letters) (c .before .before .before .before .before .letter .given .0 .0)) false (now (a .line))
+      (c .before .before .before .before .before .letter .given .0 .1 .0) (c .before .overlong .result) =
+      subst (λ (k : ℕ). ChainAt (a .sizes) k (step (a .sizes) (a .room) (a .letters) (c .before .before .before .before .before .letter .given .0 .0))
+      false (now (a .line)) (c .before .before .before .before .before .letter .given .0 .1 .0) (c .before .overlong .result)) room
+      (subst (λ (y : Letters). ChainAt (a .sizes) 0 y false (now (a .line)) (c .before .before .before .before .before .letter .given .0 .1 .0)
+      (c .before .overlong .result)) (c .before .before .before .step .ensures) (c .before .overlong .ensures)) in
+      chain-closed (a .sizes) (a .room) (a .letters) (opens (c .before .before .before .before)) (c .before .overlong .result) (c .closed .result) inner
+      (c .closed .ensures)
 
   sub-read : read-lts.Need-sub-read (called t) (read-at t) read.Post
   sub-read c = omega (arith, c .if1 .left)
@@ -111,7 +124,8 @@ module _ (t : ℕ) where
   closed-requires-2 : read-lts.Need-closed-requires-2 (called t) (read-at t) read.Post
   closed-requires-2 c κs =
       let a = c .before .before .before .before .before .before .before .before .args in
-      chain-inside (a .sizes) (a .room - 1) (c .before .before .step .result) false (now (a .line)) (c .before .before .before .before .letter .given .0 .1 .0) (c .read .result) (c .read .ensures)
+      chain-inside (a .sizes) (a .room - 1) (c .before .before .step .result) false (now (a .line))
+      (c .before .before .before .before .letter .given .0 .1 .0) (c .read .result) (c .read .ensures)
 
   returns-2 : read-lts.Need-returns-2 (called t) (read-at t) read.Post
   returns-2 c = chain-alone _ _ _ (subst (LinkAt false _ _) (c .before .end .given .1) (c .before .before .before .first-link .ensures))
@@ -123,7 +137,9 @@ module _ (t : ℕ) where
   returns-4 c =
       let a = c .before .before .before .before .before .before .before .before .before .args in
       chain-closed (a .sizes) (a .room) (a .letters) (opens (c .before .before .before .before)) (c .before .read .result) (c .closed2 .result)
-      (subst (λ (y : Letters). ChainAt (a .sizes) (a .room - 1) y false (now (a .line)) (c .before .before .before .before .before .letter .given .0 .1 .0) (c .before .read .result)) (c .before .before .before .step .ensures) (c .before .read .ensures))
+      (subst (λ (y : Letters). ChainAt (a .sizes) (a .room - 1) y false (now (a .line))
+      (c .before .before .before .before .before .letter .given .0 .1 .0) (c .before .read .result)) (c .before .before .before .step .ensures)
+      (c .before .read .ensures))
       (c .closed2 .ensures)
 
 pub +read-spec : {M : Type 1} → statement M

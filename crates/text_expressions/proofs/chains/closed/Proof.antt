@@ -33,11 +33,14 @@ enum-told-2 c = search needs
 returns-2 : tie.Need-returns-2
 returns-2 c =
     let p = subst (Passes false false closeSquare _ _) (c .before .end .given .1) (c .before .before .before .close-square .ensures) in
-    subst (λ (x : ChainRead). ClosedBy (now (c .before .before .before .before .before .before .before .before .args .line)) x (Chain (c .before .before .before .before .before .inner .given .0 .0) (c .before .end .given .0 .0))) (sym (c .before .before .before .before .before .inner .given .1)) (refl, p)
+    subst (λ (x : ChainRead). ClosedBy (now (c .before .before .before .before .before .before .before .before .args .line)) x
+    (Chain (c .before .before .before .before .before .inner .given .0 .0) (c .before .end .given .0 .0)))
+    (sym (c .before .before .before .before .before .inner .given .1)) (refl, p)
 
 returns-3 : tie.Need-returns-3
 returns-3 c =
-    subst (λ (x : ChainRead). ClosedBy (now (c .before .before .before .before .before .before .before .args .line)) x NoForm) (sym (c .before .before .before .before .inner .given .1))
+    subst (λ (x : ChainRead). ClosedBy (now (c .before .before .before .before .before .before .before .args .line)) x NoForm)
+    (sym (c .before .before .before .before .inner .given .1))
     (subst (Passes false false closeSquare _ _) (c .enum-told2 .given .1) (c .before .before .close-square .ensures))
 
 pub closed-spec : {M : Type 1} → statement M

@@ -30,7 +30,8 @@ enum-told : tie.Need-enum-told Inv-loop μ-loop
 enum-told c = search needs
 
 returns : tie.Need-returns Inv-loop μ-loop
-returns c = closing-none (c .before .before .before .before .loop .inv) (c .before .before .before .loop-test .taken) (subst (Passes false false closeSquare _ _) (c .enum-told .given .1) (c .before .before .close-square .ensures))
+returns c = closing-none (c .before .before .before .before .loop .inv) (c .before .before .before .loop-test .taken)
+    (subst (Passes false false closeSquare _ _) (c .enum-told .given .1) (c .before .before .close-square .ensures))
 
 sub-left : tie.Need-sub-left Inv-loop μ-loop
 sub-left c = omega (arith, c .before .before .before .before .loop-test .taken)
@@ -39,7 +40,8 @@ loop-less : tie.Need-loop-less Inv-loop μ-loop
 loop-less c = omega (arith, c .before .before .before .before .loop-test .taken)
 
 loop-again : tie.Need-loop-again Inv-loop μ-loop
-loop-again c = closing-more (c .before .before .before .before .before .loop .inv) (c .before .before .before .before .loop-test .taken) (subst (Passes false false closeSquare _ _) (c .before .end .given .1) (c .before .before .before .close-square .ensures))
+loop-again c = closing-more (c .before .before .before .before .before .loop .inv) (c .before .before .before .before .loop-test .taken)
+    (subst (Passes false false closeSquare _ _) (c .before .end .given .1) (c .before .before .before .close-square .ensures))
 
 returns-2 : tie.Need-returns-2 Inv-loop μ-loop
 returns-2 c = closing-done (c .before .loop .inv) (c .loop-test .left)

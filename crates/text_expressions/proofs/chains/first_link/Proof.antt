@@ -5,7 +5,7 @@ use mathlib.Core.Bool.{false}
 use mathlib.Core.List.{[], _∷_}
 use borrow.Author.Needs.{needs}
 use Rattle.text_syntax.specs.Token as S
-use Rattle.text_lexer.specs.Lexeme.{tokenCode, Lexed}
+use Rattle.text_lexer.specs.Lexeme.{tokenCode}
 use Rattle.text_lexer.proofs.Lexemes.{lexed}
 use Rattle.text_expressions.specs.Place.{Passes}
 use Rattle.text_expressions.proofs.Places.{told, passed, goes-on}
@@ -38,18 +38,25 @@ returns c =
 
 returns-2 : tie.Need-returns-2
 returns-2 c =
-    let w = lexed _ _ _ (c .before .before .before .before .before .before .before .before .before .pre) (c .before .before .before .before .before .before .before .next-token .ensures) in
-    link-letter _ _ _ _ (passed w (c .before .before .before .before .before .token .given .1)) (goes-on w _ (c .before .before .before .before .before .token .given .1) tt) (subst (Passes false false S.openSquare _ _) (c .before .end .given .1) (c .before .before .before .open-square .ensures))
+    let w = lexed _ _ _ (c .before .before .before .before .before .before .before .before .before .pre)
+    (c .before .before .before .before .before .before .before .next-token .ensures) in
+    link-letter _ _ _ _ (passed w (c .before .before .before .before .before .token .given .1))
+    (goes-on w _ (c .before .before .before .before .before .token .given .1) tt)
+    (subst (Passes false false S.openSquare _ _) (c .before .end .given .1) (c .before .before .before .open-square .ensures))
 
 returns-3 : tie.Need-returns-3
 returns-3 c =
-    let w = lexed _ _ _ (c .before .before .before .before .before .before .before .before .pre) (c .before .before .before .before .before .before .next-token .ensures) in
-    link-none _ _ _ _ (passed w (c .before .before .before .before .token .given .1)) (subst (Passes false false S.openSquare _ _) (c .enum-told2 .given .1) (c .before .before .open-square .ensures))
+    let w = lexed _ _ _ (c .before .before .before .before .before .before .before .before .pre)
+    (c .before .before .before .before .before .before .next-token .ensures) in
+    link-none _ _ _ _ (passed w (c .before .before .before .before .token .given .1))
+    (subst (Passes false false S.openSquare _ _) (c .enum-told2 .given .1) (c .before .before .open-square .ensures))
 
 returns-4 : tie.Need-returns-4
 unfolding tokenCode
 returns-4 c =
-    link-other (lexed _ _ _ (c .before .before .before .pre) (c .before .next-token .ensures)) (told (0 ∷ 1 ∷ 2 ∷ 3 ∷ 4 ∷ 5 ∷ 8 ∷ 9 ∷ 10 ∷ 11 ∷ 12 ∷ 13 ∷ 14 ∷ 15 ∷ 16 ∷ 17 ∷ 18 ∷ 19 ∷ []) (c .match .keys3) tt) (λ l. told (0 ∷ 1 ∷ 2 ∷ 3 ∷ 4 ∷ 5 ∷ 8 ∷ 9 ∷ 10 ∷ 11 ∷ 12 ∷ 13 ∷ 14 ∷ 15 ∷ 16 ∷ 17 ∷ 18 ∷ 19 ∷ []) (c .match .keys3) tt)
+    link-other (lexed _ _ _ (c .before .before .before .pre) (c .before .next-token .ensures))
+    (told (0 ∷ 1 ∷ 2 ∷ 3 ∷ 4 ∷ 5 ∷ 8 ∷ 9 ∷ 10 ∷ 11 ∷ 12 ∷ 13 ∷ 14 ∷ 15 ∷ 16 ∷ 17 ∷ 18 ∷ 19 ∷ []) (c .match .keys3) tt)
+    (λ l. told (0 ∷ 1 ∷ 2 ∷ 3 ∷ 4 ∷ 5 ∷ 8 ∷ 9 ∷ 10 ∷ 11 ∷ 12 ∷ 13 ∷ 14 ∷ 15 ∷ 16 ∷ 17 ∷ 18 ∷ 19 ∷ []) (c .match .keys3) tt)
 
 pub first-link-spec : {M : Type 1} → statement M
 first-link-spec =

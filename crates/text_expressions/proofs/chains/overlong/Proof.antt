@@ -28,15 +28,30 @@ enum-known-letter : tie.Need-enum-known-letter Inv-loop μ-loop
 enum-known-letter c = search needs
 
 -- the letter that opens
-opens : (c : tie.After-known-told Inv-loop μ-loop) → let line = now (c .before .before .before .before .before .before .args .line) in let i = c .before .before .before .before .loop .i in
+opens : (c : tie.After-known-told Inv-loop μ-loop) → let line = now (c .before .before .before .before .before .before .args .line) in let i =
+    c .before .before .before .before .loop .i in
     Opens false line i (c .before .letter .given .0 .0) (c .before .letter .given .0 .1 .0)
 opens c = subst (LinkAt false _ _) (c .before .letter .given .1) (c .before .before .before .first-link .ensures)
 
 step-requires : tie.Need-step-requires Inv-loop μ-loop
-step-requires c κs = (c .before .before .before .before .before .before .pre .0, opens c .capital, omega arith, omega (arith, c .before .before .before .before .loop .inv .packed, c .before .before .before .before .before .before .pre .1))
+step-requires c κs = (
+  c .before .before .before .before .before .before .pre .0,
+  opens c .capital,
+  omega arith,
+  omega
+      (arith, c .before .before .before .before .loop .inv .packed, c .before .before .before .before .before .before .pre .1),
+)
 
 add-hops : tie.Need-add-hops Inv-loop μ-loop
-add-hops c = record { fits = omega (arith, opens (c .before) .behind .onward, opens (c .before) .behind .inside, c .before .before .before .before .before .loop .inv .few, c .before .before .before .before .before .before .before .good) }
+add-hops c = record {
+  fits = omega (
+    arith,
+    opens (c .before) .behind .onward,
+    opens (c .before) .behind .inside,
+    c .before .before .before .before .before .loop .inv .few,
+    c .before .before .before .before .before .before .before .good,
+  );
+}
 
 loop-less : tie.Need-loop-less Inv-loop μ-loop
 loop-less c = omega (arith, opens (c .before) .behind .onward, opens (c .before) .behind .inside)
@@ -58,19 +73,24 @@ enum-told c = search needs
 
 returns : tie.Need-returns Inv-loop μ-loop
 returns c =
-    let u = subst (LinkAt false _ _) (c .before .before .before .before .before .end .given .1) (c .before .before .before .before .before .before .before .first-link .ensures) in
-    opening-closed (c .before .before .before .before .before .before .before .before .loop .inv) u (subst (ClosesAt _ _ _) (c .before .last .given .1) (c .before .before .before .closes .ensures))
+    let u = subst (LinkAt false _ _) (c .before .before .before .before .before .end .given .1)
+    (c .before .before .before .before .before .before .before .first-link .ensures) in
+    opening-closed (c .before .before .before .before .before .before .before .before .loop .inv) u
+    (subst (ClosesAt _ _ _) (c .before .last .given .1) (c .before .before .before .closes .ensures))
 
 returns-2 : tie.Need-returns-2 Inv-loop μ-loop
 returns-2 c =
-    let u = subst (LinkAt false _ _) (c .before .before .before .before .end .given .1) (c .before .before .before .before .before .before .first-link .ensures) in
-    opening-unclosed (c .before .before .before .before .before .before .before .loop .inv) u (subst (ClosesAt _ _ _) (c .enum-told .given .1) (c .before .before .closes .ensures))
+    let u = subst (LinkAt false _ _) (c .before .before .before .before .end .given .1)
+    (c .before .before .before .before .before .before .first-link .ensures) in
+    opening-unclosed (c .before .before .before .before .before .before .before .loop .inv) u
+    (subst (ClosesAt _ _ _) (c .enum-told .given .1) (c .before .before .closes .ensures))
 
 enum-told-2 : tie.Need-enum-told-2 Inv-loop μ-loop
 enum-told-2 c = search needs
 
 returns-3 : tie.Need-returns-3 Inv-loop μ-loop
-returns-3 c = opening-none (c .before .before .before .loop .inv) (subst (LinkAt false _ _) (c .enum-told2 .given .1) (c .before .before .first-link .ensures))
+returns-3 c = opening-none (c .before .before .before .loop .inv)
+    (subst (LinkAt false _ _) (c .enum-told2 .given .1) (c .before .before .first-link .ensures))
 
 pub overlong-spec : {M : Type 1} → statement M
 overlong-spec =

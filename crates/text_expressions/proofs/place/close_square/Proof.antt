@@ -3,7 +3,7 @@
 use mathlib.Core.List.{[], _∷_}
 use borrow.Author.Needs.{needs}
 use Rattle.text_syntax.specs.Token.{closeSquare}
-use Rattle.text_lexer.specs.Lexeme.{tokenCode, Lexed}
+use Rattle.text_lexer.specs.Lexeme.{tokenCode}
 use Rattle.text_lexer.proofs.Lexemes.{lexed}
 use Rattle.text_expressions.proofs.Places.{told, passed, goes-on, absent}
 use Rattle.text_expressions.proofs.place.close_square.Statement.{statement}

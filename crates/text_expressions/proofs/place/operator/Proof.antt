@@ -5,7 +5,7 @@ use borrow.Author.Needs.{needs}
 use Rattle.text_syntax.specs.Token as S
 use Rattle.text_syntax.specs.Kind.{operatorIn}
 use Rattle.text_syntax.proofs.TokenKinds.{operator-token}
-use Rattle.text_lexer.specs.Lexeme.{tokenCode, signCode}
+use Rattle.text_lexer.specs.Lexeme.{tokenCode}
 use Rattle.text_lexer.proofs.Lexemes.{lexed}
 use Rattle.text_expressions.proofs.Places.{told, passed, goes-on, none-of}
 use Rattle.text_expressions.proofs.place.operator.Statement.{statement}

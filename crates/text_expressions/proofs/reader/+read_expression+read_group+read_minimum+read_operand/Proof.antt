@@ -2,9 +2,8 @@
 -- groups that of expressions, with one group less remaining.
 -- Assumes nothing.
 use Prim.Native.Nat.{ℕ, _+_, _-_, _*_, _<_}
-use mathlib.Core.Path.{refl, subst, _∙_}
+use mathlib.Core.Path.{subst, _∙_}
 use mathlib.Core.Bool.{true}
-use mathlib.Core.List.{List, []}
 use native.Mathlib.Omega.{arith}
 use borrow.Author.Needs.{needs}
 use borrow.Fn.Kinds.{In}
@@ -12,13 +11,12 @@ use borrow.Fn.PlainCycle.{Measures, is, falls, and}
 use lib.ListN.{length}
 use denote.Ref.{now}
 use Rattle.text_syntax.specs.Token.{openRound}
-use Rattle.text_syntax.specs.Grammar.{isSum, isSmaller, expression, minimum, operand, minimumFrom, expressionFrom}
-use Rattle.text_lexer.specs.Lexeme.{signOf}
+use Rattle.text_syntax.specs.Grammar.{expression, minimum, operand, minimumFrom, expressionFrom}
 use Rattle.text_expressions.specs.Place.{Passing, Passes}
 use Rattle.text_expressions.specs.Term.{TermAt}
-use Rattle.text_expressions.specs.Codes.{arrays, Roomy}
-use Rattle.text_expressions.specs.Reading.{Ranked, RankedAt, ReadAs, ReadingAt}
-use Rattle.text_expressions.proofs.Joining.{sum-joins, smaller-joins, Joined, roomy-on, joined-start, joined-done, joined-more, joined-room, joined-none, joined-deep, term-operand, group-none, group-full, group-closed, reading-inside}
+use Rattle.text_expressions.specs.Codes.{Arrays, arrays}
+use Rattle.text_expressions.specs.declared.join.Joining.the-variants.{Next}
+use Rattle.text_expressions.proofs.Joining.{sum-joins, smaller-joins, Joined, joined-start, joined-room, joined-ready, JoinedTo, joined-by, term-operand, group-none, group-full, group-closed, reading-inside}
 use Rattle.text_expressions.proofs.reader.read_expression.Reads as read-expression
 use Rattle.text_expressions.proofs.reader.read_expression.Kinds as read-expression-kinds
 use Rattle.text_expressions.proofs.reader.+read_expression+read_group+read_minimum+read_operand.Lts-read_expression as read-expression-lts
@@ -31,14 +29,10 @@ use Rattle.text_expressions.proofs.reader.+read_expression+read_group+r
 use Rattle.text_expressions.proofs.reader.read_operand.Reads as read-operand
 use Rattle.text_expressions.proofs.reader.read_operand.Kinds as read-operand-kinds
 use Rattle.text_expressions.proofs.reader.+read_expression+read_group+read_minimum+read_operand.Lts-read_operand as read-operand-lts
-use Rattle.text_expressions.proofs.code.kind_of.Reads as kind-of-reads
-use Rattle.text_expressions.proofs.code.put_sign.Reads as put-sign-reads
 use Rattle.text_expressions.proofs.code.put_term.Reads as put-term-reads
+use Rattle.text_expressions.proofs.join.joined.Reads as joined-reads
 use Rattle.text_expressions.proofs.place.open_round.Reads as open-round-reads
 use Rattle.text_expressions.proofs.reader.close_group.Reads as close-group-reads
-use Rattle.text_expressions.proofs.reader.smaller_sign.Reads as smaller-sign-reads
-use Rattle.text_expressions.proofs.reader.sum_sign.Reads as sum-sign-reads
-use Rattle.text_expressions.proofs.summary.with_operator.Reads as with-operator-reads
 use Rattle.text_expressions.proofs.summary.with_term.Reads as with-term-reads
 use Rattle.text_expressions.proofs.term.read_term.Reads as read-term-reads
 use Rattle.text_expressions.proofs.reader.+read_expression+read_group+read_minimum+read_operand.{statement}
@@ -86,28 +80,16 @@ abbrev expression-calls : ℕ → read-expression-lts.Claims
 expression-calls t = (
   read-minimum-below t,
   read-minimum.Post,
-  put-sign-reads.Asked,
-  put-sign-reads.Learnt,
-  sum-sign-reads.Asked,
-  sum-sign-reads.Learnt,
-  with-operator-reads.Asked,
-  with-operator-reads.Learnt,
-  kind-of-reads.Asked,
-  kind-of-reads.Learnt,
+  joined-reads.Asked,
+  joined-reads.Learnt,
 )
 
 abbrev minimum-calls : ℕ → read-minimum-lts.Claims
 minimum-calls t = (
   read-operand-below t,
   read-operand.Post,
-  put-sign-reads.Asked,
-  put-sign-reads.Learnt,
-  smaller-sign-reads.Asked,
-  smaller-sign-reads.Learnt,
-  with-operator-reads.Asked,
-  with-operator-reads.Learnt,
-  kind-of-reads.Asked,
-  kind-of-reads.Learnt,
+  joined-reads.Asked,
+  joined-reads.Learnt,
 )
 
 abbrev operand-calls : ℕ → read-operand-lts.Claims
@@ -133,124 +115,125 @@ group-calls t = (
 )
 
 abbrev expression-joined : read-expression-lts.InvT-loop
-expression-joined line at sizes room kinds₀ numbers₀ chains₀ count seen₀ i₀ codes₀ kind₀ kinds numbers chains seen i codes kind =
-    Joined minimum expressionFrom expression sizes room seen₀ line at (arrays kinds₀ numbers₀ chains₀) count seen i codes kind (arrays kinds numbers chains)
+expression-joined line at sizes room kinds₀ numbers₀ chains₀ count next₀ kinds numbers chains next =
+    Joined minimum expressionFrom expression sizes room (next₀ .seen) line at (arrays kinds₀ numbers₀ chains₀) count next
+    (arrays kinds numbers chains)
 
 abbrev expression-left : read-expression-lts.MeasureT-loop
-expression-left line at sizes room kinds₀ numbers₀ chains₀ count seen₀ i₀ codes₀ kind₀ kinds numbers chains seen i codes kind = length line - i
+expression-left line at sizes room kinds₀ numbers₀ chains₀ count next₀ kinds numbers chains next = length line - next .at
 
 module _ (t : ℕ) where
-  expression-loop-holds : read-expression-lts.Need-loop-holds (expression-calls t) (read-expression-at t) read-expression.Post expression-joined expression-left
+  expression-loop-holds : read-expression-lts.Need-loop-holds (expression-calls t) (read-expression-at t) read-expression.Post expression-joined
+      expression-left
   expression-loop-holds c =
       let p = c .before .before .before .pre .1 .0 in
       joined-start sum-joins _ _ _ _ _ (p .2) (p .3)
 
-  expression-read-minimum-requires : read-expression-lts.Need-read-minimum-requires (expression-calls t) (read-expression-at t) read-expression.Post expression-joined expression-left
+  expression-read-minimum-requires : read-expression-lts.Need-read-minimum-requires (expression-calls t) (read-expression-at t) read-expression.Post
+      expression-joined expression-left
   expression-read-minimum-requires c κs =
-      let p = c .before .before .before .before .before .before .before .pre in
-      let w = c .before .before .before .loop .inv in
+      let p = c .before .before .before .before .before .before .before .before .pre in
+      let w = c .before .before .before .before .loop .inv in
       (omega (arith, p .0), ((p .1 .0 .0, p .1 .0 .1, w .inside, w .few), joined-room sum-joins w (p .1 .1)))
 
-  expression-enum-known-next : read-expression-lts.Need-enum-known-next (expression-calls t) (read-expression-at t) read-expression.Post expression-joined expression-left
-  expression-enum-known-next c = search needs
+  -- the ways back: to the loop from an element that was read, to the element, and the arrays behind it
+  abbrev expression-round :
+      (c : read-expression-lts.After-read-minimum (expression-calls t) (read-expression-at t) read-expression.Post expression-joined expression-left)
+      → read-expression-lts.At-loop (expression-calls t) (read-expression-at t) read-expression.Post expression-joined expression-left
+  expression-round c = c .before .before .before .before .before
 
-  -- the element that is read, and the operator behind it
-  expression-element : (c : read-expression-lts.After-known-told (expression-calls t) (read-expression-at t) read-expression.Post expression-joined expression-left) → let a = c .before .before .before .before .before .before .before .before .before .before .before .before .before .before .before .before .args in let v = c .before .next .given .0 in let l = c .before .before .before .before .before .before .before .before .before .before .before .before .loop in
-      let p = c .before .before .before .before .before .before .before .before .read-minimum .last .1 .1 .1 .1 .1 in
-      ReadAs minimum (a .sizes) (a .room) (l .seen) (now (a .line)) (l .i) (arrays (l .kinds) (l .numbers) (l .chains)) (arrays (p .0) (p .1 .0) (p .1 .1 .0)) (l .codes)
-      (v .0) (v .1 .0) (v .1 .1 .0)
-  expression-element c = subst (ReadingAt minimum _ _ _ _ _ _ _ _) (c .before .next .given .1) (c .before .before .before .before .before .before .before .before .read-minimum .ensures)
+  abbrev expression-element :
+      (c : read-expression-lts.After-joined (expression-calls t) (read-expression-at t) read-expression.Post expression-joined expression-left) →
+      read-expression-lts.After-read-minimum (expression-calls t) (read-expression-at t) read-expression.Post expression-joined expression-left
+  expression-element c = c .before .before .before .before .before .before .before
 
-  expression-room : (c : read-expression-lts.After-known-told (expression-calls t) (read-expression-at t) read-expression.Post expression-joined expression-left) → let a = c .before .before .before .before .before .before .before .before .before .before .before .before .before .before .before .before .args in let v = c .before .next .given .0 in let p = c .before .before .before .before .before .before .before .before .read-minimum .last .1 .1 .1 .1 .1 in
-      Roomy (arrays (p .0) (p .1 .0) (p .1 .1 .0)) (now (a .line)) (v .1 .0) (v .1 .1 .0)
-  expression-room c = let w = c .before .before .before .before .before .before .before .before .before .before .before .before .loop .inv in
+  abbrev expression-arrays :
+      (c : read-expression-lts.After-read-minimum (expression-calls t) (read-expression-at t) read-expression.Post expression-joined expression-left)
+      → Arrays
+  expression-arrays c = let p = c .read-minimum .last .1 .1 .1 .1 .1 in arrays (p .0) (p .1 .0) (p .1 .1 .0)
+
+  expression-joined-requires : read-expression-lts.Need-joined-requires (expression-calls t) (read-expression-at t) read-expression.Post
+      expression-joined expression-left
+  expression-joined-requires c κs =
+      let e = c .before .before .before .before .before .before in
+      let l = expression-round e in (
+        joined-ready sum-joins (l .loop .inv) (expression-arrays e) (l .before .before .before .before .pre .1 .1) (e .read-minimum .result)
+            (e .read-minimum .ensures),
+        l .loop .inv .no-number,
+      )
+
+  expression-enum-known-more : read-expression-lts.Need-enum-known-more (expression-calls t) (read-expression-at t) read-expression.Post
+      expression-joined expression-left
+  expression-enum-known-more c = search needs
+
+  -- another element is due, or that is all
+  expression-answered :
+      (c : read-expression-lts.After-joined (expression-calls t) (read-expression-at t) read-expression.Post expression-joined expression-left) →
+      let e = expression-element c in JoinedTo sum-joins (expression-round e .loop .inv) (expression-arrays e) (c .joined .last .1 .0)
+      (c .joined .result)
+  expression-answered c =
       let e = expression-element c in
-      roomy-on (joined-room sum-joins w (c .before .before .before .before .before .before .before .before .before .before .before .before .before .before .before .before .pre .1 .1)) (e .wrote) (e .few-codes)
+      joined-by sum-joins (expression-round e .loop .inv) (expression-arrays e) (c .joined .last .1 .0) (e .read-minimum .result)
+      (e .read-minimum .ensures) (c .joined .result) (c .joined .ensures)
 
-  expression-put-sign-requires : read-expression-lts.Need-put-sign-requires (expression-calls t) (read-expression-at t) read-expression.Post expression-joined expression-left
-  expression-put-sign-requires c κs = (omega (arith, expression-room (c .before) .kinds, expression-element (c .before) .behind .inside), c .before .before .before .before .before .before .before .before .before .before .before .before .before .loop .inv .no-number)
+  expression-more : (c : read-expression-lts.After-known-told (expression-calls t) (read-expression-at t) read-expression.Post expression-joined
+      expression-left) →
+      let d = c .before .before .before .before .before in
+      let e = expression-element d in
+      JoinedTo sum-joins (expression-round e .loop .inv) (expression-arrays e) (d .joined .last .1 .0) (Next (c .before .more .given .0 .0))
+  expression-more c =
+      let d = c .before .before .before .before .before in
+      let e = expression-element d in
+      subst (JoinedTo sum-joins (expression-round e .loop .inv) (expression-arrays e) (d .joined .last .1 .0)) (c .before .more .given .1)
+      (expression-answered d)
 
-  expression-sum-sign-requires : read-expression-lts.Need-sum-sign-requires (expression-calls t) (read-expression-at t) read-expression.Post expression-joined expression-left
-  expression-sum-sign-requires c κs = expression-element (c .before .before .before .before) .behind .inside
+  expression-loop-less : read-expression-lts.Need-loop-less (expression-calls t) (read-expression-at t) read-expression.Post expression-joined
+      expression-left
+  expression-loop-less c = omega (arith, expression-more c .1, expression-more c .0 .inside)
 
-  expression-enum-known-sign : read-expression-lts.Need-enum-known-sign (expression-calls t) (read-expression-at t) read-expression.Post expression-joined expression-left
-  expression-enum-known-sign c = search needs
+  expression-loop-again : read-expression-lts.Need-loop-again (expression-calls t) (read-expression-at t) read-expression.Post expression-joined
+      expression-left
+  expression-loop-again c = expression-more c .0
 
-  expression-ranked : (c : read-expression-lts.After-known-told2 (expression-calls t) (read-expression-at t) read-expression.Post expression-joined expression-left) → let v = c .before .sign .given .0 in
-      Ranked isSum (signOf (v .0)) (now (c .before .before .before .before .before .before .before .before .before .before .before .before .before .before .before .before .before .before .before .before .before .before .before .before .args .line)) (c .before .before .before .before .before .before .before .before .before .next .given .0 .1 .0) (v .1 .0)
-  expression-ranked c = subst (RankedAt isSum _ _) (c .before .sign .given .1) (c .before .before .before .sum-sign .ensures)
+  expression-enum-known-done : read-expression-lts.Need-enum-known-done (expression-calls t) (read-expression-at t) read-expression.Post
+      expression-joined expression-left
+  expression-enum-known-done c = search needs
 
-  expression-with-operator-requires : read-expression-lts.Need-with-operator-requires (expression-calls t) (read-expression-at t) read-expression.Post expression-joined expression-left
-  expression-with-operator-requires c κs =
-      let b = expression-ranked c .passing .behind in
-      omega (arith, expression-element (c .before .before .before .before .before .before .before .before) .few, b .onward, b .inside, c .before .before .before .before .before .before .before .before .before .before .before .before .before .before .before .before .before .before .before .before .before .before .before .before .good)
+  expression-same-length : read-expression-lts.Need-same-length (expression-calls t) (read-expression-at t) read-expression.Post expression-joined
+      expression-left
+  expression-same-length c =
+      let d = c .before .before .before .before .before in
+      let e = expression-element d in
+      d .joined .kept .1 .0 ∙ e .read-minimum .kept .1 .1 .1 .1 .1 .0 ∙ expression-round e .loop .inv .wrote .kinds-length
 
-  expression-kind-of-requires : read-expression-lts.Need-kind-of-requires (expression-calls t) (read-expression-at t) read-expression.Post expression-joined expression-left
-  expression-kind-of-requires c κs = tt
+  expression-same-length-2 : read-expression-lts.Need-same-length-2 (expression-calls t) (read-expression-at t) read-expression.Post
+      expression-joined expression-left
+  expression-same-length-2 c =
+      let d = c .before .before .before .before .before in
+      let e = expression-element d in
+      e .read-minimum .kept .1 .1 .1 .1 .1 .1 .0 ∙ expression-round e .loop .inv .wrote .numbers-length
 
-  expression-loop-less : read-expression-lts.Need-loop-less (expression-calls t) (read-expression-at t) read-expression.Post expression-joined expression-left
-  expression-loop-less c =
-      let b = expression-ranked (c .before .before) .passing .behind in
-      omega (arith, expression-element (c .before .before .before .before .before .before .before .before .before .before) .behind .onward, b .onward, b .inside)
+  expression-same-length-3 : read-expression-lts.Need-same-length-3 (expression-calls t) (read-expression-at t) read-expression.Post
+      expression-joined expression-left
+  expression-same-length-3 c =
+      let d = c .before .before .before .before .before in
+      let e = expression-element d in
+      e .read-minimum .kept .1 .1 .1 .1 .1 .1 .1 .0 ∙ expression-round e .loop .inv .wrote .chains-length
 
-  expression-loop-again : read-expression-lts.Need-loop-again (expression-calls t) (read-expression-at t) read-expression.Post expression-joined expression-left
-  expression-loop-again c =
-      joined-more sum-joins (c .before .before .before .before .before .before .before .before .before .before .before .before .before .before .before .before .before .before .before .before .before .before .loop .inv) (expression-element (c .before .before .before .before .before .before .before .before .before .before)) (c .before .before .before .before .before .before .before .before .put-sign .ensures) (expression-ranked (c .before .before))
-      (c .before .with-operator .ensures) (c .kind-of .ensures)
-
-  expression-enum-told : read-expression-lts.Need-enum-told (expression-calls t) (read-expression-at t) read-expression.Post expression-joined expression-left
-  expression-enum-told c = search needs
-
-  expression-same-length : read-expression-lts.Need-same-length (expression-calls t) (read-expression-at t) read-expression.Post expression-joined expression-left
-  expression-same-length c = c .before .before .before .before .before .put-sign .ensures .wrote [] [] .kinds-length ∙ expression-element (c .before .before .before .before .before .before .before) .wrote .kinds-length ∙ c .before .before .before .before .before .before .before .before .before .before .before .before .before .before .before .before .before .before .before .loop .inv .wrote .kinds-length
-
-  expression-same-length-2 : read-expression-lts.Need-same-length-2 (expression-calls t) (read-expression-at t) read-expression.Post expression-joined expression-left
-  expression-same-length-2 c = expression-element (c .before .before .before .before .before .before .before) .wrote .numbers-length ∙ c .before .before .before .before .before .before .before .before .before .before .before .before .before .before .before .before .before .before .before .loop .inv .wrote .numbers-length
-
-  expression-same-length-3 : read-expression-lts.Need-same-length-3 (expression-calls t) (read-expression-at t) read-expression.Post expression-joined expression-left
-  expression-same-length-3 c = expression-element (c .before .before .before .before .before .before .before) .wrote .chains-length ∙ c .before .before .before .before .before .before .before .before .before .before .before .before .before .before .before .before .before .before .before .loop .inv .wrote .chains-length
-
-  expression-returns : read-expression-lts.Need-returns (expression-calls t) (read-expression-at t) read-expression.Post expression-joined expression-left
+  expression-returns : read-expression-lts.Need-returns (expression-calls t) (read-expression-at t) read-expression.Post expression-joined
+      expression-left
   expression-returns c =
-      joined-done sum-joins (c .before .before .before .before .before .before .before .before .before .before .before .before .before .before .before .before .before .before .before .loop .inv) (expression-element (c .before .before .before .before .before .before .before)) (c .before .before .before .before .before .put-sign .ensures)
-      (subst (RankedAt isSum _ _) (c .enum-told .given .1) (c .before .before .sum-sign .ensures))
-
-  expression-enum-told-2 : read-expression-lts.Need-enum-told-2 (expression-calls t) (read-expression-at t) read-expression.Post expression-joined expression-left
-  expression-enum-told-2 c = search needs
-
-  expression-same-length-4 : read-expression-lts.Need-same-length-4 (expression-calls t) (read-expression-at t) read-expression.Post expression-joined expression-left
-  expression-same-length-4 c = c .before .before .before .before .before .before .before .read-minimum .kept .1 .1 .1 .1 .1 .0 ∙ c .before .before .before .before .before .before .before .before .before .before .before .loop .inv .wrote .kinds-length
-
-  expression-same-length-5 : read-expression-lts.Need-same-length-5 (expression-calls t) (read-expression-at t) read-expression.Post expression-joined expression-left
-  expression-same-length-5 c = c .before .before .before .before .before .before .before .read-minimum .kept .1 .1 .1 .1 .1 .1 .0 ∙ c .before .before .before .before .before .before .before .before .before .before .before .loop .inv .wrote .numbers-length
-
-  expression-same-length-6 : read-expression-lts.Need-same-length-6 (expression-calls t) (read-expression-at t) read-expression.Post expression-joined expression-left
-  expression-same-length-6 c = c .before .before .before .before .before .before .before .read-minimum .kept .1 .1 .1 .1 .1 .1 .1 .0 ∙ c .before .before .before .before .before .before .before .before .before .before .before .loop .inv .wrote .chains-length
-
-  expression-returns-2 : read-expression-lts.Need-returns-2 (expression-calls t) (read-expression-at t) read-expression.Post expression-joined expression-left
-  expression-returns-2 c = joined-none sum-joins (c .before .before .before .before .before .before .before .before .before .before .before .loop .inv) (subst (ReadingAt minimum _ _ _ _ _ _ _ _) (c .enum-told2 .given .1) (c .before .before .before .before .before .before .before .read-minimum .ensures))
-
-  expression-enum-told-3 : read-expression-lts.Need-enum-told-3 (expression-calls t) (read-expression-at t) read-expression.Post expression-joined expression-left
-  expression-enum-told-3 c = search needs
-
-  expression-same-length-7 : read-expression-lts.Need-same-length-7 (expression-calls t) (read-expression-at t) read-expression.Post expression-joined expression-left
-  expression-same-length-7 c = c .before .before .before .before .before .before .before .read-minimum .kept .1 .1 .1 .1 .1 .0 ∙ c .before .before .before .before .before .before .before .before .before .before .before .loop .inv .wrote .kinds-length
-
-  expression-same-length-8 : read-expression-lts.Need-same-length-8 (expression-calls t) (read-expression-at t) read-expression.Post expression-joined expression-left
-  expression-same-length-8 c = c .before .before .before .before .before .before .before .read-minimum .kept .1 .1 .1 .1 .1 .1 .0 ∙ c .before .before .before .before .before .before .before .before .before .before .before .loop .inv .wrote .numbers-length
-
-  expression-same-length-9 : read-expression-lts.Need-same-length-9 (expression-calls t) (read-expression-at t) read-expression.Post expression-joined expression-left
-  expression-same-length-9 c = c .before .before .before .before .before .before .before .read-minimum .kept .1 .1 .1 .1 .1 .1 .1 .0 ∙ c .before .before .before .before .before .before .before .before .before .before .before .loop .inv .wrote .chains-length
-
-  expression-returns-3 : read-expression-lts.Need-returns-3 (expression-calls t) (read-expression-at t) read-expression.Post expression-joined expression-left
-  expression-returns-3 c = joined-deep sum-joins (c .before .before .before .before .before .before .before .before .before .before .before .loop .inv) (subst (ReadingAt minimum _ _ _ _ _ _ _ _) (c .enum-told3 .given .1) (c .before .before .before .before .before .before .before .read-minimum .ensures))
+      let d = c .before .before .before .before .before in
+      let e = expression-element d in
+      subst (JoinedTo sum-joins (expression-round e .loop .inv) (expression-arrays e) (d .joined .last .1 .0)) (c .before .done .given .1)
+      (expression-answered d)
 
 abbrev minimum-joined : read-minimum-lts.InvT-loop
-minimum-joined line at sizes room kinds₀ numbers₀ chains₀ count seen₀ i₀ codes₀ kind₀ kinds numbers chains seen i codes kind =
-    Joined operand minimumFrom minimum sizes room seen₀ line at (arrays kinds₀ numbers₀ chains₀) count seen i codes kind (arrays kinds numbers chains)
+minimum-joined line at sizes room kinds₀ numbers₀ chains₀ count next₀ kinds numbers chains next =
+    Joined operand minimumFrom minimum sizes room (next₀ .seen) line at (arrays kinds₀ numbers₀ chains₀) count next (arrays kinds numbers chains)
 
 abbrev minimum-left : read-minimum-lts.MeasureT-loop
-minimum-left line at sizes room kinds₀ numbers₀ chains₀ count seen₀ i₀ codes₀ kind₀ kinds numbers chains seen i codes kind = length line - i
+minimum-left line at sizes room kinds₀ numbers₀ chains₀ count next₀ kinds numbers chains next = length line - next .at
 
 module _ (t : ℕ) where
   minimum-loop-holds : read-minimum-lts.Need-loop-holds (minimum-calls t) (read-minimum-at t) read-minimum.Post minimum-joined minimum-left
@@ -258,105 +241,90 @@ module _ (t : ℕ) where
       let p = c .before .before .before .pre .1 .0 in
       joined-start smaller-joins _ _ _ _ _ (p .2) (p .3)
 
-  minimum-read-operand-requires : read-minimum-lts.Need-read-operand-requires (minimum-calls t) (read-minimum-at t) read-minimum.Post minimum-joined minimum-left
+  minimum-read-operand-requires : read-minimum-lts.Need-read-operand-requires (minimum-calls t) (read-minimum-at t) read-minimum.Post minimum-joined
+      minimum-left
   minimum-read-operand-requires c κs =
-      let p = c .before .before .before .before .before .before .before .pre in
-      let w = c .before .before .before .loop .inv in
+      let p = c .before .before .before .before .before .before .before .before .pre in
+      let w = c .before .before .before .before .loop .inv in
       (omega (arith, p .0), ((p .1 .0 .0, p .1 .0 .1, w .inside, w .few), joined-room smaller-joins w (p .1 .1)))
 
-  minimum-enum-known-next : read-minimum-lts.Need-enum-known-next (minimum-calls t) (read-minimum-at t) read-minimum.Post minimum-joined minimum-left
-  minimum-enum-known-next c = search needs
+  -- the ways back: to the loop from an element that was read, to the element, and the arrays behind it
+  abbrev minimum-round :
+      (c : read-minimum-lts.After-read-operand (minimum-calls t) (read-minimum-at t) read-minimum.Post minimum-joined minimum-left) →
+      read-minimum-lts.At-loop (minimum-calls t) (read-minimum-at t) read-minimum.Post minimum-joined minimum-left
+  minimum-round c = c .before .before .before .before .before
 
-  -- the element that is read, and the operator behind it
-  minimum-element : (c : read-minimum-lts.After-known-told (minimum-calls t) (read-minimum-at t) read-minimum.Post minimum-joined minimum-left) → let a = c .before .before .before .before .before .before .before .before .before .before .before .before .before .before .before .before .args in let v = c .before .next .given .0 in let l = c .before .before .before .before .before .before .before .before .before .before .before .before .loop in
-      let p = c .before .before .before .before .before .before .before .before .read-operand .last .1 .1 .1 .1 .1 in
-      ReadAs operand (a .sizes) (a .room) (l .seen) (now (a .line)) (l .i) (arrays (l .kinds) (l .numbers) (l .chains)) (arrays (p .0) (p .1 .0) (p .1 .1 .0)) (l .codes)
-      (v .0) (v .1 .0) (v .1 .1 .0)
-  minimum-element c = subst (ReadingAt operand _ _ _ _ _ _ _ _) (c .before .next .given .1) (c .before .before .before .before .before .before .before .before .read-operand .ensures)
+  abbrev minimum-element : (c : read-minimum-lts.After-joined (minimum-calls t) (read-minimum-at t) read-minimum.Post minimum-joined minimum-left) →
+      read-minimum-lts.After-read-operand (minimum-calls t) (read-minimum-at t) read-minimum.Post minimum-joined minimum-left
+  minimum-element c = c .before .before .before .before .before .before .before
 
-  minimum-room : (c : read-minimum-lts.After-known-told (minimum-calls t) (read-minimum-at t) read-minimum.Post minimum-joined minimum-left) → let a = c .before .before .before .before .before .before .before .before .before .before .before .before .before .before .before .before .args in let v = c .before .next .given .0 in let p = c .before .before .before .before .before .before .before .before .read-operand .last .1 .1 .1 .1 .1 in
-      Roomy (arrays (p .0) (p .1 .0) (p .1 .1 .0)) (now (a .line)) (v .1 .0) (v .1 .1 .0)
-  minimum-room c = let w = c .before .before .before .before .before .before .before .before .before .before .before .before .loop .inv in
+  abbrev minimum-arrays :
+      (c : read-minimum-lts.After-read-operand (minimum-calls t) (read-minimum-at t) read-minimum.Post minimum-joined minimum-left) → Arrays
+  minimum-arrays c = let p = c .read-operand .last .1 .1 .1 .1 .1 in arrays (p .0) (p .1 .0) (p .1 .1 .0)
+
+  minimum-joined-requires : read-minimum-lts.Need-joined-requires (minimum-calls t) (read-minimum-at t) read-minimum.Post minimum-joined minimum-left
+  minimum-joined-requires c κs =
+      let e = c .before .before .before .before .before .before in
+      let l = minimum-round e in (
+        joined-ready smaller-joins (l .loop .inv) (minimum-arrays e) (l .before .before .before .before .pre .1 .1) (e .read-operand .result)
+            (e .read-operand .ensures),
+        l .loop .inv .no-number,
+      )
+
+  minimum-enum-known-more : read-minimum-lts.Need-enum-known-more (minimum-calls t) (read-minimum-at t) read-minimum.Post minimum-joined minimum-left
+  minimum-enum-known-more c = search needs
+
+  -- another element is due, or that is all
+  minimum-answered : (c : read-minimum-lts.After-joined (minimum-calls t) (read-minimum-at t) read-minimum.Post minimum-joined minimum-left) →
+      let e = minimum-element c in JoinedTo smaller-joins (minimum-round e .loop .inv) (minimum-arrays e) (c .joined .last .1 .0) (c .joined .result)
+  minimum-answered c =
       let e = minimum-element c in
-      roomy-on (joined-room smaller-joins w (c .before .before .before .before .before .before .before .before .before .before .before .before .before .before .before .before .pre .1 .1)) (e .wrote) (e .few-codes)
+      joined-by smaller-joins (minimum-round e .loop .inv) (minimum-arrays e) (c .joined .last .1 .0) (e .read-operand .result)
+      (e .read-operand .ensures) (c .joined .result) (c .joined .ensures)
 
-  minimum-put-sign-requires : read-minimum-lts.Need-put-sign-requires (minimum-calls t) (read-minimum-at t) read-minimum.Post minimum-joined minimum-left
-  minimum-put-sign-requires c κs = (omega (arith, minimum-room (c .before) .kinds, minimum-element (c .before) .behind .inside), c .before .before .before .before .before .before .before .before .before .before .before .before .before .loop .inv .no-number)
-
-  minimum-smaller-sign-requires : read-minimum-lts.Need-smaller-sign-requires (minimum-calls t) (read-minimum-at t) read-minimum.Post minimum-joined minimum-left
-  minimum-smaller-sign-requires c κs = minimum-element (c .before .before .before .before) .behind .inside
-
-  minimum-enum-known-sign : read-minimum-lts.Need-enum-known-sign (minimum-calls t) (read-minimum-at t) read-minimum.Post minimum-joined minimum-left
-  minimum-enum-known-sign c = search needs
-
-  minimum-ranked : (c : read-minimum-lts.After-known-told2 (minimum-calls t) (read-minimum-at t) read-minimum.Post minimum-joined minimum-left) → let v = c .before .sign .given .0 in
-      Ranked isSmaller (signOf (v .0)) (now (c .before .before .before .before .before .before .before .before .before .before .before .before .before .before .before .before .before .before .before .before .before .before .before .before .args .line)) (c .before .before .before .before .before .before .before .before .before .next .given .0 .1 .0) (v .1 .0)
-  minimum-ranked c = subst (RankedAt isSmaller _ _) (c .before .sign .given .1) (c .before .before .before .smaller-sign .ensures)
-
-  minimum-with-operator-requires : read-minimum-lts.Need-with-operator-requires (minimum-calls t) (read-minimum-at t) read-minimum.Post minimum-joined minimum-left
-  minimum-with-operator-requires c κs =
-      let b = minimum-ranked c .passing .behind in
-      omega (arith, minimum-element (c .before .before .before .before .before .before .before .before) .few, b .onward, b .inside, c .before .before .before .before .before .before .before .before .before .before .before .before .before .before .before .before .before .before .before .before .before .before .before .before .good)
-
-  minimum-kind-of-requires : read-minimum-lts.Need-kind-of-requires (minimum-calls t) (read-minimum-at t) read-minimum.Post minimum-joined minimum-left
-  minimum-kind-of-requires c κs = tt
+  minimum-more : (c : read-minimum-lts.After-known-told (minimum-calls t) (read-minimum-at t) read-minimum.Post minimum-joined minimum-left) →
+      let d = c .before .before .before .before .before in
+      let e = minimum-element d in
+      JoinedTo smaller-joins (minimum-round e .loop .inv) (minimum-arrays e) (d .joined .last .1 .0) (Next (c .before .more .given .0 .0))
+  minimum-more c =
+      let d = c .before .before .before .before .before in
+      let e = minimum-element d in
+      subst (JoinedTo smaller-joins (minimum-round e .loop .inv) (minimum-arrays e) (d .joined .last .1 .0)) (c .before .more .given .1)
+      (minimum-answered d)
 
   minimum-loop-less : read-minimum-lts.Need-loop-less (minimum-calls t) (read-minimum-at t) read-minimum.Post minimum-joined minimum-left
-  minimum-loop-less c =
-      let b = minimum-ranked (c .before .before) .passing .behind in
-      omega (arith, minimum-element (c .before .before .before .before .before .before .before .before .before .before) .behind .onward, b .onward, b .inside)
+  minimum-loop-less c = omega (arith, minimum-more c .1, minimum-more c .0 .inside)
 
   minimum-loop-again : read-minimum-lts.Need-loop-again (minimum-calls t) (read-minimum-at t) read-minimum.Post minimum-joined minimum-left
-  minimum-loop-again c =
-      joined-more smaller-joins (c .before .before .before .before .before .before .before .before .before .before .before .before .before .before .before .before .before .before .before .before .before .before .loop .inv) (minimum-element (c .before .before .before .before .before .before .before .before .before .before)) (c .before .before .before .before .before .before .before .before .put-sign .ensures) (minimum-ranked (c .before .before))
-      (c .before .with-operator .ensures) (c .kind-of .ensures)
+  minimum-loop-again c = minimum-more c .0
 
-  minimum-enum-told : read-minimum-lts.Need-enum-told (minimum-calls t) (read-minimum-at t) read-minimum.Post minimum-joined minimum-left
-  minimum-enum-told c = search needs
+  minimum-enum-known-done : read-minimum-lts.Need-enum-known-done (minimum-calls t) (read-minimum-at t) read-minimum.Post minimum-joined minimum-left
+  minimum-enum-known-done c = search needs
 
   minimum-same-length : read-minimum-lts.Need-same-length (minimum-calls t) (read-minimum-at t) read-minimum.Post minimum-joined minimum-left
-  minimum-same-length c = c .before .before .before .before .before .put-sign .ensures .wrote [] [] .kinds-length ∙ minimum-element (c .before .before .before .before .before .before .before) .wrote .kinds-length ∙ c .before .before .before .before .before .before .before .before .before .before .before .before .before .before .before .before .before .before .before .loop .inv .wrote .kinds-length
+  minimum-same-length c =
+      let d = c .before .before .before .before .before in
+      let e = minimum-element d in
+      d .joined .kept .1 .0 ∙ e .read-operand .kept .1 .1 .1 .1 .1 .0 ∙ minimum-round e .loop .inv .wrote .kinds-length
 
   minimum-same-length-2 : read-minimum-lts.Need-same-length-2 (minimum-calls t) (read-minimum-at t) read-minimum.Post minimum-joined minimum-left
-  minimum-same-length-2 c = minimum-element (c .before .before .before .before .before .before .before) .wrote .numbers-length ∙ c .before .before .before .before .before .before .before .before .before .before .before .before .before .before .before .before .before .before .before .loop .inv .wrote .numbers-length
+  minimum-same-length-2 c =
+      let d = c .before .before .before .before .before in
+      let e = minimum-element d in
+      e .read-operand .kept .1 .1 .1 .1 .1 .1 .0 ∙ minimum-round e .loop .inv .wrote .numbers-length
 
   minimum-same-length-3 : read-minimum-lts.Need-same-length-3 (minimum-calls t) (read-minimum-at t) read-minimum.Post minimum-joined minimum-left
-  minimum-same-length-3 c = minimum-element (c .before .before .before .before .before .before .before) .wrote .chains-length ∙ c .before .before .before .before .before .before .before .before .before .before .before .before .before .before .before .before .before .before .before .loop .inv .wrote .chains-length
+  minimum-same-length-3 c =
+      let d = c .before .before .before .before .before in
+      let e = minimum-element d in
+      e .read-operand .kept .1 .1 .1 .1 .1 .1 .1 .0 ∙ minimum-round e .loop .inv .wrote .chains-length
 
   minimum-returns : read-minimum-lts.Need-returns (minimum-calls t) (read-minimum-at t) read-minimum.Post minimum-joined minimum-left
   minimum-returns c =
-      joined-done smaller-joins (c .before .before .before .before .before .before .before .before .before .before .before .before .before .before .before .before .before .before .before .loop .inv) (minimum-element (c .before .before .before .before .before .before .before)) (c .before .before .before .before .before .put-sign .ensures)
-      (subst (RankedAt isSmaller _ _) (c .enum-told .given .1) (c .before .before .smaller-sign .ensures))
-
-  minimum-enum-told-2 : read-minimum-lts.Need-enum-told-2 (minimum-calls t) (read-minimum-at t) read-minimum.Post minimum-joined minimum-left
-  minimum-enum-told-2 c = search needs
-
-  minimum-same-length-4 : read-minimum-lts.Need-same-length-4 (minimum-calls t) (read-minimum-at t) read-minimum.Post minimum-joined minimum-left
-  minimum-same-length-4 c = c .before .before .before .before .before .before .before .read-operand .kept .1 .1 .1 .1 .1 .0 ∙ c .before .before .before .before .before .before .before .before .before .before .before .loop .inv .wrote .kinds-length
-
-  minimum-same-length-5 : read-minimum-lts.Need-same-length-5 (minimum-calls t) (read-minimum-at t) read-minimum.Post minimum-joined minimum-left
-  minimum-same-length-5 c = c .before .before .before .before .before .before .before .read-operand .kept .1 .1 .1 .1 .1 .1 .0 ∙ c .before .before .before .before .before .before .before .before .before .before .before .loop .inv .wrote .numbers-length
-
-  minimum-same-length-6 : read-minimum-lts.Need-same-length-6 (minimum-calls t) (read-minimum-at t) read-minimum.Post minimum-joined minimum-left
-  minimum-same-length-6 c = c .before .before .before .before .before .before .before .read-operand .kept .1 .1 .1 .1 .1 .1 .1 .0 ∙ c .before .before .before .before .before .before .before .before .before .before .before .loop .inv .wrote .chains-length
-
-  minimum-returns-2 : read-minimum-lts.Need-returns-2 (minimum-calls t) (read-minimum-at t) read-minimum.Post minimum-joined minimum-left
-  minimum-returns-2 c = joined-none smaller-joins (c .before .before .before .before .before .before .before .before .before .before .before .loop .inv) (subst (ReadingAt operand _ _ _ _ _ _ _ _) (c .enum-told2 .given .1) (c .before .before .before .before .before .before .before .read-operand .ensures))
-
-  minimum-enum-told-3 : read-minimum-lts.Need-enum-told-3 (minimum-calls t) (read-minimum-at t) read-minimum.Post minimum-joined minimum-left
-  minimum-enum-told-3 c = search needs
-
-  minimum-same-length-7 : read-minimum-lts.Need-same-length-7 (minimum-calls t) (read-minimum-at t) read-minimum.Post minimum-joined minimum-left
-  minimum-same-length-7 c = c .before .before .before .before .before .before .before .read-operand .kept .1 .1 .1 .1 .1 .0 ∙ c .before .before .before .before .before .before .before .before .before .before .before .loop .inv .wrote .kinds-length
-
-  minimum-same-length-8 : read-minimum-lts.Need-same-length-8 (minimum-calls t) (read-minimum-at t) read-minimum.Post minimum-joined minimum-left
-  minimum-same-length-8 c = c .before .before .before .before .before .before .before .read-operand .kept .1 .1 .1 .1 .1 .1 .0 ∙ c .before .before .before .before .before .before .before .before .before .before .before .loop .inv .wrote .numbers-length
-
-  minimum-same-length-9 : read-minimum-lts.Need-same-length-9 (minimum-calls t) (read-minimum-at t) read-minimum.Post minimum-joined minimum-left
-  minimum-same-length-9 c = c .before .before .before .before .before .before .before .read-operand .kept .1 .1 .1 .1 .1 .1 .1 .0 ∙ c .before .before .before .before .before .before .before .before .before .before .before .loop .inv .wrote .chains-length
-
-  minimum-returns-3 : read-minimum-lts.Need-returns-3 (minimum-calls t) (read-minimum-at t) read-minimum.Post minimum-joined minimum-left
-  minimum-returns-3 c = joined-deep smaller-joins (c .before .before .before .before .before .before .before .before .before .before .before .loop .inv) (subst (ReadingAt operand _ _ _ _ _ _ _ _) (c .enum-told3 .given .1) (c .before .before .before .before .before .before .before .read-operand .ensures))
+      let d = c .before .before .before .before .before in
+      let e = minimum-element d in
+      subst (JoinedTo smaller-joins (minimum-round e .loop .inv) (minimum-arrays e) (d .joined .last .1 .0)) (c .before .done .given .1)
+      (minimum-answered d)
 
 module _ (t : ℕ) where
   operand-read-term-requires : read-operand-lts.Need-read-term-requires (operand-calls t) (read-operand-at t) read-operand.Post
@@ -372,8 +340,17 @@ module _ (t : ℕ) where
 
   operand-read-group-requires : read-operand-lts.Need-read-group-requires (operand-calls t) (read-operand-at t) read-operand.Post
   operand-read-group-requires c κs =
-      let p = c .before .before .before .before .before .before .before .before .before .pre in
-      (omega (arith, p .0), (p .1 .0, (p .1 .1, subst (TermAt _ _ _) (c .before .before .before .enum-told .given .1) (c .before .before .before .before .before .read-term .ensures))))
+      let p = c .before .before .before .before .before .before .before .before .before .pre in (
+        omega (arith, p .0),
+        (
+          p .1 .0,
+          (
+            p .1 .1,
+            subst (TermAt _ _ _) (c .before .before .before .enum-told .given .1)
+                (c .before .before .before .before .before .read-term .ensures),
+          ),
+        ),
+      )
 
   operand-same-length : read-operand-lts.Need-same-length (operand-calls t) (read-operand-at t) read-operand.Post
   operand-same-length c = c .before .before .before .before .before .read-group .kept .1 .1 .1 .1 .1 .0
@@ -394,13 +371,21 @@ module _ (t : ℕ) where
       (omega (arith, r .kinds, p), omega (arith, r .numbers, p), omega (arith, r .chains, p))
 
   operand-sub-with-term : read-operand-lts.Need-sub-with-term (operand-calls t) (read-operand-at t) read-operand.Post
-  operand-sub-with-term c = c .before .before .before .before .before .before .before .before .before .before .before .before .before .before .before .before .pre .1 .0 .1
+  operand-sub-with-term c =
+      c .before .before .before .before .before .before .before .before .before .before .before .before .before .before .before .before .pre .1 .0 .1
 
   operand-with-term-requires : read-operand-lts.Need-with-term-requires (operand-calls t) (read-operand-at t) read-operand.Post
   operand-with-term-requires c κs = tt
 
   operand-add-t28 : read-operand-lts.Need-add-t28 (operand-calls t) (read-operand-at t) read-operand.Post
-  operand-add-t28 c = record { fits = omega (arith, c .before .before .before .before .before .before .before .before .before .before .before .before .before .before .before .before .before .pre .1 .1 .kinds, c .before .before .before .before .before .before .before .before .before .before .before .before .before .before .before .before .before .pre .1 .0 .2, c .before .before .before .before .before .before .before .before .before .before .before .before .before .before .before .before .before .good) }
+  operand-add-t28 c = record {
+    fits = omega (
+      arith,
+      c .before .before .before .before .before .before .before .before .before .before .before .before .before .before .before .before .before .pre .1 .1 .kinds,
+      c .before .before .before .before .before .before .before .before .before .before .before .before .before .before .before .before .before .pre .1 .0 .2,
+      c .before .before .before .before .before .before .before .before .before .before .before .before .before .before .before .before .before .good,
+    );
+  }
 
   operand-same-length-4 : read-operand-lts.Need-same-length-4 (operand-calls t) (read-operand-at t) read-operand.Post
   operand-same-length-4 c = c .before .before .before .before .before .before .put-term .ensures .kinds-length
@@ -413,7 +398,8 @@ module _ (t : ℕ) where
 
   operand-returns-2 : read-operand-lts.Need-returns-2 (operand-calls t) (read-operand-at t) read-operand.Post
   operand-returns-2 c =
-      term-operand (c .before .before .before .before .before .before .before .before .before .before .before .before .before .before .before .before .before .pre .1 .0 .3) (subst (TermAt _ _ _) (c .before .before .before .before .before .before .before .before .before .before .before .parts .given .1) (c .before .before .before .before .before .before .before .before .before .before .before .before .before .read-term .ensures))
+      let k = c .before .before .before .before .before .before .before .before .before .before .before in
+      term-operand (k .before .before .before .before .before .before .pre .1 .0 .3) (subst (TermAt _ _ _) (k .parts .given .1) (k .before .before .read-term .ensures))
       (c .with-term .ensures) (c .before .before .before .before .before .before .put-term .ensures)
 
 module _ (t : ℕ) where
@@ -427,10 +413,13 @@ module _ (t : ℕ) where
   group-enum-told c = search needs
 
   group-returns : read-group-lts.Need-returns (group-calls t) (read-group-at t) read-group.Post
-  group-returns c = group-none (c .before .before .before .before .before .before .pre .1 .1 .1) (subst (Passes true true openRound _ _) (c .enum-told .given .1) (c .before .before .open-round .ensures))
+  group-returns c = group-none (c .before .before .before .before .before .before .pre .1 .1 .1)
+      (subst (Passes true true openRound _ _) (c .enum-told .given .1) (c .before .before .open-round .ensures))
 
   -- the group opens
-  group-opens : (c : read-group-lts.After-known-told (group-calls t) (read-group-at t) read-group.Post) → let a = c .before .before .before .before .before .before .before .args in Passing true true openRound (now (a .line)) (a .at) (c .before .inner .given .0 .0)
+  group-opens : (c : read-group-lts.After-known-told (group-calls t) (read-group-at t) read-group.Post) → let a =
+      c .before .before .before .before .before .before .before .args in Passing true true openRound (now (a .line)) (a .at)
+      (c .before .inner .given .0 .0)
   group-opens c = subst (Passes true true openRound _ _) (c .before .inner .given .1) (c .before .before .before .open-round .ensures)
 
   group-returns-2 : read-group-lts.Need-returns-2 (group-calls t) (read-group-at t) read-group.Post
@@ -447,17 +436,35 @@ module _ (t : ℕ) where
         omega (arith, p .0, c .before .before .before .if1 .left),
         (
           (p .1 .0 .0, omega (arith, p .1 .0 .1), b .inside, omega (arith, p .1 .0 .3, b .onward)),
-          record { kinds = omega (arith, r .kinds, b .onward); numbers = omega (arith, r .numbers, b .onward); chains = omega (arith, r .chains, b .onward) },
+          record {
+            kinds = omega (arith, r .kinds, b .onward);
+            numbers = omega (arith, r .numbers, b .onward);
+            chains = omega
+                (arith, r .chains, b .onward);
+          },
         ),
       )
 
+  -- the ways back from the expression that was read, and the arrays before and behind it
+  abbrev group-inner : (c : read-group-lts.After-read-expression (group-calls t) (read-group-at t) read-group.Post) → read-group-lts.After-known-told
+      (group-calls t) (read-group-at t) read-group.Post
+  group-inner c = c .before .before .before .before .before
+
+  abbrev group-old : (c : read-group-lts.After-read-expression (group-calls t) (read-group-at t) read-group.Post) → Arrays
+  group-old c = let a = c .before .before .before .before .before .before .before .before .before .before .before .before .args in arrays
+      (now (a .kinds)) (now (a .numbers)) (now (a .chains))
+
+  abbrev group-new : (c : read-group-lts.After-read-expression (group-calls t) (read-group-at t) read-group.Post) → Arrays
+  group-new c = let p = c .read-expression .last .1 .1 .1 .1 .1 in arrays (p .0) (p .1 .0) (p .1 .1 .0)
+
   group-close-group-requires : read-group-lts.Need-close-group-requires (group-calls t) (read-group-at t) read-group.Post
   group-close-group-requires c κs =
+      let e = c .before .before .before .before .before in
+      let k = group-inner e in
       let a = c .before .before .before .before .before .before .before .before .before .before .before .before .before .before .before .before .before .args in
-      let p = c .before .before .before .before .before .read-expression .last .1 .1 .1 .1 .1 in
-      reading-inside expression (a .sizes) (a .room - 1) (a .«before») (now (a .line)) (c .before .before .before .before .before .before .before .before .before .before .before .inner .given .0 .0)
-      (arrays (now (a .kinds)) (now (a .numbers)) (now (a .chains))) (arrays (p .0) (p .1 .0) (p .1 .1 .0)) (a .count)
-      (c .before .before .before .before .before .read-expression .result) (c .before .before .before .before .before .read-expression .ensures)
+      reading-inside expression (a .sizes) (a .room - 1) (a .«before») (now (a .line)) (k .before .inner .given .0 .0) (group-old e) (group-new e)
+      (a .count)
+      (e .read-expression .result) (e .read-expression .ensures)
 
   group-same-length : read-group-lts.Need-same-length (group-calls t) (read-group-at t) read-group.Post
   group-same-length c = c .before .before .before .before .before .before .read-expression .kept .1 .1 .1 .1 .1 .0
@@ -470,11 +477,13 @@ module _ (t : ℕ) where
 
   group-returns-3 : read-group-lts.Need-returns-3 (group-calls t) (read-group-at t) read-group.Post
   group-returns-3 c =
-      let a = c .before .before .before .before .before .before .before .before .before .before .before .before .before .before .before .before .before .before .args in
-      let p = c .before .before .before .before .before .before .read-expression .last .1 .1 .1 .1 .1 in
-      group-closed (a .sizes) (a .room) (a .«before») (c .before .before .before .before .before .before .before .before .before .before .before .before .before .before .before .before .before .before .pre .1 .0 .1) (c .before .before .before .before .before .before .before .before .before .before .if1 .left) (group-opens (c .before .before .before .before .before .before .before .before .before .before .before))
-      (arrays (now (a .kinds)) (now (a .numbers)) (now (a .chains))) (arrays (p .0) (p .1 .0) (p .1 .1 .0)) (a .count)
-      (c .before .before .before .before .before .before .read-expression .result) (c .close-group .result) (c .before .before .before .before .before .before .read-expression .ensures) (c .close-group .ensures)
+      let e = c .before .before .before .before .before .before in
+      let s = c .before .before .before .before .before .before .before .before .before .before .before .before .before .before .before .before .before .before in
+      let a = s .args in
+      group-closed (a .sizes) (a .room) (a .«before») (s .pre .1 .0 .1)
+      (c .before .before .before .before .before .before .before .before .before .before .if1 .left) (group-opens (group-inner e)) (group-old e)
+      (group-new e) (a .count)
+      (e .read-expression .result) (c .close-group .result) (e .read-expression .ensures) (c .close-group .ensures)
 
 pub +read-expression+read-group+read-minimum+read-operand-spec : {M : Type 1} → statement M
 +read-expression+read-group+read-minimum+read-operand-spec =
@@ -485,12 +494,9 @@ pub +read-expression+read-group+read-minimum+read-operand-spec : {M : Type 1} �
     μ-read-operand
     (λ t.
     read-expression-lts.spec (expression-calls t) (read-expression-at t) read-expression.Post expression-joined expression-left
-    (expression-loop-holds t) (expression-read-minimum-requires t) (expression-enum-known-next t) (expression-put-sign-requires t)
-    (expression-sum-sign-requires t) (expression-enum-known-sign t) (expression-with-operator-requires t) (expression-kind-of-requires t)
-    (expression-loop-less t) (expression-loop-again t) (expression-enum-told t) (expression-same-length t) (expression-same-length-2 t)
-    (expression-same-length-3 t) (expression-returns t) (expression-enum-told-2 t) (expression-same-length-4 t) (expression-same-length-5 t)
-    (expression-same-length-6 t) (expression-returns-2 t) (expression-enum-told-3 t) (expression-same-length-7 t) (expression-same-length-8 t)
-    (expression-same-length-9 t) (expression-returns-3 t))
+    (expression-loop-holds t) (expression-read-minimum-requires t) (expression-joined-requires t) (expression-enum-known-more t)
+    (expression-loop-less t) (expression-loop-again t) (expression-enum-known-done t) (expression-same-length t) (expression-same-length-2 t)
+    (expression-same-length-3 t) (expression-returns t))
     (λ t.
     read-group-lts.spec (group-calls t) (read-group-at t) read-group.Post
     (group-open-round-requires t) (group-enum-known-inner t) (group-enum-told t) (group-returns t) (group-returns-2 t) (group-sub-read-expression t)
@@ -498,11 +504,9 @@ pub +read-expression+read-group+read-minimum+read-operand-spec : {M : Type 1} �
     (group-returns-3 t))
     (λ t.
     read-minimum-lts.spec (minimum-calls t) (read-minimum-at t) read-minimum.Post minimum-joined minimum-left
-    (minimum-loop-holds t) (minimum-read-operand-requires t) (minimum-enum-known-next t) (minimum-put-sign-requires t)
-    (minimum-smaller-sign-requires t) (minimum-enum-known-sign t) (minimum-with-operator-requires t) (minimum-kind-of-requires t)
-    (minimum-loop-less t) (minimum-loop-again t) (minimum-enum-told t) (minimum-same-length t) (minimum-same-length-2 t) (minimum-same-length-3 t)
-    (minimum-returns t) (minimum-enum-told-2 t) (minimum-same-length-4 t) (minimum-same-length-5 t) (minimum-same-length-6 t) (minimum-returns-2 t)
-    (minimum-enum-told-3 t) (minimum-same-length-7 t) (minimum-same-length-8 t) (minimum-same-length-9 t) (minimum-returns-3 t))
+    (minimum-loop-holds t) (minimum-read-operand-requires t) (minimum-joined-requires t) (minimum-enum-known-more t) (minimum-loop-less t)
+    (minimum-loop-again t) (minimum-enum-known-done t) (minimum-same-length t) (minimum-same-length-2 t) (minimum-same-length-3 t)
+    (minimum-returns t))
     (λ t.
     read-operand-lts.spec (operand-calls t) (read-operand-at t) read-operand.Post
     (operand-read-term-requires t) (operand-enum-known-parts t) (operand-enum-told t) (operand-read-group-requires t) (operand-same-length t)

@@ -7,8 +7,8 @@ use denote.Ref.{now}
 use Rattle.text_syntax.specs.Token.{closeRound}
 use Rattle.text_expressions.specs.Place.{Passes}
 use Rattle.text_expressions.specs.Reading.{EndInside, GroupedBy}
-use Rattle.text_expressions.specs.declared.reader.Reading.{Reading}
-use Rattle.text_expressions.specs.declared.reader.Reading.the-variants.{Read, NoForm, Deep}
+use Rattle.text_expressions.specs.declared.join.Reading.{Reading}
+use Rattle.text_expressions.specs.declared.join.Reading.the-variants.{Read, NoForm, Deep}
 use Rattle.text_expressions.proofs.reader.close_group.Statement.{statement}
 use Rattle.text_expressions.proofs.reader.close_group.Tie as tie
 
@@ -34,11 +34,13 @@ returns : tie.Need-returns
 returns c =
     let p = subst (Passes false false closeRound _ _) (c .before .end .given .1) (c .before .before .before .close-round .ensures) in
     let v = c .before .before .before .before .before .inner .given in
-    subst (λ (x : Reading). GroupedBy (now (c .before .before .before .before .before .before .before .before .args .line)) x (Read (v .0 .0) (c .before .end .given .0 .0) (v .0 .1 .1 .0))) (sym (v .1)) (refl, refl, p)
+    subst (λ (x : Reading). GroupedBy (now (c .before .before .before .before .before .before .before .before .args .line)) x
+    (Read (v .0 .0) (c .before .end .given .0 .0) (v .0 .1 .1 .0))) (sym (v .1)) (refl, refl, p)
 
 returns-2 : tie.Need-returns-2
 returns-2 c =
-    subst (λ (x : Reading). GroupedBy (now (c .before .before .before .before .before .before .before .args .line)) x NoForm) (sym (c .before .before .before .before .inner .given .1))
+    subst (λ (x : Reading). GroupedBy (now (c .before .before .before .before .before .before .before .args .line)) x NoForm)
+    (sym (c .before .before .before .before .inner .given .1))
     (subst (Passes false false closeRound _ _) (c .enum-told .given .1) (c .before .before .close-round .ensures))
 
 returns-3 : tie.Need-returns-3

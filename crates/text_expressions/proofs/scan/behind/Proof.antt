@@ -17,17 +17,30 @@ enum-known-sign c = search needs
 with-operator-requires : tie.Need-with-operator-requires
 with-operator-requires c κs =
     let p = subst (PassesOperator _ _) (c .before .sign .given .1) (c .before .before .before .operator .ensures) in
-    omega (arith, c .before .before .before .before .before .before .pre .0 .operators, p .behind .onward, p .behind .inside, c .before .before .before .before .before .before .good)
+    omega (
+      arith,
+      c .before .before .before .before .before .before .pre .0 .operators,
+      p .behind .onward,
+      p .behind .inside,
+      c .before .before .before .before .before .before .good,
+    )
 
 enum-told : tie.Need-enum-told
 enum-told c = search needs
 
 closed-requires : tie.Need-closed-requires
-closed-requires c κs = (c .before .before .before .before .before .pre .0, c .before .before .before .before .before .pre .1, subst (PassesOperator _ _) (c .enum-told .given .1) (c .before .before .operator .ensures))
+closed-requires c κs = (
+  c .before .before .before .before .before .pre .0,
+  c .before .before .before .before .before .pre .1,
+  subst (PassesOperator _ _)
+      (c .enum-told .given .1) (c .before .before .operator .ensures),
+)
 
 returns : tie.Need-returns
 returns c =
-    turn-operator _ _ (c .before .before .before .before .before .before .before .pre .0) (c .before .before .before .before .before .before .before .pre .1) (subst (PassesOperator _ _) (c .before .before .sign .given .1) (c .before .before .before .before .operator .ensures)) (c .with-operator .ensures)
+    turn-operator _ _ (c .before .before .before .before .before .before .before .pre .0)
+    (c .before .before .before .before .before .before .before .pre .1)
+    (subst (PassesOperator _ _) (c .before .before .sign .given .1) (c .before .before .before .before .operator .ensures)) (c .with-operator .ensures)
 
 returns-2 : tie.Need-returns-2
 returns-2 c = c .closed .ensures

@@ -27,12 +27,14 @@ enum-told c = search needs
 
 returns-2 : tie.Need-returns-2
 returns-2 c =
-    turn-close _ _ (c .before .before .before .before .before .before .before .pre .0) (c .before .before .before .before .before .before .before .pre .1) (c .before .before .before .before .before .before .before .pre .2) (c .before .before .before .before .if1 .left)
+    turn-close _ _ (c .before .before .before .before .before .before .before .pre .0) (c .before .before .before .before .before .before .before .pre .1)
+    (c .before .before .before .before .before .before .before .pre .2) (c .before .before .before .before .if1 .left)
     (subst (Passes false false closeRound _ _) (c .before .end .given .1) (c .before .before .before .close-round .ensures))
 
 returns-3 : tie.Need-returns-3
 returns-3 c =
-    turn-unclosed _ _ (c .before .before .before .before .before .before .pre .0) (c .before .before .before .before .before .before .pre .1) (c .before .before .before .before .before .before .pre .2) (c .before .before .before .if1 .left)
+    turn-unclosed _ _ (c .before .before .before .before .before .before .pre .0) (c .before .before .before .before .before .before .pre .1)
+    (c .before .before .before .before .before .before .pre .2) (c .before .before .before .if1 .left)
     (subst (Passes false false closeRound _ _) (c .enum-told .given .1) (c .before .before .close-round .ensures))
 
 pub closed-spec : {M : Type 1} → statement M

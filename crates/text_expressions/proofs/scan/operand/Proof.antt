@@ -20,11 +20,17 @@ enum-told : tie.Need-enum-told
 enum-told c = search needs
 
 opened-requires : tie.Need-opened-requires
-opened-requires c κs = (c .before .before .before .before .before .pre .1, c .before .before .before .before .before .pre .2, subst (TermAt _ _ _) (c .enum-told .given .1) (c .before .before .read-term .ensures))
+opened-requires c κs = (
+  c .before .before .before .before .before .pre .1,
+  c .before .before .before .before .before .pre .2,
+  subst (TermAt _ _ _) (c .enum-told .given .1)
+      (c .before .before .read-term .ensures),
+)
 
 returns : tie.Need-returns
 returns c =
-    turn-term _ _ (c .before .before .before .before .before .before .before .pre .1) (c .before .before .before .before .before .before .before .pre .2) (subst (TermAt _ _ _) (c .before .before .parts .given .1) (c .before .before .before .before .read-term .ensures)) (c .with-term .ensures)
+    turn-term _ _ (c .before .before .before .before .before .before .before .pre .1) (c .before .before .before .before .before .before .before .pre .2)
+    (subst (TermAt _ _ _) (c .before .before .parts .given .1) (c .before .before .before .before .read-term .ensures)) (c .with-term .ensures)
 
 returns-2 : tie.Need-returns-2
 returns-2 c = c .opened .ensures

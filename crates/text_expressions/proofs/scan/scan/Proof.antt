@@ -29,7 +29,8 @@ next-state-requires c κs = (c .before .before .before .pre .0, c .loop .inv .st
 enum-known-next : tie.Need-enum-known-next Inv-loop μ-loop
 enum-known-next c = search needs
 
-turns : (c : tie.After-known-told Inv-loop μ-loop) → let a = c .before .before .before .before .before .before .before .args in Turns (a .sizes) (now (a .line)) (c .before .before .before .before .loop .state) (c .before .next .given .0 .0)
+turns : (c : tie.After-known-told Inv-loop μ-loop) → let a = c .before .before .before .before .before .before .before .args in Turns (a .sizes)
+    (now (a .line)) (c .before .before .before .before .loop .state) (c .before .next .given .0 .0)
 turns c = subst (TurnAt _ _ _) (c .before .next .given .1) (c .before .before .before .next-state .ensures)
 
 loop-less : tie.Need-loop-less Inv-loop μ-loop
@@ -42,7 +43,8 @@ enum-known-seen : tie.Need-enum-known-seen Inv-loop μ-loop
 enum-known-seen c = search needs
 
 returns : tie.Need-returns Inv-loop μ-loop
-returns c = scanning-done (c .before .before .before .before .loop .inv) (subst (TurnAt _ _ _) (c .before .seen .given .1) (c .before .before .before .next-state .ensures))
+returns c = scanning-done (c .before .before .before .before .loop .inv)
+    (subst (TurnAt _ _ _) (c .before .seen .given .1) (c .before .before .before .next-state .ensures))
 
 enum-told : tie.Need-enum-told Inv-loop μ-loop
 enum-told c = search needs

@@ -1,9 +1,6 @@
 -- `text_expressions::summary::with_operator` meets its contract.
 -- Assumes nothing.
-use mathlib.Core.Path.{ap}
-use mathlib.Core.Bool.{Bool, _||_}
 use borrow.Author.Needs.{needs}
-use Rattle.text_syntax.specs.Flat as F
 use Rattle.text_syntax.specs.Flat.{withOperator}
 use Rattle.text_expressions.proofs.summary.with_operator.Statement.{statement}
 use Rattle.text_expressions.proofs.summary.with_operator.Tie as tie

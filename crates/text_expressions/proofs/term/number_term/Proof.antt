@@ -33,8 +33,13 @@ number-parts-requires c κs = search needs
 returns-2 : tie.Need-returns-2
 returns-2 c =
     let w = lexed _ _ _ (c .before .before .before .before .before .before .pre .0) (c .before .before .before .before .next-token .ensures) in
-    subst (λ (p : TermParts). TermFormed (c .before .before .before .before .before .before .args .sizes) (now (c .before .before .before .before .before .before .args .line)) (c .before .before .before .before .before .before .args .at) p (c .before .before .before .before .next-token .result .end)) (sym (c .number-parts .ensures ∙ ap (λ (z : ℤ). numberParts (sumOf z)) (toZ-ofZ {w = w64} (record { sfits = c .before .known-told .given .0 .1 }))))
-    (number-formed (c .before .before .before .before .before .before .pre .1) (passed w (c .before .before .token .given .1)) (goes-on w _ (c .before .before .token .given .1) tt))
+    subst (λ (p : TermParts). TermFormed (c .before .before .before .before .before .before .args .sizes)
+    (now (c .before .before .before .before .before .before .args .line)) (c .before .before .before .before .before .before .args .at) p
+    (c .before .before .before .before .next-token .result .end))
+    (sym (c .number-parts .ensures ∙ ap (λ (z : ℤ). numberParts (sumOf z))
+    (toZ-ofZ {w = w64} (record { sfits = c .before .known-told .given .0 .1 }))))
+    (number-formed (c .before .before .before .before .before .before .pre .1) (passed w (c .before .before .token .given .1))
+    (goes-on w _ (c .before .before .token .given .1) tt))
 
 pub number-term-spec : {M : Type 1} → statement M
 number-term-spec = tie.close (tie.spec next-token-requires enum-known-token returns number-parts-requires returns-2)

@@ -1,4 +1,4 @@
--- `text_expressions::reader::smaller_sign` meets its contract.
+-- `text_expressions::join::smaller_sign` meets its contract.
 -- Assumes nothing.
 use mathlib.Core.Path.{sym, ap, subst, _∙_}
 use mathlib.Core.Bool.{not}
@@ -6,8 +6,8 @@ use borrow.Author.Needs.{needs}
 use Rattle.text_syntax.specs.Grammar.{isSmaller}
 use Rattle.text_expressions.specs.Place.{PassesOperator}
 use Rattle.text_expressions.proofs.Joining.{ranked-none, ranked-other}
-use Rattle.text_expressions.proofs.reader.smaller_sign.Statement.{statement}
-use Rattle.text_expressions.proofs.reader.smaller_sign.Tie as tie
+use Rattle.text_expressions.proofs.join.smaller_sign.Statement.{statement}
+use Rattle.text_expressions.proofs.join.smaller_sign.Tie as tie
 
 operator-requires : tie.Need-operator-requires
 operator-requires c κs = search needs
@@ -26,11 +26,17 @@ is-sum-requires c κs = search needs
 
 returns-2 : tie.Need-returns-2
 unfolding isSmaller
-returns-2 c = ranked-other isSmaller (subst (PassesOperator _ _) (c .before .before .before .sign .given .1) (c .before .before .before .before .before .operator .ensures)) (ap not (sym (c .before .is-sum .ensures) ∙ c .if1 .taken))
+returns-2 c = ranked-other isSmaller
+    (subst (PassesOperator _ _) (c .before .before .before .sign .given .1) (c .before .before .before .before .before .operator .ensures))
+    (ap not (sym (c .before .is-sum .ensures) ∙ c .if1 .taken))
 
 returns-3 : tie.Need-returns-3
 unfolding isSmaller
-returns-3 c = record { passing = subst (PassesOperator _ _) (c .before .before .before .sign .given .1) (c .before .before .before .before .before .operator .ensures); of-rank = ap not (sym (c .before .is-sum .ensures) ∙ c .if1 .left) }
+returns-3 c = record {
+  passing = subst (PassesOperator _ _) (c .before .before .before .sign .given .1)
+      (c .before .before .before .before .before .operator .ensures);
+  of-rank = ap not (sym (c .before .is-sum .ensures) ∙ c .if1 .left);
+}
 
 pub smaller-sign-spec : {M : Type 1} → statement M
 smaller-sign-spec = tie.close (tie.spec operator-requires enum-known-sign enum-told returns is-sum-requires returns-2 returns-3)
