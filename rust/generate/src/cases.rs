@@ -3,10 +3,11 @@
 use crate::random::Random;
 use crate::registers;
 use crate::texts::{self, Shape};
+use crate::tokens;
 use reference::program::Program;
 use reference::register::{Sizes, encode};
 use reference::run::scratch_length;
-use reference::text::read_text;
+use reference::text::{MAX_BYTES, read_text};
 
 /// A register that loads and a text that passes for it.
 #[derive(Clone, Debug)]
@@ -57,6 +58,41 @@ impl Case {
                 let density = random.pick(&[50, 80, 90]);
                 case.register = encode(sizes, &registers::cells(random, sizes, density));
                 return case;
+            }
+        }
+    }
+
+    /// A small case with expressions, in any spacing.
+    pub fn with_expressions(random: &mut Random) -> Case {
+        let sizes = Sizes {
+            records: random.below(8),
+            references: random.between(1, 3),
+            measures: random.between(1, 3),
+        };
+        Case::respaced(random, sizes, texts::right_expression_shape)
+    }
+
+    /// A case of one step, whose sums are often out of range.
+    pub fn near_the_range(random: &mut Random) -> Case {
+        let sizes = Sizes {
+            records: random.between(1, 3),
+            references: random.between(1, 2),
+            measures: random.between(1, 3),
+        };
+        let mut case = Case::respaced(random, sizes, texts::range_shape);
+        let density = random.pick(&[50, 70, 90]);
+        case.register = encode(sizes, &registers::cells(random, sizes, density));
+        case
+    }
+
+    fn respaced(random: &mut Random, sizes: Sizes, shape: fn(&mut Random) -> Shape) -> Case {
+        loop {
+            let shape = shape(random);
+            if let Some(mut case) = Case::of_shape(random, sizes, shape) {
+                case.text = tokens::respaced(random, &case.text);
+                if case.text.len() <= MAX_BYTES {
+                    return case;
+                }
             }
         }
     }

@@ -1,9 +1,10 @@
 //! What a step does with its readings: local rules, then remote writes. Both
 //! machines do it alike; they differ in how a record comes to know a reading.
 
+use crate::evaluate::{Evaluated, evaluate};
 use crate::program::{PlannedRule, Reading, Step};
 use crate::register::{Cell, Sizes};
-use crate::rule::{Action, Comparison, Sort, Stored, Term, Test};
+use crate::rule::{Action, Comparison, Expression, Sort, Test};
 
 /// What the records know of the cells as they stood before a step.
 pub trait Knowledge {
@@ -99,11 +100,11 @@ impl Work {
                 let Action::Remote(sort, target, x) = &rule.action else {
                     continue;
                 };
-                if !passes(&rule.test, record, known) {
+                if tested(&rule.test, record, known) != Tested::Holds {
                     continue;
                 }
-                let (target, x) = (known.read(target, record), value(x, record, known));
-                if let (Cell::Value(target), Cell::Value(x)) = (target, x) {
+                let (target, x) = (known.read(target, record), evaluate(x, record, known));
+                if let (Cell::Value(target), Evaluated::Value(x)) = (target, x) {
                     self.deliver(*sort, self.place(target as usize, rule.field), x);
                     letters += 1;
                 }
@@ -149,30 +150,38 @@ fn none_outside(outside: OutOfRange) -> Result<(), OutOfRange> {
     }
 }
 
-/// Whether a rule is done: without a test, or with one that holds. A test with a
-/// missing side does not hold, `!=` included.
-fn passes(test: &Option<Test<Reading>>, record: usize, known: &impl Knowledge) -> bool {
+/// What comes of a rule's test.
+#[derive(Clone, Copy, PartialEq, Eq)]
+enum Tested {
+    /// There is none, or it holds: the rule is done.
+    Holds,
+    /// It does not hold. So does one with a missing side, `!=` included.
+    Fails,
+    /// A sum of it is out of range. Both sides are formed, whatever the other is.
+    OutOfRange,
+}
+
+#[inline]
+fn tested(test: &Option<Test<Reading>>, record: usize, known: &impl Knowledge) -> Tested {
     let Some(test) = test else {
-        return true;
+        return Tested::Holds;
     };
     let sides = (
-        value(&test.left, record, known),
-        value(&test.right, record, known),
+        evaluate(&test.left, record, known),
+        evaluate(&test.right, record, known),
     );
-    match sides {
-        (Cell::Value(left), Cell::Value(right)) => match test.comparison {
+    let holds = match sides {
+        (Evaluated::OutOfRange, _) | (_, Evaluated::OutOfRange) => return Tested::OutOfRange,
+        (Evaluated::Value(left), Evaluated::Value(right)) => match test.comparison {
             Comparison::Less => left < right,
             Comparison::Equal => left == right,
             Comparison::NotEqual => left != right,
         },
         _ => false,
-    }
-}
-
-fn value(term: &Term<Reading>, record: usize, known: &impl Knowledge) -> Cell {
-    match term {
-        Term::Chain(reading) => known.read(reading, record),
-        Term::Number(number) => Cell::Value(*number as i32),
+    };
+    match holds {
+        true => Tested::Holds,
+        false => Tested::Fails,
     }
 }
 
@@ -183,33 +192,36 @@ enum Written {
     /// What it reads, or its sum, is missing.
     Gap,
     Value(i32),
+    /// A sum of its test, or of its expression where the test holds, is out of range.
     OutOfRange,
 }
 
+#[inline]
 fn written(rule: &PlannedRule, record: usize, known: &impl Knowledge) -> Written {
-    let Action::Local(stored) = &rule.action else {
-        return Written::Nothing;
-    };
-    if !passes(&rule.test, record, known) {
+    let remote = rule.remote_sort().is_some();
+    if remote && !forms_any(rule) {
         return Written::Nothing;
     }
-    let value = |term| value(term, record, known);
-    match stored {
-        Stored::Term(x) => match value(x) {
-            Cell::Missing => Written::Gap,
-            Cell::Value(x) => Written::Value(x),
-        },
-        Stored::Sum(x, y) => combine(value(x), value(y), i32::checked_add),
-        Stored::Difference(x, y) => combine(value(x), value(y), i32::checked_sub),
+    match tested(&rule.test, record, known) {
+        Tested::Holds => (),
+        Tested::Fails => return Written::Nothing,
+        Tested::OutOfRange => return Written::OutOfRange,
+    }
+    match evaluate(rule.action.expression(), record, known) {
+        Evaluated::OutOfRange => Written::OutOfRange,
+        _ if remote => Written::Nothing,
+        Evaluated::Missing => Written::Gap,
+        Evaluated::Value(value) => Written::Value(value),
     }
 }
 
-/// A sum with a missing side is missing.
-fn combine(x: Cell, y: Cell, sum: impl Fn(i32, i32) -> Option<i32>) -> Written {
-    match (x, y) {
-        (Cell::Value(x), Cell::Value(y)) => sum(x, y).map_or(Written::OutOfRange, Written::Value),
-        _ => Written::Gap,
-    }
+/// Whether a rule may form a sum: it does not where all it has are terms.
+#[inline]
+fn forms_any(rule: &PlannedRule) -> bool {
+    let is_term = |expression: &Expression<Reading>| matches!(expression, Expression::Term(_));
+    let test = rule.test.as_ref();
+    let tests_terms = test.is_none_or(|test| is_term(&test.left) && is_term(&test.right));
+    !(tests_terms && is_term(rule.action.expression()))
 }
 
 /// Whether one of these rules stores a value in a field of a record.

@@ -113,9 +113,8 @@ fn plain_text() -> Vec<u8> {
         tests: 40,
         remotes: 35,
         numbers: 30,
-        metres: 0,
-        repeats: 0,
         shared: 50,
+        ..texts::DOCUMENT_01
     };
     full_text(&mut random, |random| texts::text(random, TEXT_SIZES, shape))
 }

@@ -1,0 +1,94 @@
+//! What an expression comes to at a record.
+
+use crate::apply::Knowledge;
+use crate::line_check::MAX_GROUPS;
+use crate::program::Reading;
+use crate::register::Cell;
+use crate::rule::{Expression, Node, Operator, Term};
+
+/// What an expression comes to.
+#[derive(Clone, Copy, Debug, PartialEq, Eq)]
+pub enum Evaluated {
+    /// An operand is missing, and no sum that is formed is out of range.
+    Missing,
+    /// The value.
+    Value(i32),
+    /// A sum whose operands are all filled is out of range, wherever it stands.
+    OutOfRange,
+}
+
+impl From<Cell> for Evaluated {
+    fn from(cell: Cell) -> Evaluated {
+        match cell {
+            Cell::Missing => Evaluated::Missing,
+            Cell::Value(value) => Evaluated::Value(value),
+        }
+    }
+}
+
+/// The most operands that wait at a time: in each group, and outside of them, one
+/// for a sum and one for a smaller; and the one that is read.
+const MOST_WAITING: usize = 2 * (MAX_GROUPS + 1) + 1;
+
+/// Evaluates an expression at a record.
+#[inline]
+pub fn evaluate(
+    expression: &Expression<Reading>,
+    record: usize,
+    known: &impl Knowledge,
+) -> Evaluated {
+    match expression {
+        Expression::Term(x) => value(x, record, known).into(),
+        Expression::Pair(operator, [x, y]) => {
+            let (x, y) = (value(x, record, known), value(y, record, known));
+            operate(*operator, x, y)
+        }
+        Expression::Tree(terms, nodes) => {
+            evaluate_tree(nodes, terms.iter().map(|x| value(x, record, known)))
+        }
+    }
+}
+
+/// The operands that wait stand in a list, from left to right.
+fn evaluate_tree(nodes: &[Node], mut terms: impl Iterator<Item = Cell>) -> Evaluated {
+    let mut operands = [Cell::Missing; MOST_WAITING];
+    let mut count = 0;
+    for node in nodes {
+        let operand = match node {
+            Node::Term => terms.next().unwrap_or(Cell::Missing),
+            Node::Operator(operator) => {
+                count -= 2;
+                match operate(*operator, operands[count], operands[count + 1]) {
+                    Evaluated::Missing => Cell::Missing,
+                    Evaluated::Value(value) => Cell::Value(value),
+                    Evaluated::OutOfRange => return Evaluated::OutOfRange,
+                }
+            }
+        };
+        operands[count] = operand;
+        count += 1;
+    }
+    operands[0].into()
+}
+
+/// A missing operand makes the whole missing; a sum of filled ones must be in range.
+#[inline]
+fn operate(operator: Operator, x: Cell, y: Cell) -> Evaluated {
+    let (Cell::Value(x), Cell::Value(y)) = (x, y) else {
+        return Evaluated::Missing;
+    };
+    let formed = match operator {
+        Operator::Plus => x.checked_add(y),
+        Operator::Minus => x.checked_sub(y),
+        Operator::Smaller => Some(x.min(y)),
+    };
+    formed.map_or(Evaluated::OutOfRange, Evaluated::Value)
+}
+
+#[inline]
+fn value(term: &Term<Reading>, record: usize, known: &impl Knowledge) -> Cell {
+    match term {
+        Term::Chain(reading) => known.read(reading, record),
+        Term::Number(number) => Cell::Value(*number as i32),
+    }
+}
