@@ -75,16 +75,16 @@ impl Work {
             for (index, rule) in step.rules.iter().enumerate() {
                 let field = rule.field;
                 match written(rule, record, known) {
-                    Written::Nothing => {}
-                    Written::Gap => {
+                    None => {}
+                    Some(Evaluated::Missing) => {
                         let earlier = &step.rules[..index];
                         self.kept += u64::from(is_stored(earlier, field, record, known));
                     }
-                    Written::Value(value) => {
+                    Some(Evaluated::Value(value)) => {
                         let place = self.place(record, field);
                         self.cells[place] = Cell::Value(value);
                     }
-                    Written::OutOfRange => outside.push(Place { record, field }),
+                    Some(Evaluated::OutOfRange) => outside.push(Place { record, field }),
                 }
             }
         }
@@ -161,22 +161,23 @@ enum Tested {
     OutOfRange,
 }
 
-#[inline]
 fn tested(test: &Option<Test<Reading>>, record: usize, known: &impl Knowledge) -> Tested {
-    let Some(test) = test else {
-        return Tested::Holds;
-    };
-    let sides = (
-        evaluate(&test.left, record, known),
-        evaluate(&test.right, record, known),
-    );
-    let holds = match sides {
-        (Evaluated::OutOfRange, _) | (_, Evaluated::OutOfRange) => return Tested::OutOfRange,
+    match test {
+        None => Tested::Holds,
+        Some(test) => compared(test, record, known),
+    }
+}
+
+fn compared(test: &Test<Reading>, record: usize, known: &impl Knowledge) -> Tested {
+    let left = evaluate(&test.left, record, known);
+    let right = evaluate(&test.right, record, known);
+    let holds = match (left, right) {
         (Evaluated::Value(left), Evaluated::Value(right)) => match test.comparison {
             Comparison::Less => left < right,
             Comparison::Equal => left == right,
             Comparison::NotEqual => left != right,
         },
+        (Evaluated::OutOfRange, _) | (_, Evaluated::OutOfRange) => return Tested::OutOfRange,
         _ => false,
     };
     match holds {
@@ -185,33 +186,23 @@ fn tested(test: &Option<Test<Reading>>, record: usize, known: &impl Knowledge) -
     }
 }
 
-/// What comes of a rule in its own record.
-enum Written {
-    /// It is not done, or is remote.
-    Nothing,
-    /// What it reads, or its sum, is missing.
-    Gap,
-    Value(i32),
-    /// A sum of its test, or of its expression where the test holds, is out of range.
-    OutOfRange,
-}
-
-#[inline]
-fn written(rule: &PlannedRule, record: usize, known: &impl Knowledge) -> Written {
-    let remote = rule.remote_sort().is_some();
-    if remote && !forms_any(rule) {
-        return Written::Nothing;
-    }
-    match tested(&rule.test, record, known) {
-        Tested::Holds => (),
-        Tested::Fails => return Written::Nothing,
-        Tested::OutOfRange => return Written::OutOfRange,
-    }
-    match evaluate(rule.action.expression(), record, known) {
-        Evaluated::OutOfRange => Written::OutOfRange,
-        _ if remote => Written::Nothing,
-        Evaluated::Missing => Written::Gap,
-        Evaluated::Value(value) => Written::Value(value),
+/// What comes of a rule in its own record: what it stores there, out of range where a
+/// sum of its test is, or where the test holds one of what it writes. None if it is
+/// not done, or is remote.
+fn written(rule: &PlannedRule, record: usize, known: &impl Knowledge) -> Option<Evaluated> {
+    let x = match &rule.action {
+        Action::Local(x) => x,
+        Action::Remote(_, _, x) if forms_any(rule) => x,
+        Action::Remote(..) => return None,
+    };
+    let written = match tested(&rule.test, record, known) {
+        Tested::Holds => evaluate(x, record, known),
+        Tested::Fails => return None,
+        Tested::OutOfRange => Evaluated::OutOfRange,
+    };
+    match (&rule.action, written) {
+        (Action::Remote(..), Evaluated::Missing | Evaluated::Value(_)) => None,
+        _ => Some(written),
     }
 }
 
@@ -227,6 +218,6 @@ fn forms_any(rule: &PlannedRule) -> bool {
 /// Whether one of these rules stores a value in a field of a record.
 fn is_stored(rules: &[PlannedRule], field: usize, record: usize, known: &impl Knowledge) -> bool {
     rules.iter().any(|rule| {
-        rule.field == field && matches!(written(rule, record, known), Written::Value(_))
+        rule.field == field && matches!(written(rule, record, known), Some(Evaluated::Value(_)))
     })
 }

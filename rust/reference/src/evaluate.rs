@@ -43,16 +43,21 @@ pub fn evaluate(
             let (x, y) = (value(x, record, known), value(y, record, known));
             operate(*operator, x, y)
         }
-        Expression::Tree(terms, nodes) => {
-            evaluate_tree(nodes, terms.iter().map(|x| value(x, record, known)))
-        }
+        Expression::Tree(terms, nodes) => evaluate_tree(terms, nodes, record, known),
     }
 }
 
 /// The operands that wait stand in a list, from left to right.
-fn evaluate_tree(nodes: &[Node], mut terms: impl Iterator<Item = Cell>) -> Evaluated {
+#[inline(never)]
+fn evaluate_tree(
+    terms: &[Term<Reading>],
+    nodes: &[Node],
+    record: usize,
+    known: &impl Knowledge,
+) -> Evaluated {
     let mut operands = [Cell::Missing; MOST_WAITING];
     let mut count = 0;
+    let mut terms = terms.iter().map(|term| value(term, record, known));
     for node in nodes {
         let operand = match node {
             Node::Term => terms.next().unwrap_or(Cell::Missing),
