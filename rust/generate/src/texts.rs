@@ -120,14 +120,15 @@ pub fn right_expression_shape(random: &mut Random) -> Shape {
 pub fn range_shape(random: &mut Random) -> Shape {
     Shape {
         parts: 1,
-        rules: random.pick(&[1, 1, 2]),
+        rules: random.pick(&[1, 1, 1, 2]),
         fewest_rules: 1,
         hops: 1,
         tests: 50,
         remotes: 50,
         numbers: 50,
-        large: 60,
-        operators: random.pick(&[1, 2, 2, 3, 4]),
+        metres: 10,
+        large: 85,
+        operators: random.pick(&[1, 2, 2, 3, 3, 4]),
         groups: random.pick(&[0, 1, 1, 2]),
         ..DOCUMENT_01
     }

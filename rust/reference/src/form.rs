@@ -17,6 +17,10 @@ pub struct RuleForm<'a> {
 
 /// A line by its form alone.
 #[derive(Clone, Debug, PartialEq, Eq)]
+#[expect(
+    clippy::large_enum_variant,
+    reason = "a line is read and used at once, and most are rules"
+)]
 pub enum LineForm<'a> {
     /// `step`
     Step,
