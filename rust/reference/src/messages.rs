@@ -123,8 +123,8 @@ impl Messages {
     fn known(&self, source: Source, record: usize, cells: &[Cell]) -> Cell {
         match source {
             Source::OwnNumber => Cell::Value(record as i32),
-            Source::OwnCell(field) => cells[record * self.sizes.fields() + field],
-            Source::Line(read) => self.place(read, record),
+            Source::OwnCell(field) => cells[record * self.sizes.fields() + usize::from(field)],
+            Source::Line(read) => self.place(usize::from(read), record),
         }
     }
 
