@@ -84,7 +84,9 @@ enum plot_refusal {
     PLOT_REFUSAL_OUTPUT = 18,        /* the output is not as long as the register file */
     PLOT_REFUSAL_SCRATCH = 19,       /* a working array is too short */
     PLOT_REFUSAL_BUDGET = 20,        /* the budget is spent, and there is a step to do */
-    PLOT_REFUSAL_RANGE = 21          /* a sum or total is out of range */
+    PLOT_REFUSAL_RANGE = 21,         /* a sum or total is out of range */
+    PLOT_REFUSAL_GROUPS = 24,        /* groups stand more than 8 deep */
+    PLOT_REFUSAL_OPERATORS = 25      /* an expression has more than 64 operators */
 };
 
 /*
