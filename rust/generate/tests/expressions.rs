@@ -152,33 +152,38 @@ fn trees_are_those_of_a_second_reader() {
     tally.require(10, &operators);
 }
 
-/// 24 or 25 of a text that is right but for these, and the line.
-fn made(text: &[u8]) -> Option<(u32, usize)> {
-    let lines = text.split(|&byte| byte == b'\n');
-    let fault = |line: &[u8]| {
-        let depth = |tokens: &Vec<&[u8]>| {
-            let mut open = 0_usize;
-            let depths = tokens.iter().map(|token| {
-                open += usize::from(*token == b"(");
-                open -= usize::from(*token == b")");
-                open
-            });
-            depths.max().unwrap_or(0)
-        };
-        let operators = |tokens: &Vec<&[u8]>| {
-            let signs = [b"+" as &[u8], b"-", b"<?"];
-            tokens.iter().filter(|token| signs.contains(token)).count()
-        };
+/// How deep the groups of an expression are, and how many operators it has.
+fn size(tokens: &[&[u8]]) -> (usize, usize) {
+    let mut open = 0_usize;
+    let depths = tokens.iter().map(|token| {
+        open += usize::from(*token == b"(");
+        open -= usize::from(*token == b")");
+        open
+    });
+    let signs = [b"+" as &[u8], b"-", b"<?"];
+    let operators = tokens.iter().filter(|token| signs.contains(token)).count();
+    (depths.max().unwrap_or(0), operators)
+}
+
+/// 24 or 25 of a text that is right but for these, and the line. Counts the sizes of
+/// all expressions.
+fn made(tally: &mut Tally, text: &[u8]) -> Option<(u32, usize)> {
+    let mut made = None;
+    for (line, number) in text.split(|&byte| byte == b'\n').zip(1..) {
         let expressions = expressions(line);
-        match () {
-            _ if expressions.iter().any(|one| depth(one) > 8) => Some(24),
-            _ if expressions.iter().any(|one| operators(one) > 64) => Some(25),
-            _ => None,
+        let sizes: Vec<(usize, usize)> = expressions.iter().map(|one| size(one)).collect();
+        for (depth, operators) in &sizes {
+            tally.count(&format!("depth {depth:>2}"));
+            tally.count(&format!("operators {operators:>2}"));
         }
-    };
-    lines
-        .zip(1..)
-        .find_map(|(line, number)| Some((fault(line)?, number)))
+        let fault = match () {
+            _ if sizes.iter().any(|(depth, _)| *depth > 8) => Some(24),
+            _ if sizes.iter().any(|(_, operators)| *operators > 64) => Some(25),
+            _ => None,
+        };
+        made = made.or(fault.map(|fault| (fault, number)));
+    }
+    made
 }
 
 #[test]
@@ -190,7 +195,7 @@ fn depth_and_operators_alone_decide_24_and_25() {
         let _failing = OnFailure::new(b"").bytes("text", &text);
         let found = outcome(&read_text(&text, &sizes));
         tally.count(&format!("refusal {}", found.0));
-        match (found, made(&text)) {
+        match (found, made(&mut tally, &text)) {
             ((6, _), _) => assert!(text.len() > MAX_BYTES),
             // A plan of an earlier step.
             ((15, line), Some((_, later))) => assert!(line < later),
@@ -200,6 +205,12 @@ fn depth_and_operators_alone_decide_24_and_25() {
     }
     tally.print("texts with expressions");
     tally.require(1_000, &["refusal 0", "refusal 24", "refusal 25"]);
+    let depths: Vec<String> = (0..=12).map(|depth| format!("depth {depth:>2}")).collect();
+    tally.require(1_000, &depths);
+    let operators: Vec<String> = (0..=80)
+        .map(|count| format!("operators {count:>2}"))
+        .collect();
+    tally.require(20, &operators);
 }
 
 #[test]
@@ -264,14 +275,19 @@ fn refused_texts_and_their_neighbours() {
         }
     }
     tally.print("two faults on one line");
+    let pairs = [
+        (12, 24),
+        (12, 25),
+        (24, 25),
+        (7, 24),
+        (24, 13),
+        (25, 13),
+        (24, 14),
+        (25, 14),
+    ];
     tally.require(
-        10,
-        &[
-            "12 before 24",
-            "12 before 25",
-            "24 before 25",
-            "7 before 24",
-        ],
+        1,
+        &pairs.map(|(first, then)| format!("{first} before {then}")),
     );
 }
 

@@ -1,6 +1,6 @@
 //! Two faults on one line, of which the lower number is answered.
 
-use super::{Pair, try_pair};
+use super::{Pair, has_expressions, try_pair};
 use crate::mutations::lines;
 use crate::random::Random;
 use reference::register::Sizes;
@@ -23,13 +23,13 @@ pub fn lower(
     number: u32,
     pair: &Pair,
 ) -> Option<(Vec<u8>, (u32, usize))> {
-    let mut lines = lines(&pair.refused);
-    let line = &mut lines[pair.line - 1];
-    // Faults that a line can have by itself, and 8; 24 and 25 where its text has expressions.
-    let several = match number == 24 || number == 25 || line.contains(&b'(') {
+    // Faults that a line can have by itself, and 8; 24 and 25 in texts with expressions.
+    let several = match has_expressions(&pair.refused) {
         true => 8,
         false => 6,
     };
+    let mut lines = lines(&pair.refused);
+    let line = &mut lines[pair.line - 1];
     let (text, made) = match random.pick(&ORDER[..several]) {
         8 => out_of_place(line),
         lower if rank(lower) < rank(number) => {

@@ -181,5 +181,12 @@ fn refused_texts_with_expressions_and_their_neighbours_agree() {
     let before = ["7", "8", "9", "10", "11", "12"];
     tally.require(10, &before.map(|number| format!("{number} before 24")));
     tally.require(10, &before.map(|number| format!("{number} before 25")));
-    tally.require(10, &["24 before 25"]);
+    let between = [
+        "24 before 25",
+        "24 before 13",
+        "25 before 13",
+        "24 before 14",
+        "25 before 14",
+    ];
+    tally.require(1, &between);
 }
