@@ -17,12 +17,9 @@ pub enum Evaluated {
     OutOfRange,
 }
 
-impl From<Cell> for Evaluated {
-    fn from(cell: Cell) -> Evaluated {
-        match cell {
-            Cell::Missing => Evaluated::Missing,
-            Cell::Value(value) => Evaluated::Value(value),
-        }
+impl From<Option<i32>> for Evaluated {
+    fn from(read: Option<i32>) -> Evaluated {
+        read.map_or(Evaluated::Missing, Evaluated::Value)
     }
 }
 
@@ -55,17 +52,17 @@ fn evaluate_tree(
     record: usize,
     known: &impl Knowledge,
 ) -> Evaluated {
-    let mut operands = [Cell::Missing; MOST_WAITING];
+    let mut operands = [None; MOST_WAITING];
     let mut count = 0;
     let mut terms = terms.iter().map(|term| value(term, record, known));
     for node in nodes {
         let operand = match node {
-            Node::Term => terms.next().unwrap_or(Cell::Missing),
+            Node::Term => terms.next().flatten(),
             Node::Operator(operator) => {
                 count -= 2;
                 match operate(*operator, operands[count], operands[count + 1]) {
-                    Evaluated::Missing => Cell::Missing,
-                    Evaluated::Value(value) => Cell::Value(value),
+                    Evaluated::Missing => None,
+                    Evaluated::Value(value) => Some(value),
                     Evaluated::OutOfRange => return Evaluated::OutOfRange,
                 }
             }
@@ -78,8 +75,8 @@ fn evaluate_tree(
 
 /// A missing operand makes the whole missing; a sum of filled ones must be in range.
 #[inline]
-fn operate(operator: Operator, x: Cell, y: Cell) -> Evaluated {
-    let (Cell::Value(x), Cell::Value(y)) = (x, y) else {
+fn operate(operator: Operator, x: Option<i32>, y: Option<i32>) -> Evaluated {
+    let (Some(x), Some(y)) = (x, y) else {
         return Evaluated::Missing;
     };
     let formed = match operator {
@@ -91,9 +88,12 @@ fn operate(operator: Operator, x: Cell, y: Cell) -> Evaluated {
 }
 
 #[inline]
-fn value(term: &Term<Reading>, record: usize, known: &impl Knowledge) -> Cell {
+fn value(term: &Term<Reading>, record: usize, known: &impl Knowledge) -> Option<i32> {
     match term {
-        Term::Chain(reading) => known.read(reading, record),
-        Term::Number(number) => Cell::Value(*number as i32),
+        Term::Chain(reading) => match known.read(reading, record) {
+            Cell::Missing => None,
+            Cell::Value(value) => Some(value),
+        },
+        Term::Number(number) => Some(*number as i32),
     }
 }
