@@ -2,7 +2,9 @@
  * plot.h: plot registers and their rules, for programs in C and C++.
  *
  * Link with target/staticlib/libc_api.a (x86-64 Linux); nothing else is needed.
- * docs/MANUAL.md says what a register, a chain and a rules text are.
+ * docs/MANUAL.md says what a register, a chain and a rules text are. The mark of a
+ * cell in a register file is 0 unfilled, 1 measured, 2 worked out by a rule; a cell
+ * with mark 1 or 2 is filled.
  *
  * Every function takes every input: any bytes, any numbers, any lengths. The
  * result is 0, or the number of a refusal (enum plot_refusal).
@@ -45,8 +47,8 @@ enum plot_answer {
     PLOT_ANSWER_FINISHED = 1,   /* runs: the finished steps, for 20 and 21 too */
     PLOT_ANSWER_EXCHANGES = 2,  /* plot_run_messages: the exchanges of these steps */
     PLOT_ANSWER_MESSAGES = 3,   /* plot_run_messages: the messages of these steps */
-    PLOT_ANSWER_RECORD = 4,     /* runs, for 21: the record, counted from 0 */
-    PLOT_ANSWER_FIELD = 5,      /* runs, for 21: the field, counted from 0, references first */
+    PLOT_ANSWER_RECORD = 4,     /* runs, for 21: the record of the first overflow, from 0 */
+    PLOT_ANSWER_FIELD = 5,      /* runs, for 21: its field, counted from 0, references first */
     PLOT_ANSWER_FILLED = 6,     /* plot_read: 1 filled, 0 unfilled */
     PLOT_ANSWER_HOPS = 6,       /* plot_path: the number of hops */
     PLOT_ANSWER_STEPS = 6,      /* plot_check: the number of steps */
@@ -66,7 +68,7 @@ enum plot_kind {
 enum plot_refusal {
     PLOT_REFUSAL_FILE_LENGTH = 1,    /* the register file has the wrong length */
     PLOT_REFUSAL_SIZE = 2,           /* a size of the register is over its limit */
-    PLOT_REFUSAL_MARK = 3,           /* a mark is neither 0 nor 1 */
+    PLOT_REFUSAL_MARK = 3,           /* a mark is none of 0, 1 and 2 */
     PLOT_REFUSAL_UNFILLED_VALUE = 4, /* an unfilled cell has a value other than 0 */
     PLOT_REFUSAL_REFERENCE = 5,      /* a reference leads to no record */
     PLOT_REFUSAL_TEXT_LENGTH = 6,    /* the rules text is too long */
@@ -84,9 +86,7 @@ enum plot_refusal {
     PLOT_REFUSAL_OUTPUT = 18,        /* the output is not as long as the register file */
     PLOT_REFUSAL_SCRATCH = 19,       /* a working array is too short */
     PLOT_REFUSAL_BUDGET = 20,        /* the budget is spent, and there is a step to do */
-    PLOT_REFUSAL_RANGE = 21,         /* a sum or total is out of range */
-    PLOT_REFUSAL_GROUPS = 24,        /* groups stand more than 8 deep */
-    PLOT_REFUSAL_OPERATORS = 25      /* an expression has more than 64 operators */
+    PLOT_REFUSAL_RANGE = 21          /* a sum or total is out of range */
 };
 
 /*
@@ -105,8 +105,8 @@ uint32_t plot_read(const uint8_t *file, size_t file_length, const uint8_t *text,
  *
  * Refused as plot_read is. Otherwise answer[PLOT_ANSWER_HOPS] is the number of hops, 0
  * for the chain u, and for each hop i: records[i] is its record, fields[i] the letter of
- * its field, marks[i] the mark of that cell (0 unfilled), and values[i] its value, 0
- * where it is unfilled. Places behind the last hop become 0. On a refusal the four
+ * its field, marks[i] 1 where that cell is filled, measured or worked out, and 0 where it
+ * is not, and values[i] its value, 0 where it is unfilled. Places behind the last hop become 0. On a refusal the four
  * arrays stay as they were.
  *
  * The list is the whole reason: every register of the same sizes that agrees on these
@@ -161,14 +161,18 @@ uint32_t plot_inspect(const uint8_t *file, size_t file_length, const uint8_t *te
  * Refusals 1 to 5; 6 to 15; 18; 19: nothing is written but answer. Otherwise out is the
  * register at the end and the result 0; or the run was stopped, 20 or 21, and out is a
  * copy of file. What the working arrays hold afterwards means nothing.
+ *
+ * 21 names the first overflow: the lowest record at which a rule forms a sum out of range
+ * and the field that the earliest such rule writes; only where no record has one, the
+ * lowest record and in it the first field with a remote total out of range.
  */
 uint32_t plot_run_direct(const uint8_t *file, size_t file_length, const uint8_t *text, size_t text_length,
                          uint16_t budget, uint8_t *out, size_t out_length, int64_t *values, size_t values_length,
                          uint8_t *marks, size_t marks_length, uint64_t answer[8]);
 
 /*
- * The same by messages between the records: the same register, finished steps and
- * refusal, and answer has the exchanges and the messages too.
+ * The same by messages between the records: the same register, finished steps, refusal
+ * and place, and answer has the exchanges and the messages too.
  */
 uint32_t plot_run_messages(const uint8_t *file, size_t file_length, const uint8_t *text, size_t text_length,
                            uint16_t budget, uint8_t *out, size_t out_length, int64_t *values, size_t values_length,

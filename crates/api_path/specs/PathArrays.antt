@@ -3,11 +3,18 @@ use Prim.Native.Nat.{ℕ}
 use mathlib.Core.List.{List, map}
 use lib.IntN.{ℤ, pos}
 use lib.ListN.{getD}
-use Rattle.register.specs.Cells.{valueOf, markOf}
+use Rattle.register.specs.Cells.{valueOf}
+use Rattle.register.specs.declared.cells.Cell.{Cell}
+use Rattle.chain.specs.Word.{readOf}
+use Rattle.chain.specs.Way.{isFilled}
 use Rattle.chain_path.specs.declared.Hop.{Hop}
-use Rattle.api_plan.specs.PlanArrays.{letterOf, PlacesHold}
+use Rattle.api_plan.specs.PlanArrays.{flagNumber, letterOf, PlacesHold}
 
--- the record at which hop i stands, the letter of its field, and its cell's value and mark; 0 behind the last hop
+-- 1 where a cell is filled, measured or worked out: what is read of it, not its mark in the file
+unfoldable pub filledMark : Cell → ℕ
+filledMark c = flagNumber (isFilled (readOf c))
+
+-- the record at which hop i stands, the letter of its field, its cell's value and whether it is filled; 0 behind the last hop
 unfoldable pub recordAt : List Hop → ℕ → ℕ
 recordAt hs i = getD (map (λ h. h .u) hs) i 0
 
@@ -18,7 +25,7 @@ unfoldable pub hopValueAt : List Hop → ℕ → ℤ
 hopValueAt hs i = getD (map (λ h. valueOf (h .cell)) hs) i (pos 0)
 
 unfoldable pub hopMarkAt : List Hop → ℕ → ℕ
-hopMarkAt hs i = getD (map (λ h. markOf (h .cell)) hs) i 0
+hopMarkAt hs i = getD (map (λ h. filledMark (h .cell)) hs) i 0
 
 -- the four arrays of these hops
 pub record PathArrays (hs : List Hop) (records fields : List ℕ) (values : List ℤ) (marks : List ℕ) : Type 0 where

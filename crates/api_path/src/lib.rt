@@ -1,8 +1,8 @@
 // A path's hops as the four arrays of the C interface.
 ghost use mathlib.Core.Path.{_≡_};
-ghost use Rattle.register.specs.Cells.{valueOf, markOf};
+ghost use Rattle.register.specs.Cells.{valueOf};
 ghost use Rattle.chain_path.specs.Path.{hopsOf, HoldsPath};
-ghost use Rattle.api_path.specs.PathArrays.{PathArrays};
+ghost use Rattle.api_path.specs.PathArrays.{filledMark, PathArrays};
 use chain_path::Path;
 use register::cells::Cell;
 
@@ -12,17 +12,19 @@ fn value_of(cell: Cell) -> i64
 {
     match cell {
         Cell::Missing => 0,
-        Cell::Value(value) => integers::widen(value),
+        Cell::Measured(value) => integers::widen(value),
+        Cell::WorkedOut(value) => integers::widen(value),
     }
 }
 
-// The mark of a cell as the file has it.
+// Whether a cell is filled: 1 where it is, measured or worked out.
 fn mark_of(cell: Cell) -> u8
-    ensures { λ r. ⌜ r ≡ markOf cell ⌝ }
+    ensures { λ r. ⌜ r ≡ filledMark cell ⌝ }
 {
     match cell {
         Cell::Missing => 0,
-        Cell::Value(_) => 1,
+        Cell::Measured(_) => 1,
+        Cell::WorkedOut(_) => 1,
     }
 }
 

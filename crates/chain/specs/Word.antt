@@ -11,7 +11,7 @@ use Rattle.integers.specs.Range.{isIndex}
 use Rattle.register.specs.File.{cellIndex}
 use Rattle.register.specs.declared.Sizes.{Sizes}
 use Rattle.register.specs.declared.cells.Cell.{Cell}
-use Rattle.register.specs.declared.cells.Cell.the-variants.{Missing as Unfilled, Value as Filled}
+use Rattle.register.specs.declared.cells.Cell.the-variants.{Missing as Unfilled, Measured, WorkedOut}
 use Rattle.chain.specs.declared.reading.Reading.{Reading}
 use Rattle.chain.specs.declared.reading.Reading.the-variants.{Missing, Value}
 
@@ -42,10 +42,11 @@ column s f = cond (isReference f) f (s .references + (f - 8))
 unfoldable pub fieldAt : Sizes → ℕ → ℕ
 fieldAt s c = cond (ltb c (s .references)) c (8 + (c - s .references))
 
--- what is read of a stored cell: nothing of an unfilled one
+-- what is read of a stored cell: nothing of an unfilled one, and of a filled one its value, measured or worked out
 unfoldable pub readOf : Cell → Reading
 readOf Unfilled = Missing
-readOf (Filled z) = Value z
+readOf (Measured z) = Value z
+readOf (WorkedOut z) = Value z
 
 -- the cell of record u and field f
 abbrev pub fieldCell : Sizes → List Cell → ℕ → ℕ → Cell

@@ -15,6 +15,7 @@ pub fn read_of(cell: Cell) -> Reading
 {
     match cell {
         Cell::Missing => Reading::Missing,
-        Cell::Value(value) => Reading::Value(value),
+        Cell::Measured(value) => Reading::Value(value),
+        Cell::WorkedOut(value) => Reading::Value(value),
     }
 }

@@ -7,7 +7,7 @@ use lib.ListN.{getD}
 use Rattle.laws.specs.Outcome.{done}
 use Rattle.register.specs.Cells.{cellOf, cellsOf}
 use Rattle.register.specs.File.{fileOf, cellsOfFile}
-use Rattle.register.specs.declared.cells.Cell.the-variants.{Missing, Value}
+use Rattle.register.specs.declared.cells.Cell.the-variants.{Missing, Measured, WorkedOut}
 use Rattle.chain.specs.Word.{readOf}
 use Rattle.fuller.specs.Fuller.{Retained, FullerFile}
 use Rattle.fuller.specs.WholeText.{pairSizes, firstCells, secondCells, cellsBehind}
@@ -29,6 +29,6 @@ unfolding cellsBehind
 first-stays = refl
 
 -- .. and is 1 over the second
-pub second-altered : cellsBehind secondCells ≡ done (Value (pos 1) ∷ Value (pos 7) ∷ [])
+pub second-altered : cellsBehind secondCells ≡ done (WorkedOut (pos 1) ∷ Measured (pos 7) ∷ [])
 unfolding cellsBehind
 second-altered = refl

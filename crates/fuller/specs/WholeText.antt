@@ -13,7 +13,7 @@ use Rattle.register.specs.File.{width, cellCount, cellIndex, sizesOf, valuesPar
 use Rattle.register.specs.Load.{withinLimits, cellRefusal, refusalAt, recordRefusal, cellsRefusal, loadSized, load}
 use Rattle.register.specs.declared.Sizes.{Sizes}
 use Rattle.register.specs.declared.cells.Cell.{Cell}
-use Rattle.register.specs.declared.cells.Cell.the-variants.{Missing, Value}
+use Rattle.register.specs.declared.cells.Cell.the-variants.{Missing, Measured}
 use Rattle.chain.specs.Word.{isReference, column, readOf, readCell, hop, follow, valueAtRecord}
 use Rattle.chain_text.specs.Text as C
 use Rattle.chain_text.specs.Scan.{startsWith}
@@ -27,19 +27,19 @@ use Rattle.text_forms.specs.Parts.{numbersInRange, termInRange, short, termShor
 use Rattle.text_rules.specs.Check.{lineRefusal, planFits, sortsAgree, oneSort, hasRoom, inPlace, openRules, isOpen, isOutside}
 use Rattle.text_rules.specs.Text.{textProgram, readFrom, start, closedText, lineOutcome, advance, settingIn, withStep, writtenRule, writtenTarget, writtenExpression, writtenTest, writtenTerm, pieceForm, lines, onto, check}
 use Rattle.machine.specs.Value.{both, value, readingInRange, cellInRange, overflows, compare, compareReadings, holds}
-use Rattle.machine.specs.Local.{storedOver, assign, localRule, localRules, localRecords, offends, sumOffends}
+use Rattle.machine.specs.Local.{storedOver, assign, localRule, localRules, localRecords, offends, sumColumn}
 use Rattle.machine.specs.Remote.{sentBy, ruleMessages, messages, recordMessages, deliverAll}
-use Rattle.machine.specs.Step.{stepCells, offendsAt, someBelow, stops}
-use Rattle.machine.specs.Run.{direct, entered, following, behind, stepFirst, runFrom, run}
+use Rattle.machine.specs.Step.{stepCells, earlier, firstSome, inRecord, sumOffence, totalColumn, totalOffence, offence}
+use Rattle.machine.specs.Run.{direct, entered, following, behind, unlessOffended, stepFirst, runFrom, run}
 
 abbrev pub pairSizes : Sizes
 pairSizes = record { records = 1; references = 0; measures = 2 }
 
 abbrev pub firstCells : List Cell
-firstCells = Value (pos 5) ∷ Missing ∷ []
+firstCells = Measured (pos 5) ∷ Missing ∷ []
 
 abbrev pub secondCells : List Cell
-secondCells = Value (pos 5) ∷ Value (pos 7) ∷ []
+secondCells = Measured (pos 5) ∷ Measured (pos 7) ∷ []
 
 -- the text that alters M where N is filled
 abbrev pub alteringText : List ℕ
@@ -47,6 +47,6 @@ alteringText = bytes "step\nif N[u] == N[u]: M[u] := 1\nend\n"
 
 -- the cells behind its run over the register of these cells, "allowance 1,000"
 unfoldable pub cellsBehind : List Cell → Outcome (List Cell)
-unfolding textProgram readFrom start closedText lineOutcome advance settingIn withStep writtenRule writtenTarget writtenExpression writtenTest writtenTerm pieceForm lines onto check after unless lineRefusal planFits sortsAgree oneSort someTarget isTotal isLeast hasRoom inPlace openRules isOpen isOutside numbersInRange termInRange short termShort kinded kindsAgree actionKinds areMeasures conditionKinds sameKind isReferenceTerm termKinded named fieldNamed termNamed target everyTerm terms actionTerms conditionTerms lineForm testedForm compared ruleLine actionForm remoteForm sentForms localForm assigned termForm ofChain ofNumber capital then literal or finished isDigit digits decimal allDigits centimetres wholeDigits noLeadingZero twoDecimals isNumeral withDecimals numeral printedNumeral signedForm numberForm numberValue signedValue inRange startsWith C.isCapital C.closed C.form C.letterField C.isReferenceLetter C.names every C.innerReferences C.wordOf stepPlan readings ruleReadings targetReadings testReadings expressionReadings plan addReadings add withTree tree treeWithin fourBytes wordAt wordBytes valueAt valueBytes eqZ orElse firstOf valueOf markOf valuesOf marksOf width cellCount cellIndex sizesOf valuesPart marksPart fileOf withinLimits cellRefusal refusalAt recordRefusal cellsRefusal loadSized load isReference column readOf readCell hop follow valueAtRecord both value readingInRange cellInRange overflows compare compareReadings holds targetField storedOver assign localRule localRules localRecords offends sumOffends sentBy ruleMessages messages recordMessages deliverAll stepCells offendsAt someBelow stops direct entered following behind stepFirst runFrom run
+unfolding textProgram readFrom start closedText lineOutcome advance settingIn withStep writtenRule writtenTarget writtenExpression writtenTest writtenTerm pieceForm lines onto check after unless lineRefusal planFits sortsAgree oneSort someTarget isTotal isLeast hasRoom inPlace openRules isOpen isOutside numbersInRange termInRange short termShort kinded kindsAgree actionKinds areMeasures conditionKinds sameKind isReferenceTerm termKinded named fieldNamed termNamed target everyTerm terms actionTerms conditionTerms lineForm testedForm compared ruleLine actionForm remoteForm sentForms localForm assigned termForm ofChain ofNumber capital then literal or finished isDigit digits decimal allDigits centimetres wholeDigits noLeadingZero twoDecimals isNumeral withDecimals numeral printedNumeral signedForm numberForm numberValue signedValue inRange startsWith C.isCapital C.closed C.form C.letterField C.isReferenceLetter C.names every C.innerReferences C.wordOf stepPlan readings ruleReadings targetReadings testReadings expressionReadings plan addReadings add withTree tree treeWithin fourBytes wordAt wordBytes valueAt valueBytes eqZ orElse firstOf valueOf markOf valuesOf marksOf width cellCount cellIndex sizesOf valuesPart marksPart fileOf withinLimits cellRefusal refusalAt recordRefusal cellsRefusal loadSized load isReference column readOf readCell hop follow valueAtRecord both value readingInRange cellInRange overflows compare compareReadings holds targetField storedOver assign localRule localRules localRecords offends sumColumn sentBy ruleMessages messages recordMessages deliverAll stepCells earlier firstSome inRecord sumOffence totalColumn totalOffence offence direct entered following behind unlessOffended stepFirst runFrom run
 cellsBehind cells =
     after (check (fileOf pairSizes cells) alteringText) (λ p. done (run pairSizes (direct pairSizes) p 1000 cells .cells))

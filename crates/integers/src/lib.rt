@@ -9,6 +9,7 @@ ghost use lib.Signed.{mag, ltZ, nonNeg};
 ghost use mir.Syntax.{w32};
 ghost use mir.Val.{SFits, toZ, ofZ};
 ghost use Rattle.integers.specs.Bytes.{fourBytes, wordAt, valueAt, valueBytes};
+ghost use Rattle.integers.specs.Factor.{factor};
 ghost use Rattle.integers.specs.Range.{sumOf, eqZ, isIndex};
 
 // A sum, or that it leaves the range of a value.
@@ -83,12 +84,12 @@ pub fn subtract(a: i32, b: i32) -> Sum
     in_range(a as i64 - b as i64)
 }
 
-// A value times a mark, 0 or 1.
+// A value times the factor of a mark: 0 for mark 0, 1 for marks 1 and 2, without a branch on the mark.
 pub fn times_mark(value: i32, mark: u8) -> i32
-    requires { ⌜ mark ≤ 1 ⌝ }
-    ensures { λ r. ⌜ r ≡ value *ℤ pos mark ⌝ }
+    requires { ⌜ mark ≤ 2 ⌝ }
+    ensures { λ r. ⌜ r ≡ value *ℤ pos (factor mark) ⌝ }
 {
-    value * mark as i32
+    value * (mark != 0) as i32
 }
 
 pub fn in_range(sum: i64) -> Sum

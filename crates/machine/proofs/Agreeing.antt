@@ -1,21 +1,21 @@
 -- Readers that agree on the readings of some rules: each law says that a definition of the machine makes the same of them by both.
 use Prim.Native.Nat.{ℕ, zero, suc, _<_}
 use mathlib.Core.Path.{_≡_, refl, ap, ap₂, _∙_}
-use mathlib.Core.Bool.{Bool, cond, not, _&&_, _||_}
+use mathlib.Core.Bool.{Bool, cond, _&&_}
 use mathlib.Core.List.{List, [], _∷_, _++_, List·Memᴰ, List·Memᴰ·head, Memᴰ·append-left, Memᴰ·append-right}
+use mathlib.Core.Option.{Option, some}
 use native.Mathlib.Omega.{arith}
-use lib.ListN.{getD}
-use Rattle.register.specs.File.{width, cellIndex}
 use Rattle.register.specs.declared.Sizes.{Sizes}
 use Rattle.register.specs.declared.cells.Cell.{Cell}
-use Rattle.register.specs.declared.cells.Cell.the-variants.{Missing}
 use Rattle.chain.specs.declared.reading.Reading.{Reading}
-use Rattle.program.specs.Program.{Expression, reading, constant, operation, Test, always, when, Target, own, remote, Rule, expressionReadings, testReadings, targetReadings, ruleReadings, readings}
+use Rattle.chain.specs.Word.{column}
+use Rattle.program.specs.Program.{Expression, reading, constant, operation, Test, always, when, Target, own, remote, Rule, expressionReadings, testReadings, targetReadings, ruleReadings, readings, targetField}
 use Rattle.machine.specs.declared.message.Message.{Message}
-use Rattle.machine.specs.Value.{combined, value, cellInRange, overflows, compareReadings, holds}
-use Rattle.machine.specs.Local.{assign, localRule, localRules, localRecords, offends, sumOffends}
+use Rattle.machine.specs.Value.{combined, value, overflows, compareReadings, holds}
+use Rattle.machine.specs.Local.{assign, localRule, localRules, localRecords, offends, sumColumn}
 use Rattle.machine.specs.Remote.{sentTo, sentBy, ruleMessages, messages, recordMessages, deliverAll}
-use Rattle.machine.specs.Step.{stepCells, offendsAt, someBelow, stops}
+use Rattle.machine.specs.Step.{stepCells, offence}
+use Rattle.machine.proofs.Stops.{sumOffence-agree}
 
 -- they read the same at each of these words
 abbrev pub Agree : (List ℕ → Reading) → (List ℕ → Reading) → List (List ℕ) → Type 0
@@ -104,12 +104,12 @@ module _ (read read′ : List ℕ → Reading) where
       let (a, b) = agree-parts (ruleReadings r) (readings rs) h in
       ap (localRules s read u rs) (localRule-agree r a s u cells) ∙ localRules-agree rs b s u _
 
-  pub sumOffends-agree : (rs : List Rule) → Agree read read′ (readings rs) → (s : Sizes) (c : ℕ) → sumOffends s read rs c ≡ sumOffends s read′ rs c
-  unfolding sumOffends readings
-  sumOffends-agree [] h s c = refl
-  sumOffends-agree (r ∷ rs) h s c =
+  pub sumColumn-agree : (rs : List Rule) → Agree read read′ (readings rs) → (s : Sizes) → sumColumn s read rs ≡ sumColumn s read′ rs
+  unfolding sumColumn readings
+  sumColumn-agree [] h s = refl
+  sumColumn-agree (r ∷ rs) h s =
       let (a, b) = agree-parts (ruleReadings r) (readings rs) h in
-      simp (offends-agree r a, sumOffends-agree rs b s c)
+      ap₂ (λ (t : Bool) (c : Option ℕ). cond t (some (column s (targetField (r .target)))) c) (offends-agree r a) (sumColumn-agree rs b s)
 
   pub messages-agree : (rs : List Rule) → Agree read read′ (readings rs) → messages read rs ≡ messages read′ rs
   unfolding messages readings
@@ -117,12 +117,6 @@ module _ (read read′ : List ℕ → Reading) where
   messages-agree (r ∷ rs) h =
       let (a, b) = agree-parts (ruleReadings r) (readings rs) h in
       ap₂ _++_ (ruleMessages-agree r a) (messages-agree rs b)
-
--- numbers below n of which two tests agree
-someBelow-agree : (n : ℕ) (p q : ℕ → Bool) → ((i : ℕ) → i < n → p i ≡ q i) → someBelow n p ≡ someBelow n q
-unfolding someBelow
-someBelow-agree zero p q h = refl
-someBelow-agree (suc n) p q h = ap₂ _||_ (someBelow-agree n p q (λ i l. h i (omega arith))) (h n (omega arith))
 
 -- all records
 module _ (read read′ : ℕ → List ℕ → Reading) (rs : List Rule) where
@@ -144,18 +138,13 @@ module _ (read read′ : ℕ → List ℕ → Reading) (rs : List Rule) where
   recordMessages-agree (suc n) h =
       ap₂ _++_ (recordMessages-agree n (λ u l. h u (omega arith))) (messages-agree (read n) (read′ n) rs (h n (omega arith)))
 
-  -- a step: its cells, where it offends, and whether it stops
+  -- a step: its cells, and where it stops
   module _ (s : Sizes) (h : AgreeBelow (s .records)) (cells : List Cell) where
     pub stepCells-agree : stepCells s read rs cells ≡ stepCells s read′ rs cells
     unfolding stepCells
     stepCells-agree = ap₂ (deliverAll s) (localRecords-agree s (s .records) h cells) (recordMessages-agree (s .records) h)
 
-    pub offendsAt-agree : (u c : ℕ) → u < s .records → offendsAt s read rs cells u c ≡ offendsAt s read′ rs cells u c
-    unfolding offendsAt
-    offendsAt-agree u c hu =
-        ap₂ (λ (b : Bool) (l : List Cell). b || not (cellInRange (getD l (cellIndex s u c) Missing)))
-        (sumOffends-agree (read u) (read′ u) rs (h u hu) s c) stepCells-agree
-
-    pub stops-agree : stops s read rs cells ≡ stops s read′ rs cells
-    unfolding stops
-    stops-agree = someBelow-agree (s .records) _ _ (λ u hu. someBelow-agree (width s) _ _ (λ c hc. offendsAt-agree u c hu))
+    pub offence-agree : offence s read rs cells ≡ offence s read′ rs cells
+    unfolding offence
+    offence-agree =
+        rw (sumOffence-agree s read read′ rs (λ u row. sumColumn-agree (read u) (read′ u) rs (h u row) s), stepCells-agree) refl

@@ -8,11 +8,11 @@ use Rattle.register.specs.declared.Sizes.{Sizes}
 use Rattle.register.specs.declared.cells.Cell.{Cell}
 use Rattle.program.specs.Program.{Step, Program}
 use Rattle.program.specs.Passed.{StepPasses, ProgramPasses}
-use Rattle.machine.specs.Step.{stepCells, stops}
+use Rattle.machine.specs.Step.{stepCells, offence}
 use Rattle.machine.specs.Run.{direct, Pass, Run, begins, goesOn, entered, following, behind, stepFirst, runFrom, run}
 use Rattle.machine.proofs.Keeping.{stepCells-valid}
 use Rattle.machine.proofs.Direct.{direct-refers}
-use Rattle.machine.proofs.Running.{cond-cases}
+use Rattle.machine.proofs.Stops.{offended-cases}
 
 module _ (s : Sizes) where
   abbrev AllPass : List Step → Type 0
@@ -29,7 +29,7 @@ module _ (s : Sizes) where
       let after = stepCells s read (x .rules) cells in
       let pass = entered (x .setting) (x ∷ rest) cells p in
       let pass-passes : AllPass (pass .steps) = cond-both (λ (q : Pass). AllPass (q .steps)) (begins (x .setting)) _ _ k l in
-      cond-cases (λ (r : Run). Valid s (r .cells)) (stops s read (x .rules) cells) _ _ (λ e. v)
+      offended-cases (λ (r : Run). Valid s (r .cells)) (offence s read (x .rules) cells) cells _ (λ o e. v)
       (λ e.
       runFrom-valid budget _ pass after (cond-both AllPass (goesOn s (x .setting) (pass .before) after) _ _ (k .1) pass-passes) pass-passes
       (stepCells-valid v (k .0 .rules) read (λ u w h r. direct-refers v (x .rules) u h w r) e))

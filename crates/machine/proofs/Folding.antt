@@ -1,9 +1,10 @@
 -- Lists of rules and of messages: one more at the end, none for a step with no remote rule, and the number of cells kept.
 use Prim.Native.Nat.{ℕ, zero, suc}
 use mathlib.Core.Path.{_≡_, refl, ap₂, _∙_}
-use mathlib.Core.Bool.{false, _&&_, _||_, or-false, or-assoc}
+use mathlib.Core.Bool.{Bool, true, false, cond}
 use mathlib.Core.List.{List, [], _∷_, _++_, append-nil, append-assoc}
-use lib.Dec.{eqb}
+use mathlib.Core.Option.{none, some}
+use native.Mathlib.Omega.{arith}
 use lib.ListN.{length, length-set}
 use Rattle.laws.proofs.Bools.{or-neither, true-false, cond-both}
 use Rattle.register.specs.declared.Sizes.{Sizes}
@@ -13,27 +14,48 @@ use Rattle.chain.specs.Word.{column}
 use Rattle.program.specs.Program.{Target, own, remote, Rule, isRemote, someTarget, hasRemote, targetField}
 use Rattle.machine.specs.declared.message.Message.{Message}
 use Rattle.machine.specs.Value.{value, holds}
-use Rattle.machine.specs.Local.{assign, localRule, localRules, localRecords, offends, sumOffends}
+use Rattle.machine.specs.Local.{assign, localRule, localRules, localRecords, offends, sumColumn}
 use Rattle.machine.specs.Remote.{sentBy, ruleMessages, messages, recordMessages, deliver, deliverAll}
 use Rattle.machine.specs.Step.{stepCells}
 
--- one rule more: what it stores, whether its sum offends, and what it sends
+-- one rule more: what it stores, and what it sends
 pub localRules-more : (s : Sizes) (read : List ℕ → Reading) (u : ℕ) (rs : List Rule) (r : Rule) (cells : List Cell)
     → localRules s read u (rs ++ (r ∷ [])) cells ≡ localRule s read u r (localRules s read u rs cells)
 unfolding localRules
 localRules-more s read u [] r cells = refl
 localRules-more s read u (q ∷ rs) r cells = localRules-more s read u rs r (localRule s read u q cells)
 
-pub sumOffends-more : (s : Sizes) (read : List ℕ → Reading) (rs : List Rule) (r : Rule) (c : ℕ)
-    → sumOffends s read (rs ++ (r ∷ [])) c ≡ sumOffends s read rs c || (offends read r && eqb (column s (targetField (r .target))) c)
-unfolding sumOffends
-sumOffends-more s read [] r c = or-false _
-sumOffends-more s read (q ∷ rs) r c = simp (sumOffends-more s read rs r c, or-assoc)
-
 pub messages-more : (read : List ℕ → Reading) (rs : List Rule) (r : Rule) → messages read (rs ++ (r ∷ [])) ≡ messages read rs ++ ruleMessages read r
 unfolding messages
 messages-more read [] r = append-nil (ruleMessages read r)
 messages-more read (q ∷ rs) r = simp (messages-more read rs r, append-assoc)
+
+module _ (s : Sizes) (read : List ℕ → Reading) where
+  -- a rule whose sum offends is the earliest where it is the first
+  sumColumn-first : (r : Rule) (rs : List Rule) → offends read r ≡ true → sumColumn s read (r ∷ rs) ≡ some (column s (targetField (r .target)))
+  unfolding sumColumn
+  sumColumn-first r rs h = rw h
+
+  -- and behind others whose sums do not offend
+  sumColumn-behind : (qs rs : List Rule) → sumColumn s read qs ≡ none → sumColumn s read (qs ++ rs) ≡ sumColumn s read rs
+  unfolding sumColumn
+  sumColumn-behind [] rs e = refl
+  sumColumn-behind (q ∷ qs) rs e = go (offends read q) (sumColumn-behind qs rs) e
+    where
+      go : (t : Bool) → (sumColumn s read qs ≡ none → sumColumn s read (qs ++ rs) ≡ sumColumn s read rs)
+          → cond t (some (column s (targetField (q .target)))) (sumColumn s read qs) ≡ none
+          → cond t (some (column s (targetField (q .target)))) (sumColumn s read (qs ++ rs)) ≡ sumColumn s read rs
+      go true r e = absurd (let z : _≡_ {A = ℕ} 0 1 = cc in omega arith)
+      go false r e = r e
+
+  pub sumColumn-earliest : (qs : List Rule) (r : Rule) (rs : List Rule) → sumColumn s read qs ≡ none → offends read r ≡ true
+      → sumColumn s read (qs ++ r ∷ rs) ≡ some (column s (targetField (r .target)))
+  sumColumn-earliest qs r rs e h = sumColumn-behind qs (r ∷ rs) e ∙ sumColumn-first r rs h
+
+  -- one more whose sum does not offend
+  pub sumColumn-more : (qs : List Rule) (r : Rule) → sumColumn s read qs ≡ none → offends read r ≡ false → sumColumn s read (qs ++ (r ∷ [])) ≡ none
+  unfolding sumColumn
+  sumColumn-more qs r e h = sumColumn-behind qs (r ∷ []) e ∙ rw h
 
 -- messages delivered in two parts
 pub deliverAll-append : (s : Sizes) (cells : List Cell) (ms ns : List Message) → deliverAll s cells (ms ++ ns) ≡ deliverAll s (deliverAll s cells ms) ns

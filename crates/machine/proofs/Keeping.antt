@@ -3,9 +3,9 @@ use Prim.Native.Nat.{ℕ, zero, suc, _<_}
 use mathlib.Core.Path.{_≡_, refl, sym, _∙_}
 use mathlib.Core.Bool.{true, false}
 use mathlib.Core.List.{List, [], _∷_}
+use mathlib.Core.Option.{none}
 use native.Mathlib.Omega.{arith}
 use lib.IntN.{ℤ}
-use lib.Signed.{ltZ}
 use mir.Syntax.{w32}
 use mir.Val.{SFits}
 use Rattle.integers.specs.Range.{inRange}
@@ -15,7 +15,7 @@ use Rattle.register.specs.Cells.{valueOf}
 use Rattle.register.specs.Shape.{Limits, Valid, refersWithin}
 use Rattle.register.specs.declared.Sizes.{Sizes}
 use Rattle.register.specs.declared.cells.Cell.{Cell}
-use Rattle.register.specs.declared.cells.Cell.the-variants.{Missing as Unfilled, Value as Filled}
+use Rattle.register.specs.declared.cells.Cell.the-variants.{WorkedOut}
 use Rattle.chain.specs.declared.reading.Reading.{Reading}
 use Rattle.chain.specs.declared.reading.Reading.the-variants.{Missing, Value}
 use Rattle.chain.specs.Word.{isReference, Passes, readOf, refersTo, readingValue}
@@ -29,8 +29,8 @@ use Rattle.laws.proofs.Lists.{each-append}
 use Rattle.machine.specs.declared.message.Message.{Message}
 use Rattle.machine.specs.Value.{both, value, holds, readingInRange, cellInRange}
 use Rattle.machine.specs.Local.{storedOver, assign, localRule, localRules, localRecords}
-use Rattle.machine.specs.Remote.{sentTo, sentBy, ruleMessages, messages, recordMessages, smaller, merged, deliver, deliverAll}
-use Rattle.machine.specs.Step.{stepCells, stops}
+use Rattle.machine.specs.Remote.{sentTo, sentBy, ruleMessages, messages, recordMessages, isLowered, smaller, merged, deliver, deliverAll}
+use Rattle.machine.specs.Step.{stepCells, offence}
 use Rattle.machine.proofs.Folding.{stepCells-length}
 use Rattle.machine.proofs.Stops.{in-range-each}
 use Rattle.machine.proofs.Refers.{Refers, Change, change-refers}
@@ -59,11 +59,10 @@ storedOver-refers n Missing c e h = h
 storedOver-refers n (Value z) c e h = e
 
 -- "`<?=` keeps the smaller": one of two references; `+=` is for measures
-merged-refers : (n : ℕ) (k : Sort) (c : Cell) (a : ℤ) → (k ≡ Total → ⊥) → refersWithin n c ≡ true → refersWithin n (Filled a) ≡ true
+merged-refers : (n : ℕ) (k : Sort) (c : Cell) (a : ℤ) → (k ≡ Total → ⊥) → refersWithin n c ≡ true → refersWithin n (WorkedOut a) ≡ true
     → refersWithin n (merged k c a) ≡ true
 unfolding merged smaller
-merged-refers n Least Unfilled a h hc ha = ha
-merged-refers n Least (Filled z) a h hc ha = cond-both (λ c. refersWithin n c ≡ true) (ltZ a z) _ _ ha hc
+merged-refers n Least c a h hc ha = cond-both (λ c. refersWithin n c ≡ true) (isLowered (readOf c) a) _ _ ha hc
 merged-refers n Total c a h hc ha = absurd (h refl)
 
 -- what a message does to its cell
@@ -152,7 +151,7 @@ module _ (s : Sizes) (lim : Limits s) (read : ℕ → List ℕ → Reading) (rs 
 -- the cells behind a step
 pub stepCells-valid : {s : Sizes} {cells : List Cell} → Valid s cells → {rs : List Rule} → RulesPass s rs → (read : ℕ → List ℕ → Reading)
     → ((u : ℕ) (w : List ℕ) → u < s .records → Passes s w → isReferenceWord w ≡ true → refersTo (s .records) (read u w) ≡ true)
-    → stops s read rs cells ≡ false → Valid s (stepCells s read rs cells)
+    → offence s read rs cells ≡ none → Valid s (stepCells s read rs cells)
 unfolding stepCells
 stepCells-valid {s} {cells} v {rs} k read within go-on = record {
   limits = v .limits;

@@ -1,6 +1,7 @@
 -- Laws of the machine, for the proofs of the crates above.
 pub mod Folding
 pub mod Stops
+pub mod Naming
 pub mod Agreeing
 pub mod Readable
 pub mod Readings

@@ -3,7 +3,7 @@ use Prim.Native.Nat.{ℕ, zero, suc, _-_, _≤_, _<_}
 use mathlib.Core.Path.{_≡_, refl, ap, _∙_}
 use mathlib.Core.Bool.{Bool, true, false, cond}
 use mathlib.Core.List.{List, [], _∷_, _++_, append-nil, append-assoc}
-use mathlib.Core.Option.{Option, none}
+use mathlib.Core.Option.{Option, none, some}
 use native.Mathlib.Omega.{arith}
 use native.Mathlib.Nat.{sub-zero}
 use lib.ListN.{length, take, drop, length-append, take-append-drop, drop-of-length-le}
@@ -14,8 +14,8 @@ use Rattle.register.specs.declared.cells.Cell.{Cell}
 use Rattle.program.specs.Program.{Step, Program}
 use Rattle.program.specs.Passed.{openBehind, Loops, StepPasses, ProgramPasses}
 use Rattle.laws.proofs.Lists.{each-back}
-use Rattle.machine.specs.Step.{stepCells, stops}
-use Rattle.machine.specs.Run.{Reader, direct, Pass, begins, goesOn, entered, following, Ending, complete, exhausted, offended, Run, behind, stepFirst, runFrom, run}
+use Rattle.machine.specs.Step.{stepCells, Offence, offence}
+use Rattle.machine.specs.Run.{Reader, direct, Pass, begins, goesOn, entered, following, Ending, complete, exhausted, offended, Run, behind, unlessOffended, stepFirst, runFrom, run}
 use Rattle.machine.proofs.Keeping.{stepCells-valid}
 use Rattle.machine.proofs.Direct.{direct-refers}
 use Rattle.machine.proofs.RunningPass.{openBefore, fits-before, begins-outside, back-outside, passFrom, entered-drop, following-drop}
@@ -67,16 +67,16 @@ runFrom-none s reader (suc b) pass cells = refl
 
 -- the run of steps of which the first does not stop
 runFrom-step : (s : Sizes) (reader : Reader) (b : ℕ) {steps : List Step} (pass : Pass) (cells : List Cell) {x : Step} {rest : List Step} → steps ≡ x ∷ rest
-    → stops s (reader (x .rules) cells) (x .rules) cells ≡ false
+    → offence s (reader (x .rules) cells) (x .rules) cells ≡ none
     → let cells′ = stepCells s (reader (x .rules) cells) (x .rules) cells in
     let pass′ = entered (x .setting) steps cells pass in
     runFrom s reader (suc b) steps pass cells
     ≡ prepend ((x, cells) ∷ []) (runFrom s reader b (following s (x .setting) rest cells′ pass′) pass′ cells′)
-unfolding runFrom stepFirst behind prepend
+unfolding runFrom stepFirst unlessOffended behind prepend
 runFrom-step s reader b pass cells here go-on = rw (here, go-on)
 
 -- what holds of each arm where its test does
-pub cond-cases : {A : Type 0} (P : A → Type 0) (b : Bool) (x y : A) → (b ≡ true → P x) → (b ≡ false → P y) → P (cond b x y)
+cond-cases : {A : Type 0} (P : A → Type 0) (b : Bool) (x y : A) → (b ≡ true → P x) → (b ≡ false → P y) → P (cond b x y)
 cond-cases P true x y h k = h refl
 cond-cases P false x y h k = k refl
 
@@ -110,9 +110,9 @@ module _ {s : Sizes} {p : Program} {budget : ℕ} {start : List Cell} {step firs
     running-exhausted e = let none-left : budget - finished ≡ 0 = omega arith in running-end (rw (none-left, here))
 
     -- x stops
-    pub running-offended : finished < budget → stops s (direct s (x .rules) cells) (x .rules) cells ≡ true
-        → run s (direct s) p budget start ≡ record { cells = cells; trace = trace; ending = offended (x .rules) cells }
-    unfolding runFrom stepFirst
+    pub running-offended : finished < budget → {o : Offence} → offence s (direct s (x .rules) cells) (x .rules) cells ≡ some o
+        → run s (direct s) p budget start ≡ record { cells = cells; trace = trace; ending = offended o }
+    unfolding runFrom stepFirst unlessOffended
     running-offended more stop = let left : budget - finished ≡ suc (budget - suc finished) = omega arith in running-end (rw (left, here, stop))
 
     -- behind x, the loops from the first step of the pass on
@@ -131,7 +131,7 @@ module _ {s : Sizes} {p : Program} {budget : ℕ} {start : List Cell} {step firs
         (λ e. rw (back-outside s (x .setting) before′ cells′ e) first-loops)
 
     -- x is finished
-    pub running-step : finished < budget → ProgramPasses s p → stops s (direct s (x .rules) cells) (x .rules) cells ≡ false
+    pub running-step : finished < budget → ProgramPasses s p → offence s (direct s (x .rules) cells) (x .rules) cells ≡ none
         → let cells′ = stepCells s (direct s (x .rules) cells) (x .rules) cells in
         let first′ = cond (begins (x .setting)) step first in
         let before′ = cond (begins (x .setting)) cells before in

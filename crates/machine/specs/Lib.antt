@@ -3,5 +3,7 @@ pub mod Value
 pub mod Local
 pub mod Remote
 pub mod Step
+pub mod Named
 pub mod Run
 pub mod Filled
+pub mod Marks

@@ -1,13 +1,13 @@
 -- Local rules: what a rule stores in its own record, and the sums that it forms.
-use mathlib.Core.Bool.{Bool, false, cond, _&&_, _||_}
+use mathlib.Core.Bool.{Bool, cond, _&&_}
 use mathlib.Core.List.{List, [], _∷_}
+use mathlib.Core.Option.{Option, none, some}
 use Prim.Native.Nat.{ℕ, zero, suc}
-use lib.Dec.{eqb}
 use lib.ListN.{getD, set as put}
 use Rattle.register.specs.File.{cellIndex}
 use Rattle.register.specs.declared.Sizes.{Sizes}
 use Rattle.register.specs.declared.cells.Cell.{Cell}
-use Rattle.register.specs.declared.cells.Cell.the-variants.{Missing as Unfilled, Value as Filled}
+use Rattle.register.specs.declared.cells.Cell.the-variants.{Missing as Unfilled, WorkedOut}
 use Rattle.chain.specs.declared.reading.Reading.{Reading}
 use Rattle.chain.specs.declared.reading.Reading.the-variants.{Missing, Value}
 use Rattle.chain.specs.Word.{column}
@@ -15,9 +15,10 @@ use Rattle.program.specs.Program.{Target, own, remote, Rule, targetField}
 use Rattle.machine.specs.Value.{value, overflows, holds}
 
 -- what `:=` makes of a cell: "`:=` with an unfilled reading or sum now leaves the cell as earlier rules of that step left it"
+-- (M-103), and "Any stored `:=` .. leaves mark 2" (M-107)
 unfoldable pub storedOver : Reading → Cell → Cell
 storedOver Missing c = c
-storedOver (Value z) c = Filled z
+storedOver (Value z) c = WorkedOut z
 
 -- the cells with a reading stored for record u; a remote rule stores nothing here
 unfoldable pub assign : Sizes → ℕ → Target → Reading → List Cell → List Cell
@@ -42,7 +43,8 @@ localRecords s read rs (suc n) cells = localRules s (read n) n rs (localRecords 
 unfoldable pub offends : (List ℕ → Reading) → Rule → Bool
 offends read r = holds read (r .test) && overflows read (r .expression)
 
--- whether one of these rules is done and forms a sum for this column that leaves the range: "even where overwritten"
-unfoldable pub sumOffends : Sizes → (List ℕ → Reading) → List Rule → ℕ → Bool
-sumOffends s read [] c = false
-sumOffends s read (r ∷ rs) c = (offends read r && eqb (column s (targetField (r .target))) c) || sumOffends s read rs c
+-- the column that the earliest rule writes whose sum leaves the range: "in it, the field written by the earliest such rule", even
+-- where a later one overwrites it; a remote rule's is F of `remote F[C]`
+unfoldable pub sumColumn : Sizes → (List ℕ → Reading) → List Rule → Option ℕ
+sumColumn s read [] = none
+sumColumn s read (r ∷ rs) = cond (offends read r) (some (column s (targetField (r .target)))) (sumColumn s read rs)

@@ -1,5 +1,5 @@
 -- Remote writes: one message for each, delivered to the cells that the local rules leave.
-use mathlib.Core.Bool.{cond}
+use mathlib.Core.Bool.{Bool, true, cond}
 use mathlib.Core.List.{List, [], _∷_, _++_}
 use Prim.Native.Nat.{ℕ, zero, suc}
 use lib.IntN.{ℤ, natAbs, _+ℤ_}
@@ -8,9 +8,10 @@ use lib.Signed.{ltZ}
 use Rattle.register.specs.File.{cellIndex}
 use Rattle.register.specs.declared.Sizes.{Sizes}
 use Rattle.register.specs.declared.cells.Cell.{Cell}
-use Rattle.register.specs.declared.cells.Cell.the-variants.{Missing, Value}
+use Rattle.register.specs.declared.cells.Cell.the-variants.{Missing as Unfilled, WorkedOut}
 use Rattle.chain.specs.declared.reading.Reading.{Reading}
-use Rattle.chain.specs.Word.{column}
+use Rattle.chain.specs.declared.reading.Reading.the-variants.{Missing, Value}
+use Rattle.chain.specs.Word.{column, readOf}
 use Rattle.program.specs.declared.rule.Sort.{Sort}
 use Rattle.program.specs.declared.rule.Sort.the-variants.{Least, Total}
 use Rattle.program.specs.Program.{Target, own, remote, Rule}
@@ -40,15 +41,24 @@ unfoldable pub recordMessages : (ℕ → List ℕ → Reading) → List Rule →
 recordMessages read rs zero = []
 recordMessages read rs (suc n) = recordMessages read rs n ++ messages (read n) rs
 
--- "`<?=` keeps the smaller, and fills an unfilled cell"
-unfoldable pub smaller : Cell → ℤ → Cell
-smaller Missing a = Value a
-smaller (Value z) a = cond (ltZ a z) (Value a) (Value z)
+-- whether `<?=` changes or fills a cell of which this is read
+unfoldable pub isLowered : Reading → ℤ → Bool
+isLowered Missing a = true
+isLowered (Value z) a = ltZ a z
 
--- "`+=` adds all amounts to the cell as one whole number; .. an unfilled cell stays unfilled": a total of any size
+-- "`<?=` keeps the smaller, and fills an unfilled cell"; "any `<?=` that changes or fills a cell leaves mark 2" (M-107), and any
+-- other the cell as it is
+unfoldable pub smaller : Cell → ℤ → Cell
+smaller c a = cond (isLowered (readOf c) a) (WorkedOut a) c
+
+-- "`+=` adds all amounts to the cell as one whole number; .. an unfilled cell stays unfilled": a total of any size; "any `+=` that
+-- reaches a filled cell .. leaves mark 2" (M-107), of 0 too
+unfoldable pub added : Reading → ℤ → Cell
+added Missing a = Unfilled
+added (Value z) a = WorkedOut (z +ℤ a)
+
 unfoldable pub increased : Cell → ℤ → Cell
-increased Missing a = Missing
-increased (Value z) a = Value (z +ℤ a)
+increased c a = added (readOf c) a
 
 -- what a write makes of the cell that it reaches
 unfoldable pub merged : Sort → Cell → ℤ → Cell
@@ -59,7 +69,7 @@ merged Total c a = increased c a
 unfoldable pub deliver : Sizes → List Cell → Message → List Cell
 deliver s cells m =
     let j = cellIndex s (m .target) (column s (m .field)) in
-    put cells j (merged (m .sort) (getD cells j Missing) (m .amount))
+    put cells j (merged (m .sort) (getD cells j Unfilled) (m .amount))
 
 unfoldable pub deliverAll : Sizes → List Cell → List Message → List Cell
 deliverAll s cells [] = cells

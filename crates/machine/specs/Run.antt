@@ -1,6 +1,7 @@
 -- A run: steps until none is left, the budget (document 01's allowance) is exhausted, or a step stops.
 use mathlib.Core.Bool.{Bool, true, false, cond, not, _&&_, _||_}
 use mathlib.Core.List.{List, [], _∷_}
+use mathlib.Core.Option.{Option, none, some}
 use Prim.Native.Nat.{ℕ, zero, suc, _+_, _*_}
 use lib.Dec.{ltb}
 use Rattle.integers.specs.Range.{eqZ}
@@ -13,7 +14,7 @@ use Rattle.chain.specs.Word.{readCell, valueAtRecord}
 use Rattle.program.specs.declared.setting.Setting.{Setting}
 use Rattle.program.specs.declared.setting.Setting.the-variants.{Single, Looped}
 use Rattle.program.specs.Program.{Rule, Step, Program}
-use Rattle.machine.specs.Step.{stepCells, stops}
+use Rattle.machine.specs.Step.{stepCells, Offence, offence}
 
 -- what each record reads in a step, over the cells before it
 abbrev pub Reader : Type 0
@@ -23,7 +24,7 @@ Reader = List Rule → List Cell → ℕ → List ℕ → Reading
 unfoldable pub direct : Sizes → Reader
 direct s rs cells u w = valueAtRecord s cells w u
 
--- "the same, values and marks"
+-- "Loops compare values and whether filled, not 1 against 2" (M-107)
 unfoldable pub sameReading : Reading → Reading → Bool
 sameReading Missing Missing = true
 sameReading Missing (Value b) = false
@@ -58,10 +59,10 @@ entered g steps cells p = cond (begins g) (record { steps = steps; before = cell
 unfoldable pub following : Sizes → Setting → List Step → List Cell → Pass → List Step
 following s g rest after p = cond (goesOn s g (p .before) after) rest (p .steps)
 
--- how a run ends: no step is left; 20; 21, at this step over these cells
+-- how a run ends: no step is left; 20; 21, at this place
 pub data Ending : Type 0 where
   complete exhausted : Ending
-  offended : List Rule → List Cell → Ending
+  offended : Offence → Ending
 
 -- the cells at the end, the finished steps, each with the cells before it, and how it ends
 pub record Run : Type 0 where
@@ -76,6 +77,11 @@ behind x cells r = record { cells = r .cells; trace = (x, cells) ∷ r .trace; e
 abbrev ended : List Cell → Ending → Run
 ended cells e = record { cells = cells; trace = []; ending = e }
 
+-- 21 over these cells where a place offends, else the run that goes on
+unfoldable pub unlessOffended : Option Offence → List Cell → Run → Run
+unlessOffended none cells r = r
+unlessOffended (some x) cells r = ended cells (offended x)
+
 -- no step is left, or the first to come does not stop and the run goes on
 unfoldable pub stepFirst : Sizes → Reader → (List Step → Pass → List Cell → Run) → List Step → Pass → List Cell → Run
 stepFirst s reader goOn [] p cells = ended cells complete
@@ -83,8 +89,7 @@ stepFirst s reader goOn (x ∷ rest) p cells =
     let read = reader (x .rules) cells in
     let after = stepCells s read (x .rules) cells in
     let pass = entered (x .setting) (x ∷ rest) cells p in
-    cond (stops s read (x .rules) cells)
-    (ended cells (offended (x .rules) cells))
+    unlessOffended (offence s read (x .rules) cells) cells
     (behind x cells (goOn (following s (x .setting) rest after pass) pass after))
 
 -- the run of the steps to come, with a budget for this many more: "Before each step, if the finished steps equal the

@@ -1,8 +1,8 @@
 -- The message machine does the same as the machine that follows hop by hop: a step, and a whole run.
-use Prim.Native.Nat.{ℕ, zero, suc, _<_}
+use Prim.Native.Nat.{ℕ, zero, suc}
 use mathlib.Core.Path.{_≡_, refl, ap}
-use mathlib.Core.Bool.{Bool, true, false, cond}
 use mathlib.Core.List.{List, [], _∷_}
+use mathlib.Core.Option.{Option, none, some}
 use Rattle.register.specs.Shape.{Valid}
 use Rattle.register.specs.declared.Sizes.{Sizes}
 use Rattle.register.specs.declared.cells.Cell.{Cell}
@@ -10,10 +10,10 @@ use Rattle.program.specs.Program.{Rule, Step, Program}
 use Rattle.laws.specs.Lists.{Each}
 use Rattle.program.specs.Passed.{RulesPass, StepPasses, ProgramPasses}
 use Rattle.machine.specs.Remote.{recordMessages}
-use Rattle.machine.specs.Step.{stepCells, offendsAt, stops}
-use Rattle.machine.specs.Run.{direct, Pass, begins, goesOn, entered, following, Run, behind, stepFirst, runFrom, run}
+use Rattle.machine.specs.Step.{stepCells, Offence, offence}
+use Rattle.machine.specs.Run.{direct, Pass, begins, goesOn, entered, following, Run, behind, unlessOffended, stepFirst, runFrom, run}
 use Rattle.laws.proofs.Bools.{cond-both}
-use Rattle.machine.proofs.Agreeing.{stepCells-agree, stops-agree, offendsAt-agree, recordMessages-agree}
+use Rattle.machine.proofs.Agreeing.{stepCells-agree, offence-agree, recordMessages-agree}
 use Rattle.machine.proofs.Keeping.{stepCells-valid}
 use Rattle.machine.proofs.Direct.{direct-refers}
 use Rattle.machine_messages.specs.Counts.{byMessages}
@@ -25,26 +25,23 @@ module _ {s : Sizes} {rs : List Rule} {cells : List Cell} (k : RulesPass s rs) (
   pub step-cells : stepCells s (byMessages s rs cells) rs cells ≡ stepCells s (direct s rs cells) rs cells
   step-cells = stepCells-agree _ _ rs s (knows-direct k v) cells
 
-  -- offends at the same places
-  pub step-offends : (u c : ℕ) → u < s .records → offendsAt s (byMessages s rs cells) rs cells u c ≡ offendsAt s (direct s rs cells) rs cells u c
-  step-offends = offendsAt-agree _ _ rs s (knows-direct k v) cells
-
-  -- stops where the other does
-  pub step-stops : stops s (byMessages s rs cells) rs cells ≡ stops s (direct s rs cells) rs cells
-  step-stops = stops-agree _ _ rs s (knows-direct k v) cells
+  -- stops where the other does, at the same record and column
+  pub step-stops : offence s (byMessages s rs cells) rs cells ≡ offence s (direct s rs cells) rs cells
+  step-stops = offence-agree _ _ rs s (knows-direct k v) cells
 
   -- and sends the same remote writes
   pub step-writes : recordMessages (byMessages s rs cells) rs (s .records) ≡ recordMessages (direct s rs cells) rs (s .records)
   step-writes = recordMessages-agree _ _ rs (s .records) (knows-direct k v)
 
   -- behind a step that does not stop the register is valid
-  step-valid : stops s (direct s rs cells) rs cells ≡ false → Valid s (stepCells s (direct s rs cells) rs cells)
+  step-valid : offence s (direct s rs cells) rs cells ≡ none → Valid s (stepCells s (direct s rs cells) rs cells)
   step-valid go-on = stepCells-valid v k (direct s rs cells) (λ u w l h. direct-refers v rs u l w h) go-on
 
--- the other arm counts only where the test fails
-cond-same : {A : Type 0} (b : Bool) (x y z : A) → (b ≡ false → y ≡ z) → cond b x y ≡ cond b x z
-cond-same true x y z h = refl
-cond-same false x y z h = h refl
+-- the run that goes on counts only where no place offends
+unless-same : (o : Option Offence) (cells : List Cell) (r r′ : Run) → (o ≡ none → r ≡ r′) → unlessOffended o cells r ≡ unlessOffended o cells r′
+unfolding unlessOffended
+unless-same none cells r r′ h = h refl
+unless-same (some x) cells r r′ h = refl
 
 module _ (s : Sizes) where
   -- the steps of the pass that a step is done in, and those to come behind it, pass
@@ -70,7 +67,7 @@ module _ (s : Sizes) where
   stepFirst-same goOn goOn′ same (x ∷ rest) p cells k q v =
       let passes = entered-passes x rest cells p k q in
       rw (step-stops (k .0 .rules) v, step-cells (k .0 .rules) v)
-      (cond-same _ _ _ _
+      (unless-same _ cells _ _
       (λ go-on. ap (behind x cells) (same _ _ _ (following-passes x rest _ _ (k .1) passes) passes (step-valid (k .0 .rules) v go-on))))
 
   -- and a run with any budget

@@ -20,7 +20,7 @@ use Rattle.program.specs.declared.setting.Setting.the-variants.{Single}
 use Rattle.program.specs.Program.{Step, Program, mostLines, stepPlan}
 use Rattle.text_rules.specs.Text.{lines, start, readFrom, textProgram, check, rulesAt, PlanResult, planResult, planOfStep}
 use Rattle.program.specs.Kept.{programOf, Framed}
-use Rattle.text_reader.specs.Answers.{outcomeOf, Answers}
+use Rattle.text_reader.specs.Answers.{checkOutcome, Answers}
 use Rattle.op_check.specs.StepPlan.{zip, linesOf, planOutcome, PlanAnswers, StepFound, RefusedPlan}
 use Rattle.program.specs.declared.frame.Frame.{Frame}
 use Rattle.text_reader.specs.declared.Checked.{Checked}
@@ -59,11 +59,11 @@ number-positive Reference = omega arith
 -- an answer that is refused, and one that is not
 module _ {o : Outcome Program} {r : Checked} (a : Answers o r) where
   pub answered-refused : (r .refusal ≡ 0 → ⊥) → o ≡ refused (r .refusal) (r .line)
-  unfolding outcomeOf
+  unfolding checkOutcome
   answered-refused h = sym (a .outcome-is) ∙ refuse-none (r .refusal) (r .line) (O.done (programOf (r .program))) h
 
   pub answered-program : r .refusal ≡ 0 → o ≡ O.done (programOf (r .program))
-  unfolding outcomeOf unless
+  unfolding checkOutcome unless
   answered-program h = sym (a .outcome-is) ∙ rw h
 
 -- a step that is not there

@@ -15,7 +15,7 @@ use Rattle.text_rules.specs.Text.{check, rulesAt, planOfStep}
 use Rattle.machine.specs.Run.{scratch, isShort}
 use Rattle.op_check.proofs.Room.{room}
 use Rattle.op_inspect.specs.Inspection.{stepLines, inspection}
-use Rattle.op_inspect.specs.Answer.{refusedWith, StepAnswered, Answered}
+use Rattle.op_inspect.specs.Answer.{inspectRefusal, StepAnswered, InspectAnswered}
 use Rattle.op_inspect.specs.declared.InspectAnswer.{InspectAnswer}
 
 -- a refusal stays, whatever follows a result
@@ -51,11 +51,11 @@ lines-room s {most = most} {values = values} {marks = marks} h e =
 
 -- an answer by its outcome
 module _ (file : List ℕ) (t : ℕ) (values : List ℤ) (marks : List ℕ) {o : Outcome (List Fact)} {r : InspectAnswer} where
-  pub refused-answered : {n k : ℕ} → o ≡ refused n k → r ≡ refusedWith n k → Answered o file t values marks values marks r
+  pub refused-answered : {n k : ℕ} → o ≡ refused n k → r ≡ inspectRefusal n k → InspectAnswered o file t values marks values marks r
   refused-answered e h =
-      subst (λ (o : Outcome (List Fact)). Answered o file t values marks values marks r) (sym e)
+      subst (λ (o : Outcome (List Fact)). InspectAnswered o file t values marks values marks r) (sym e)
       (record { answer-is = h; values-same = refl; marks-same = refl })
 
   pub step-answered : {l : List Fact} {values′ : List ℤ} {marks′ : List ℕ} → o ≡ done l → StepAnswered l file t values marks values′ marks′ r
-      → Answered o file t values marks values′ marks′ r
-  step-answered {values′ = values′} {marks′ = marks′} e h = subst (λ (o : Outcome (List Fact)). Answered o file t values marks values′ marks′ r) (sym e) h
+      → InspectAnswered o file t values marks values′ marks′ r
+  step-answered {values′ = values′} {marks′ = marks′} e h = subst (λ (o : Outcome (List Fact)). InspectAnswered o file t values marks values′ marks′ r) (sym e) h

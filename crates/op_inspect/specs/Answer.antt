@@ -11,8 +11,8 @@ use Rattle.op_show.specs.Shown.{Shown}
 use Rattle.op_inspect.specs.declared.InspectAnswer.{InspectAnswer}
 
 -- a refusal
-abbrev pub refusedWith : ℕ → ℕ → InspectAnswer
-refusedWith refusal line = record { refusal = refusal; line = line; lines = 0 }
+abbrev pub inspectRefusal : ℕ → ℕ → InspectAnswer
+inspectRefusal refusal line = record { refusal = refusal; line = line; lines = 0 }
 
 -- a step of this many lines
 abbrev pub shownLines : ℕ → InspectAnswer
@@ -24,12 +24,12 @@ pub record StepAnswered (l : List Fact) (file : List ℕ) (t : ℕ) (values : Li
   pub shown : Shown (sizesOf file) (cellsOfFile (sizesOf file) file) l t values marks values′ marks′
 
 -- "Nothing lent is written."
-pub record RefusalAnswered (n k : ℕ) (values : List ℤ) (marks : List ℕ) (values′ : List ℤ) (marks′ : List ℕ) (r : InspectAnswer) : Type 0 where
-  pub answer-is : r ≡ refusedWith n k
+pub record InspectRefused (n k : ℕ) (values : List ℤ) (marks : List ℕ) (values′ : List ℤ) (marks′ : List ℕ) (r : InspectAnswer) : Type 0 where
+  pub answer-is : r ≡ inspectRefusal n k
   pub values-same : values′ ≡ values
   pub marks-same : marks′ ≡ marks
 
 -- an outcome as the caller sees it: the answer, and what its buffers hold then
-abbrev pub Answered : Outcome (List Fact) → List ℕ → ℕ → List ℤ → List ℕ → List ℤ → List ℕ → InspectAnswer → Type 0
-Answered (done l) file t values marks values′ marks′ r = StepAnswered l file t values marks values′ marks′ r
-Answered (refused n k) file t values marks values′ marks′ r = RefusalAnswered n k values marks values′ marks′ r
+abbrev pub InspectAnswered : Outcome (List Fact) → List ℕ → ℕ → List ℤ → List ℕ → List ℤ → List ℕ → InspectAnswer → Type 0
+InspectAnswered (done l) file t values marks values′ marks′ r = StepAnswered l file t values marks values′ marks′ r
+InspectAnswered (refused n k) file t values marks values′ marks′ r = InspectRefused n k values marks values′ marks′ r

@@ -2,7 +2,7 @@
 ghost use mathlib.Core.Path.{_≡_};
 ghost use lib.ListN.{length};
 ghost use Rattle.op_inspect.specs.Inspection.{inspection};
-ghost use Rattle.op_inspect.specs.Answer.{refusedWith, Answered};
+ghost use Rattle.op_inspect.specs.Answer.{inspectRefusal, InspectAnswered};
 use op_check::scratch;
 use op_check::step;
 use op_show;
@@ -16,7 +16,7 @@ pub struct InspectAnswer {
 }
 
 fn refused(refusal: u32, line: usize) -> InspectAnswer
-    ensures { λ r. ⌜ r ≡ refusedWith refusal line ⌝ }
+    ensures { λ r. ⌜ r ≡ inspectRefusal refusal line ⌝ }
 {
     InspectAnswer {
         refusal,
@@ -34,7 +34,7 @@ pub fn inspect(
     values: &mut [i64],
     marks: &mut [u8],
 ) -> InspectAnswer
-    ensures { λ r. ⌜ Answered (inspection (now (file .entry)) (now (text .entry)) step (length (now (values .entry))) (length (now (marks .entry))))
+    ensures { λ r. ⌜ InspectAnswered (inspection (now (file .entry)) (now (text .entry)) step (length (now (values .entry))) (length (now (marks .entry))))
         (now (file .entry)) t (now (values .entry)) (now (marks .entry)) (now (values .exit)) (now (marks .exit)) r ⌝ }
 {
     let planned = step::plan_step(file, text, step);

@@ -12,7 +12,7 @@ use Rattle.chain_text.specs.Text.{form}
 use Rattle.chain_path.specs.Path.{pathAtRecord, hopsOf, HoldsPath}
 use Rattle.chain_path.specs.declared.Hop.{Hop}
 use Rattle.chain_path.specs.declared.Path.{Path}
-use Rattle.op_read.specs.Reading.{wordOfForm, refusalNumber}
+use Rattle.op_read.specs.Reading.{wordOfForm, chainRefusalNumber}
 use Rattle.op_read.specs.declared.Refusal.{Refusal}
 use Rattle.op_read.specs.declared.Refusal.the-variants.{Form, Field, Kind, Hops}
 use Rattle.op_path.specs.Path.{pathOfWord, pathLoaded, readingPath, PathAnswers}
@@ -27,8 +27,8 @@ unfolding after
 after-refused g e = ap (λ o. after o g) e
 
 -- a chain's refusal has a number, so that it refuses
-pub unless-chain : {A : Type 0} (r : Refusal) (o : Outcome A) → unless (refusalNumber r) 1 o ≡ refused (refusalNumber r) 1
-unfolding unless refusalNumber
+pub unless-chain : {A : Type 0} (r : Refusal) (o : Outcome A) → unless (chainRefusalNumber r) 1 o ≡ refused (chainRefusalNumber r) 1
+unfolding unless chainRefusalNumber
 unless-chain Form o = refl
 unless-chain Field o = refl
 unless-chain Kind o = refl

@@ -13,7 +13,7 @@ use Rattle.register.specs.declared.Sizes.{Sizes}
 use Rattle.chain_text.specs.Text.{Form, formed, unformed, form, names, innerReferences, lettersRefusal, wordOf}
 use Rattle.laws.specs.Lists.{every}
 use Rattle.chain_text.specs.Scan.{summary, scanned, chainEnd}
-use Rattle.op_read.specs.Reading.{judgedOf, chainOutcome, refusalNumber, wordOfForm}
+use Rattle.op_read.specs.Reading.{judgedOf, chainOutcome, chainRefusalNumber, wordOfForm}
 use Rattle.chain_text.specs.declared.letters.Letters.{Letters}
 use Rattle.chain_text.specs.declared.text.Scanned.{Scanned}
 use Rattle.chain_text.specs.declared.text.Scanned.the-variants.{Chain, NoForm}
@@ -50,7 +50,7 @@ unless-some n o e = rw e
 
 -- the letters' summary, judged, has the outcome of the letters
 pub judged-outcome : (s : Sizes) → Limits s → (ls : List ℕ) → chainOutcome (judgedOf (summary s ls)) ≡ unless (lettersRefusal s ls) 1 (done (wordOf ls))
-unfolding chainOutcome refusalNumber summary
+unfolding chainOutcome chainRefusalNumber summary
 judged-outcome s l ls = go (every (names s) ls) refl (innerReferences ls) refl (ltb 16 (length ls)) refl
   where
     x : Letters

@@ -38,22 +38,22 @@ unfoldable pub reading : List ℕ → List ℕ → ℕ → Outcome Reading
 reading file text u = after (load file) (λ s. readingLoaded s file text u)
 
 -- document 01's number for each refusal of a chain
-unfoldable pub refusalNumber : Refusal → ℕ
-refusalNumber BadForm = 7
-refusalNumber Field = 9
-refusalNumber Kind = 10
-refusalNumber Hops = 11
+unfoldable pub chainRefusalNumber : Refusal → ℕ
+chainRefusalNumber BadForm = 7
+chainRefusalNumber Field = 9
+chainRefusalNumber Kind = 10
+chainRefusalNumber Hops = 11
 
 -- the outcome of each answer for a chain
 unfoldable pub chainOutcome : ChainAnswer → Outcome (List ℕ)
 chainOutcome (Chain n) = done (unpack n)
-chainOutcome (Refused r) = refused (refusalNumber r) 1
+chainOutcome (Refused r) = refused (chainRefusalNumber r) 1
 
 -- the outcome of each answer for a reading
 unfoldable pub readingOutcome : ReadingAnswer → Outcome Reading
 readingOutcome (Read x) = done x
 readingOutcome (Register r) = refused (register-number r) 0
-readingOutcome (BadChain r) = refused (refusalNumber r) 1
+readingOutcome (BadChain r) = refused (chainRefusalNumber r) 1
 readingOutcome Record = refused 16 0
 
 -- the answer for what is known of the letters

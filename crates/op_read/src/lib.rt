@@ -4,7 +4,7 @@ ghost use Rattle.laws.specs.Outcome.{done};
 ghost use Rattle.register.specs.Load.{load};
 ghost use Rattle.register.specs.Shape.{Limits};
 ghost use Rattle.chain_text.specs.Text.{form};
-ghost use Rattle.op_read.specs.Reading.{wordOfForm, readingLoaded, reading as readingOf, chainOutcome, readingOutcome, refusalNumber, judgedOf};
+ghost use Rattle.op_read.specs.Reading.{wordOfForm, readingLoaded, reading as readingOf, chainOutcome, readingOutcome, chainRefusalNumber, judgedOf};
 use chain::follow;
 use chain::reading::Reading;
 use chain_text::letters::Letters;
@@ -24,7 +24,7 @@ pub enum Refusal {
 
 // Document 01's number of a refusal.
 pub fn number_of(refusal: Refusal) -> u32
-    ensures { λ r. ⌜ r ≡ refusalNumber refusal ⌝ }
+    ensures { λ r. ⌜ r ≡ chainRefusalNumber refusal ⌝ }
 {
     match refusal {
         Refusal::Form => 7,

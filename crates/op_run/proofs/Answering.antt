@@ -61,12 +61,12 @@ module _ (s : Sizes) (cells : List Cell) (file out : List ℕ) (r : RunAnswer) w
   ended-complete : (x : Ending) → EndsBy s x cells out r → r .refusal ≡ 0 → Ended s x cells file out r
   ended-complete complete h z = h
   ended-complete exhausted h z = absurd (omega (arith, ap (λ (x : RunAnswer). x .refusal) h))
-  ended-complete (offended rs before) h z = absurd (omega (arith, h .0))
+  ended-complete (offended o) h z = absurd (omega (arith, ap (λ (x : RunAnswer). x .refusal) h))
 
   ended-refused : (x : Ending) → EndsBy s x cells out r → r .refusal ≢ 0 → Ended s x cells file file r
   ended-refused complete h z = absurd (z (ap (λ (x : RunAnswer). x .refusal) (h .0)))
   ended-refused exhausted h z = (h, refl)
-  ended-refused (offended rs before) h z = (h .0, h .1, refl, h .2)
+  ended-refused (offended o) h z = (h, refl)
 
 -- a run, as the code tells it, and the register copied over a refusal
 module _ {m : Machine} {x : Run} {file out : List ℕ} {r : RunAnswer} {values values′ : List ℤ} {marks marks′ : List ℕ} (e : EndsAs m (sizesOf file) x out r)

@@ -2,3 +2,4 @@
 pub mod Copying
 pub mod Answering
 pub mod Surviving
+pub mod Marks

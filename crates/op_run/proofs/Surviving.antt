@@ -25,7 +25,7 @@ finished-cells : (file : List ℕ) (cells : List Cell) (e : Ending) (out : List 
     → out ≡ fileOf (sizesOf file) cells
 finished-cells file cells complete out r h z = h .1
 finished-cells file cells exhausted out r h z = absurd (omega (arith, ap (λ (a : RunAnswer). a .refusal) (h .0)))
-finished-cells file cells (offended rs before) out r h z = absurd (omega (arith, h .0))
+finished-cells file cells (offended o) out r h z = absurd (omega (arith, ap (λ (a : RunAnswer). a .refusal) (h .0)))
 
 -- M-103: for every register that loads, text that passes and budget, a cell that is filled as loaded is filled in the output of a run that finishes
 module _ (m : Machine) (file text : List ℕ) {p : Program} (e : check file text ≡ done p) (bytes : Bytes file) (budget : ℕ) where

@@ -11,7 +11,7 @@ use Rattle.register.specs.declared.cells.Cell.{Cell}
 use Rattle.machine.specs.Run.{Ending, complete, exhausted, offended, Run}
 use Rattle.machine_messages.specs.declared.Machine.{Machine}
 use Rattle.gather.specs.Counted.{noCounts}
-use Rattle.run_steps.specs.Answer.{countsOf, endedWith, Offence}
+use Rattle.run_steps.specs.Answer.{countsOf, endedWith, stoppedAt}
 use Rattle.run_steps.specs.declared.RunAnswer.{RunAnswer}
 use Rattle.op_run.specs.Direct.{Lengths}
 
@@ -27,7 +27,7 @@ refusedWith refusal line = record { refusal = refusal; line = line; finished = 0
 abbrev pub Ended : Sizes → Ending → List Cell → List ℕ → List ℕ → RunAnswer → Type 0
 Ended s complete cells file out r = (r ≡ endedWith 0 (r .finished) (r .counts)) × (out ≡ fileOf s cells)
 Ended s exhausted cells file out r = (r ≡ endedWith 20 (r .finished) (r .counts)) × (out ≡ file)
-Ended s (offended rs before) cells file out r = (r .refusal ≡ 21) × (r .line ≡ 0) × (out ≡ file) × Offence s rs before (r .row) (r .column)
+Ended s (offended x) cells file out r = (r ≡ stoppedAt (r .finished) (r .counts) (x .row) (x .column)) × (out ≡ file)
 
 -- a run: its finished steps, what they count by this machine, how it ended, and the output; the scratch buffers keep their lengths
 pub record RunAnswered (m : Machine) (x : Run) (file out′ : List ℕ) (values : List ℤ) (marks : List ℕ) (values′ : List ℤ) (marks′ : List ℕ) (r : RunAnswer) : Type 0 where

@@ -1,3 +1,4 @@
 -- The runs as operations.
 pub mod Direct
 pub mod Answer
+pub mod Marks

@@ -5,13 +5,13 @@ use lib.IntN.{pos}
 use Rattle.register.specs.File.{fileOf}
 use Rattle.register.specs.declared.Sizes.{Sizes}
 use Rattle.register.specs.declared.cells.Cell.{Cell}
-use Rattle.register.specs.declared.cells.Cell.the-variants.{Missing, Value}
+use Rattle.register.specs.declared.cells.Cell.the-variants.{Missing, Measured}
 
 unfoldable pub printedSizes : Sizes
 printedSizes = record { records = 3; references = 1; measures = 1 }
 
 unfoldable pub printedCells : List Cell
-printedCells = Value (pos 1) ∷ Missing ∷ Value (pos 2) ∷ Value (pos 0) ∷ Missing ∷ Value (pos 180) ∷ []
+printedCells = Measured (pos 1) ∷ Missing ∷ Measured (pos 2) ∷ Measured (pos 0) ∷ Missing ∷ Measured (pos 180) ∷ []
 
 unfoldable pub printedFile : List ℕ
 printedFile = fileOf printedSizes printedCells

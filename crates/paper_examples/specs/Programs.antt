@@ -2,6 +2,7 @@
 use Prim.Native.Nat.{ℕ}
 use Prim.Native.String.{String}
 use mathlib.Core.Path.{_≡_, refl}
+use mathlib.Core.Bool.{true}
 use mathlib.Core.List.{List, [], _∷_}
 use lib.IntN.{pos, negsuc}
 use Rattle.laws.specs.Lists.{every}
@@ -20,12 +21,12 @@ use Rattle.text_rules.specs.Check.{lineRefusal, planFits, sortsAgree, oneSort, 
 use Rattle.program.specs.declared.rule.Operator.the-variants.{Plus}
 use Rattle.program.specs.declared.rule.Sort.the-variants.{Total}
 use Rattle.program.specs.Program.{Expression, reading, constant, operation, always, Target, own, remote, Rule, Step, Program, expressionReadings, testReadings, targetReadings, ruleReadings, readings, stepPlan, isLeast, isTotal, someTarget}
-use Rattle.text_rules.specs.Text.{textProgram, readFrom, start, closedText, lineOutcome, advance, settingIn, withStep, writtenRule as programRule, writtenTarget, writtenExpression, writtenTest, writtenTerm, pieceForm, lines, onto}
-use Rattle.program.specs.declared.setting.Setting.the-variants.{Single}
+use Rattle.text_rules.specs.Text.{textProgram, readFrom, start, closedText, lineOutcome, advance, closeLoop, lastOf, settingIn, withStep, writtenRule as programRule, writtenTarget, writtenExpression, writtenTest, writtenTerm, pieceForm, lines, onto}
+use Rattle.program.specs.declared.setting.Setting.the-variants.{Single, Looped}
 
 -- the program of a text over a register of n records with the fields A and M
 unfoldable pub exampleProgram : ℕ → String → Outcome Program
-unfolding textProgram readFrom start closedText lineOutcome advance settingIn withStep programRule writtenTarget writtenExpression writtenTest writtenTerm pieceForm lines onto after unless lineRefusal planFits sortsAgree oneSort someTarget isTotal isLeast hasRoom inPlace openRules isOpen isUsed isOutside numbersInRange termInRange short termShort kinded kindsAgree actionKinds areMeasures conditionKinds sameKind isReferenceTerm termKinded named fieldNamed termNamed target everyTerm terms actionTerms conditionTerms lineForm testedForm compared ruleLine actionForm remoteForm sentForms localForm assigned termForm ofChain ofNumber capital then literal or finished isDigit digits decimal allDigits centimetres wholeDigits noLeadingZero twoDecimals isNumeral withDecimals numeral printedNumeral signedForm numberForm numberValue signedValue inRange startsWith C.isCapital C.closed C.form C.letterField C.isReferenceLetter C.names every C.innerReferences C.wordOf stepPlan readings ruleReadings targetReadings testReadings expressionReadings plan addReadings add planLines listed lineIndex sameFact sameWord tree treeWithin half doubled front rest
+unfolding textProgram readFrom start closedText lineOutcome advance closeLoop lastOf settingIn withStep programRule writtenTarget writtenExpression writtenTest writtenTerm pieceForm lines onto after unless lineRefusal planFits sortsAgree oneSort someTarget isTotal isLeast hasRoom inPlace openRules isOpen isUsed isOutside numbersInRange termInRange short termShort kinded kindsAgree actionKinds areMeasures conditionKinds sameKind isReferenceTerm termKinded named fieldNamed termNamed target everyTerm terms actionTerms conditionTerms lineForm testedForm compared ruleLine actionForm remoteForm sentForms localForm assigned termForm ofChain ofNumber capital then literal or finished isDigit digits decimal allDigits centimetres wholeDigits noLeadingZero twoDecimals isNumeral withDecimals numeral printedNumeral signedForm numberForm numberValue signedValue inRange startsWith C.isCapital C.closed C.form C.letterField C.isReferenceLetter C.names every C.innerReferences C.wordOf stepPlan readings ruleReadings targetReadings testReadings expressionReadings plan addReadings add planLines listed lineIndex sameFact sameWord tree treeWithin half doubled front rest
 exampleProgram n t = textProgram (record { records = n; references = 1; measures = 1 }) (bytes t)
 
 -- a rule without a test, and a step outside loops
@@ -74,6 +75,14 @@ mostStep = stepOf (untested (own 8) (operation Plus (constant (pos 2147483647)) 
 pub most-text : (n : ℕ) → exampleProgram n "step\nM[u] := 2147483647 + 0\nend\n" ≡ done (mostStep ∷ [])
 unfolding exampleProgram
 most-text n = refl
+
+-- a loop that stores the same again and again (M-107)
+abbrev pub markingStep : Step
+markingStep = record { rules = untested (own 8) (constant (pos 5)) ∷ []; setting = Looped 8 true true }
+
+pub marking-text : (n : ℕ) → exampleProgram n "loop M\nstep\nM[u] := 5\nend\ndone\n" ≡ done (markingStep ∷ [])
+unfolding exampleProgram
+marking-text n = refl
 
 -- "M at 2147483647 with two remote amounts 1 and −1", each record's to itself: the step before it leaves M so
 abbrev pub amountsStep : Step

@@ -8,11 +8,10 @@ use lib.Dec.{ltb, leb}
 use lib.ListN.{length}
 use Rattle.chain.specs.Word.{pack, unpack}
 use Rattle.chain.proofs.Packing.{pack-unpack}
-use Rattle.plan_theory.specs.Plan.{half, front as frontOf, rest as restOf, back, read, word, hops, lineFrom}
-use Rattle.plan_theory.proofs.Half.{half-pos, half-below}
+use Rattle.plan_theory.specs.Plan.{back, read, word, hops, lineFrom}
 use Rattle.laws.proofs.Cases.{lt-or-le}
 use Rattle.plan_keys.specs.Keys.{factOf}
-use Rattle.plan_keys.proofs.Words.{hops-none, hops-one, hops-pos, hops-two, split-small}
+use Rattle.plan_keys.proofs.Words.{hops-none, hops-one, hops-pos, hops-two}
 
 -- two tests that hold and fail together
 same-test : (a b c d : ℕ) → (a < b → c ≤ d) → (b ≤ a → d < c) → ltb a b ≡ leb c d
@@ -73,9 +72,3 @@ fact-injective j k e =
     (λ a. ⊎-elim (λ b. omega arith) (λ b. absurd (let z : _≡_ {A = ℕ} 0 1 = cc (fact-even j a, fact-odd k b) in omega arith)) (even-or-odd k))
     (λ a. ⊎-elim (λ b. absurd (let z : _≡_ {A = ℕ} 0 1 = cc (fact-odd j a, fact-even k b) in omega arith)) (λ b. omega arith) (even-or-odd k))
     (even-or-odd j)
-
--- the two parts of a packed word are smaller numbers
-pub halves-small : (n a b : ℕ) → 2 ≤ length (unpack n) → unpack a ≡ frontOf (unpack n) → unpack b ≡ restOf (unpack n) → a + b < n
-unfolding frontOf restOf
-halves-small n a b h ea eb =
-    omega (arith, sym (pack-unpack a) ∙ ap pack ea, split-small n b (half (length (unpack n))) (half-pos (length (unpack n))) (half-below (length (unpack n)) h) eb)

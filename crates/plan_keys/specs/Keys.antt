@@ -4,12 +4,18 @@ use mathlib.Core.Bool.{true, false}
 use mathlib.Core.List.{List}
 use Prim.Native.Nat.{ℕ, _/_, _%_}
 use lib.Dec.{eqb}
+use lib.ListN.{take, drop}
 use Rattle.chain.specs.Word.{unpack}
 use Rattle.plan_theory.specs.Plan.{Fact, back, read, front as frontOf, rest as restOf, backNeed, readNeed}
 use Rattle.plan_keys.specs.declared.word.Halves.{Halves}
 use Rattle.plan_keys.specs.declared.key.Needs.{Needs}
 use Rattle.plan_keys.specs.declared.key.Kind.{Kind}
 use Rattle.plan_keys.specs.declared.key.Kind.the-variants.{Back, Read}
+
+-- the first h hops of a word and the rest, packed
+pub record SplitAt (h : ℕ) (w : List ℕ) (r : Halves) : Type 0 where
+  pub front-is : unpack (r .front) ≡ take h w
+  pub rest-is : unpack (r .rest) ≡ drop h w
 
 -- the two parts of a word, packed
 pub record HalvesOf (w : List ℕ) (r : Halves) : Type 0 where

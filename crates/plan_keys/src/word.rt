@@ -1,10 +1,10 @@
-// Packed chains taken apart: their number of hops, the first of them, and the rest.
+// Packed chains taken apart: their number of hops, and two parts.
 ghost use mathlib.Core.Path.{_≡_};
-ghost use Prim.Native.Nat.{_^_, _≤_, _<_};
-ghost use lib.ListN.{length, take, drop};
+ghost use Prim.Native.Nat.{_≤_};
+ghost use lib.ListN.{length, drop};
 ghost use Rattle.chain.specs.Word.{unpack};
 ghost use Rattle.plan_theory.specs.Plan.{half as halfOf};
-ghost use Rattle.plan_keys.specs.Keys.{HalvesOf};
+ghost use Rattle.plan_keys.specs.Keys.{SplitAt, HalvesOf};
 use chain::packed;
 
 pub fn hops(chain: u64) -> u64
@@ -30,25 +30,6 @@ pub fn rest(chain: u64, h: u64) -> u64
     left
 }
 
-fn power_of_eight(h: u64) -> u64
-    requires { ⌜ h ≤ 16 ⌝ }
-    ensures { λ r. ⌜ r ≡ 8 ^ h ⌝ }
-{
-    let mut power = 1;
-    for _ in 0..h {
-        power = power * 8;
-    }
-    power
-}
-
-// The first h hops of a chain; `rest` is what is behind them.
-fn front(chain: u64, rest: u64, h: u64) -> u64
-    requires { ⌜ (1 ≤ h) × (h ≤ 16) × (h < length (unpack chain)) × (unpack rest ≡ drop h (unpack chain)) ⌝ }
-    ensures { λ r. ⌜ unpack r ≡ take h (unpack chain) ⌝ }
-{
-    chain - power_of_eight(h) * (rest + 1)
-}
-
 // Document 01's h: the largest power of two below a number of hops.
 fn half(hops: u64) -> u64
     requires { ⌜ (2 ≤ hops) × (hops ≤ 16) ⌝ }
@@ -67,14 +48,29 @@ pub struct Halves {
     pub rest: u64,
 }
 
+// The first h hops of a chain, and the chain behind them, taken apart hop by hop.
+fn split_at(chain: u64, h: u64) -> Halves
+    requires { ⌜ (h ≤ 16) × (h ≤ length (unpack chain)) ⌝ }
+    ensures { λ r. ⌜ SplitAt h (unpack chain) r ⌝ }
+{
+    if h == 0 {
+        return Halves {
+            front: 0,
+            rest: chain,
+        };
+    }
+    let first = packed::first_hop(chain);
+    let inner = packed::rest_hops(chain);
+    let behind = split_at(inner, h - 1);
+    Halves {
+        front: packed::push(behind.front, first),
+        rest: behind.rest,
+    }
+}
+
 pub fn split(chain: u64) -> Halves
     requires { ⌜ (2 ≤ length (unpack chain)) × (length (unpack chain) ≤ 16) ⌝ }
     ensures { λ r. ⌜ HalvesOf (unpack chain) r ⌝ }
 {
-    let h = half(hops(chain));
-    let behind = rest(chain, h);
-    Halves {
-        front: front(chain, behind, h),
-        rest: behind,
-    }
+    split_at(chain, half(hops(chain)))
 }

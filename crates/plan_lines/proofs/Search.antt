@@ -7,7 +7,8 @@ use native.Mathlib.Omega.{arith}
 use lib.ListN.{length, getD, take, length-map}
 use lib.Seq.{length-take-le, getD-take}
 use Rattle.plan_theory.specs.Plan.{read, lineIndex, line}
-use Rattle.plan_theory.proofs.Places.{place-le, place-at, place-past}
+use Rattle.plan_theory.specs.Promise.{Ordered}
+use Rattle.plan_theory.proofs.Places.{place-line, place-le, place-at, place-past}
 use Rattle.plan_keys.specs.Keys.{factOf}
 use Rattle.plan_lines.specs.Held.{factsIn}
 use Rattle.plan_keys.proofs.Keys.{fact-injective}
@@ -36,3 +37,13 @@ module _ (keys : List ℕ) (n : ℕ) (within : n ≤ length keys) where
 
     pub search-ended : i ≡ n → n ≡ lineIndex (factsIn keys n) (factOf key)
     search-ended e = omega (arith, facts-length, place-le (factsIn keys n) (factOf key))
+
+  -- from the last line on: each stands only once
+  module _ (key i : ℕ) (h : i < n) where
+    pub last-found : Ordered (factsIn keys n) → getD keys i 0 ≡ key → lineIndex (factsIn keys n) (factOf key) ≡ i
+    last-found o e = ap (lineIndex (factsIn keys n)) (sym (facts-line i h ∙ ap factOf e)) ∙ o i (omega (arith, facts-length)) .once
+
+    pub last-past : getD keys i 0 ≢ key → lineIndex (factsIn keys n) (factOf key) ≢ i
+    last-past d e =
+        let listed = place-line (factsIn keys n) (factOf key) (omega (arith, facts-length)) in
+        d (fact-injective _ _ (sym (facts-line i h) ∙ ap (line (factsIn keys n)) (sym e) ∙ listed))

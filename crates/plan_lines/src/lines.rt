@@ -38,7 +38,8 @@ pub fn is_settled(keys: &[u64; 64], count: usize, key: u64) -> bool
     true
 }
 
-// The line of a need. One without a line of its own is not searched for.
+// The line of a need. One without a line of its own is not searched for; the others mostly are the last lines, so that the
+// search begins there.
 fn index_of(keys: &[u64; 64], count: usize, key: u64) -> u8
     requires { ⌜ Keyed (now keys) count × Ordered (factsIn (now keys) count) ⌝ }
     ensures { λ r. ⌜ r ≡ index (factsIn (now (keys .entry)) count) (factOf key) ⌝ }
@@ -46,8 +47,14 @@ fn index_of(keys: &[u64; 64], count: usize, key: u64) -> u8
     if !has_line(key) {
         return NO_LINE;
     }
-    let at = find(keys, count, key);
-    if at < count { at as u8 } else { NO_LINE }
+    let mut left = count;
+    while 0 < left {
+        left -= 1;
+        if keys[left] == key {
+            return left as u8;
+        }
+    }
+    NO_LINE
 }
 
 // The round of a need's line, 0 where it has none.

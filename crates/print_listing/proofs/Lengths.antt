@@ -26,10 +26,10 @@ header-length a b c d ha hb hc hd =
     simp length-append (omega (arith, decimal-length 19 a ha, decimal-length 19 b hb, decimal-length 19 c hc, decimal-length 19 d hd))
 
 module _ (s : Sizes) (cells : List Cell) (l : Limits s) (fit : (j : ℕ) → SFits w32 (valueOf (getD cells j Missing))) where
-  record-length : (u : ℕ) → u < s .records → length (recordLine s cells u) ≤ 21 + width s * 12
+  record-length : (u : ℕ) → u < s .records → length (recordLine s cells u) ≤ 21 + width s * 13
   unfolding recordLine fieldText
   record-length u h =
-      let fields = row-length (fieldText s cells u) 12 (width s) (λ f k. omega (arith, cell-length _ (fit (cellIndex s u f)))) in
+      let fields = row-length (fieldText s cells u) 13 (width s) (λ f k. omega (arith, cell-length _ (fit (cellIndex s u f)))) in
       simp length-append (omega (arith, decimal-length 19 u (omega (arith, l .records≤)), fields))
 
   pub listing-length : cellCount s ≤ 100 → (finished exchanges letters : ℕ) → Short finished → Short exchanges → Short letters
@@ -37,7 +37,7 @@ module _ (s : Sizes) (cells : List Cell) (l : Limits s) (fit : (j : ℕ) → SFi
   unfolding listing cellCount
   listing-length few finished exchanges letters hf he hl =
       let first = header-length (s .records) finished exchanges letters (omega (arith, l .records≤)) hf he hl in
-      let records = row-length (recordLine s cells) (21 + width s * 12) (s .records) record-length in
+      let records = row-length (recordLine s cells) (21 + width s * 13) (s .records) record-length in
       simp length-append (omega (arith, l .records≤, first, records))
 
 pub refused-length : (n k : ℕ) → Short n → Short k → length (refusedLine n k) ≤ pageRoom

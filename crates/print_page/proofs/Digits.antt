@@ -8,13 +8,13 @@ use native.Mathlib.Omega.{arith}
 use native.Mathlib.Nat.{pow-suc, one-le-pow, mod-lt, mod-eq-of-lt, le-div-iff-mul-le, div-lt-iff-lt-mul}
 use borrow.Author.Tests.{lt-ltb, le-ltb}
 use lib.ListN.{length, length-append}
-use lib.IntN.{pos, negsuc}
+use lib.IntN.{ℤ, pos, negsuc}
 use mir.Syntax.{w32}
 use mir.Val.{SFits}
 use Rattle.laws.proofs.Bools.{cond-both}
 use Rattle.register.specs.Cells.{valueOf}
 use Rattle.register.specs.declared.cells.Cell.{Cell}
-use Rattle.register.specs.declared.cells.Cell.the-variants.{Missing, Value}
+use Rattle.register.specs.declared.cells.Cell.the-variants.{Missing, Measured, WorkedOut}
 use Rattle.io.specs.Digits.{digits, glyph, Fewest}
 use Rattle.print_page.specs.Decimal.{digit, digitsWithin, decimalText, valueText, cellText}
 
@@ -70,8 +70,14 @@ unfolding decimalText
 decimal-length k n h = within-length (suc n) k n h
 
 -- ten digits and a minus
-pub cell-length : (c : Cell) → SFits w32 (valueOf c) → length (cellText c) ≤ 11
-unfolding cellText valueText valueOf
+value-length : (z : ℤ) → SFits w32 z → length (valueText z) ≤ 11
+unfolding valueText
+value-length (pos n) h = omega (arith, decimal-length 9 n (omega (arith, h .sfits)))
+value-length (negsuc n) h = omega (arith, decimal-length 9 (suc n) (omega (arith, h .sfits)))
+
+-- and a `~` behind them
+pub cell-length : (c : Cell) → SFits w32 (valueOf c) → length (cellText c) ≤ 12
+unfolding cellText valueOf
 cell-length Missing h = omega arith
-cell-length (Value (pos n)) h = omega (arith, decimal-length 9 n (omega (arith, h .sfits)))
-cell-length (Value (negsuc n)) h = omega (arith, decimal-length 9 (suc n) (omega (arith, h .sfits)))
+cell-length (Measured z) h = omega (arith, value-length z h)
+cell-length (WorkedOut z) h = simp length-append (omega (arith, value-length z h))

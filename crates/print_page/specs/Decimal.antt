@@ -5,7 +5,7 @@ use mathlib.Core.List.{List, [], _∷_, _++_}
 use lib.Dec.{ltb}
 use lib.IntN.{ℤ, pos, negsuc}
 use Rattle.register.specs.declared.cells.Cell.{Cell}
-use Rattle.register.specs.declared.cells.Cell.the-variants.{Missing, Value}
+use Rattle.register.specs.declared.cells.Cell.the-variants.{Missing, Measured, WorkedOut}
 use Rattle.laws.specs.Bytes.{bytes}
 
 -- the byte of a digit: 48 is `0`
@@ -26,7 +26,8 @@ unfoldable pub valueText : ℤ → List ℕ
 valueText (pos n) = decimalText n
 valueText (negsuc n) = bytes "-" ++ decimalText (suc n)
 
--- a cell: "`-` for unfilled"
+-- a cell: "`-` for unfilled"; "The listing puts `~` after a worked-out value" (M-107)
 unfoldable pub cellText : Cell → List ℕ
 cellText Missing = bytes "-"
-cellText (Value z) = valueText z
+cellText (Measured z) = valueText z
+cellText (WorkedOut z) = valueText z ++ bytes "~"

@@ -1,6 +1,6 @@
 // Bytes, numbers and cells, put on the page at a place: each function answers the place behind what it put.
 ghost use mathlib.Core.Path.{_≡_};
-ghost use mathlib.Core.List.{[], _∷_};
+ghost use mathlib.Core.List.{[], _∷_, _++_};
 ghost use lib.IntN.{natAbs};
 ghost use Rattle.print_page.specs.Decimal.{decimalText, valueText, cellText};
 ghost use Rattle.print_page.specs.Put.{PageRoom, PagePut};
@@ -55,13 +55,23 @@ fn put_value(page: &mut [u8], at: usize, value: i32) -> usize
     put_number(page, at, magnitude(value))
 }
 
-// "`-` for unfilled"
+// A value, and what stands behind it.
+fn put_followed(page: &mut [u8], at: usize, value: i32, behind: &[u8]) -> usize
+    requires { ⌜ PageRoom at (valueText value ++ now behind) (now page) ⌝ }
+    ensures { λ r. ⌜ PagePut at (valueText value ++ now (behind .entry)) (now (page .entry)) (now (page .exit)) r ⌝ }
+{
+    let next = put_value(page, at, value);
+    put_bytes(page, next, behind)
+}
+
+// "`-` for unfilled", and "`~` after a worked-out value"
 pub fn put_cell(page: &mut [u8], at: usize, cell: Cell) -> usize
     requires { ⌜ PageRoom at (cellText cell) (now page) ⌝ }
     ensures { λ r. ⌜ PagePut at (cellText cell) (now (page .entry)) (now (page .exit)) r ⌝ }
 {
     match cell {
         Cell::Missing => put_byte(page, at, b'-'),
-        Cell::Value(value) => put_value(page, at, value),
+        Cell::Measured(value) => put_followed(page, at, value, b""),
+        Cell::WorkedOut(value) => put_followed(page, at, value, b"~"),
     }
 }

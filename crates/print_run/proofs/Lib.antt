@@ -1,5 +1,4 @@
 -- Laws for the proofs of the functions.
 pub mod Enough
 pub mod Positive
-pub mod Valid
 pub mod Printing

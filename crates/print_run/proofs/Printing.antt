@@ -20,6 +20,7 @@ use Rattle.register.proofs.Roundtrip.{Loads, Bytes, decode-encode}
 use Rattle.program.specs.Program.{Program}
 use Rattle.text_rules.specs.Text.{check}
 use Rattle.machine.specs.Run.{Ending, complete, exhausted, offended, Run, direct, run}
+use Rattle.machine.proofs.Ending.{run-valid}
 use Rattle.machine_messages.specs.By.{exchangesBy, messagesBy}
 use Rattle.machine_messages.specs.declared.Machine.the-variants.{Messages}
 use Rattle.gather.specs.declared.counts.Counts.{Counts}
@@ -38,7 +39,6 @@ use Rattle.print_run.specs.Behind.{among, behindAt}
 use Rattle.print_run.specs.RanBy.{RanBy, Whole, ranPage}
 use Rattle.print_run.specs.Page.{printedRun, refusedPage, endedPage, outcomePage, printedPage}
 use Rattle.print_run.proofs.Positive.{refusal-positive}
-use Rattle.print_run.proofs.Valid.{run-valid}
 
 -- the page of an answer that is refused
 abbrev answerPage : RunAnswer → List ℕ
@@ -77,7 +77,7 @@ module _ {file text out out′ : List ℕ} {r : Ran} (h : RanBy file text out ou
   unfolding endedPage
   stopped-page x k complete e z = absurd (z (ap (λ (a : RunAnswer). a .refusal) (e .0)))
   stopped-page x k exhausted e z = ap (refusedPage 20 0) (sym (k .finished-is)) ∙ ap answerPage (sym (e .0))
-  stopped-page x k (offended rs before) e z = cc (e .0, e .1, k .finished-is)
+  stopped-page x k (offended o) e z = ap (refusedPage 21 0) (sym (k .finished-is)) ∙ ap answerPage (sym (e .0))
 
   -- any outcome that is
   refused-page : (o : Outcome Run) → Answered Messages o file out (h .values) (h .marks) out′ (h .values′) (h .marks′) answer → answer .refusal ≢ 0
@@ -94,7 +94,7 @@ module _ {file text out out′ : List ℕ} {r : Ran} (h : RanBy file text out ou
   complete-page x k complete e z =
       (e .1, cc (k .finished-is, ap (λ (c : Counts). c .exchanges) (k .counts-are), ap (λ (c : Counts). c .messages) (k .counts-are)))
   complete-page x k exhausted e z = absurd (omega (arith, z, ap (λ (a : RunAnswer). a .refusal) (e .0)))
-  complete-page x k (offended rs before) e z = absurd (omega (arith, z, e .0))
+  complete-page x k (offended o) e z = absurd (omega (arith, z, ap (λ (a : RunAnswer). a .refusal) (e .0)))
 
   ran-refused : r .refusal ≢ 0 → outcomePage (sizesOf file) (printedRun file text) ≡ refusedPage (r .refusal) (r .line) (r .finished)
   ran-refused z = rw (h .numbers) (refused-page (printedRun file text) (h .answered) (rw (h .numbers) at z))
@@ -116,7 +116,7 @@ module _ {file text out out′ : List ℕ} {r : Ran} (h : RanBy file text out ou
           let o : printedRun file text ≡ done x = rw e in
           let answered = rw o at (h .answered) in
           let (output, page) = complete-page x answered (x .ending) (answered .ended) none in
-          let valid = run-valid 1000 (passed file text e) (register file text e bytes .valid) in
+          let valid = run-valid s (passed file text e) (register file text e bytes .valid) 1000 in
           let cells : cellsOfFile s out′ ≡ x .cells = ap (cellsOfFile s) output ∙ decode-encode s (x .cells) valid in
           record { loads = loaded file text e; page-is = rw (h .numbers, cells) (ap (outcomePage s) o ∙ page); fit = rw cells (valid .values) }
 

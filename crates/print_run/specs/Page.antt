@@ -26,7 +26,7 @@ refusedPage n line finished = refusedLine n (behindAt n line finished)
 unfoldable pub endedPage : Sizes → Ending → Run → List ℕ
 endedPage s complete x = listing s (x .cells) (length (x .trace)) (traceExchanges (x .trace)) (traceMessages s (x .trace))
 endedPage s exhausted x = refusedPage 20 0 (length (x .trace))
-endedPage s (offended rs before) x = refusedPage 21 0 (length (x .trace))
+endedPage s (offended o) x = refusedPage 21 0 (length (x .trace))
 
 -- a run, or a refusal of the check, at its line where it has one
 unfoldable pub outcomePage : Sizes → Outcome Run → List ℕ

@@ -11,52 +11,63 @@ use lib.Seq.{sets, length-sets, getD-drop, drop-at, set-append-left}
 use mir.Syntax.{w32}
 use mir.Val.{SFits}
 use Rattle.integers.specs.Bytes.{wordBytes, valueAt, valueBytes}
+use Rattle.integers.specs.Factor.{factor}
 use Rattle.integers.proofs.Bytes.{valueBytes-length, value-read, value-behind, value-again}
 use Rattle.integers.proofs.Product.{times-zero, times-one}
 use Rattle.register.specs.Cells.{valueOf, markOf, cellOf, Canonical, cellAt, cellsOf, valuesOf, marksOf}
 use Rattle.register.specs.File.{cellCount, putCell, putMarked, fileOf}
 use Rattle.register.specs.declared.Sizes.{Sizes}
 use Rattle.register.specs.declared.cells.Cell.{Cell}
-use Rattle.register.specs.declared.cells.Cell.the-variants.{Missing, Value}
+use Rattle.register.specs.declared.cells.Cell.the-variants.{Missing, Measured, WorkedOut}
 
 -- a cell from its value and mark, and back
 pub cellOf-kept : (c : Cell) → cellOf (valueOf c) (markOf c) ≡ c
 unfolding cellOf valueOf markOf
 cellOf-kept Missing = refl
-cellOf-kept (Value z) = refl
+cellOf-kept (Measured z) = refl
+cellOf-kept (WorkedOut z) = refl
 
-pub markOf-cellOf : (z : ℤ) (mark : ℕ) → mark ≤ 1 → markOf (cellOf z mark) ≡ mark
+-- any mark above 1 is that of a worked-out cell
+pub cellOf-worked : (z : ℤ) (k : ℕ) → cellOf z (suc (suc k)) ≡ WorkedOut z
+unfolding cellOf
+cellOf-worked z k = simp (ne-eqb (suc (suc k)) 0 (λ e. omega arith), ne-eqb (suc (suc k)) 1 (λ e. omega arith))
+
+pub markOf-cellOf : (z : ℤ) (mark : ℕ) → mark ≤ 2 → markOf (cellOf z mark) ≡ mark
 unfolding cellOf markOf
 markOf-cellOf z zero h = refl
 markOf-cellOf z (suc zero) h = refl
-markOf-cellOf z (suc (suc k)) h = absurd (omega arith)
+markOf-cellOf z (suc (suc zero)) h = refl
+markOf-cellOf z (suc (suc (suc k))) h = absurd (omega arith)
 
 pub valueOf-cellOf : (z : ℤ) (mark : ℕ) → (mark ≡ 0 → z ≡ pos 0) → valueOf (cellOf z mark) ≡ z
 unfolding cellOf valueOf
 valueOf-cellOf z zero h = sym (h refl)
-valueOf-cellOf z (suc k) h = simp (ne-eqb (suc k) 0 (λ e. omega arith))
+valueOf-cellOf z (suc zero) h = refl
+valueOf-cellOf z (suc (suc k)) h = ap valueOf (cellOf-worked z k)
 
 pub cellOf-fits : (z : ℤ) (mark : ℕ) → SFits w32 z → SFits w32 (valueOf (cellOf z mark))
 unfolding cellOf valueOf
 cellOf-fits z zero h = record { sfits = omega arith }
-cellOf-fits z (suc k) h = rw (ne-eqb (suc k) 0 (λ e. omega arith)) h
+cellOf-fits z (suc zero) h = h
+cellOf-fits z (suc (suc k)) h = rw (cellOf-worked z k) h
 
 -- the value and the mark of a cell are such as a file may hold, and such are those of their cell
 pub cell-canonical : (c : Cell) → Canonical (valueOf c) (markOf c)
 unfolding valueOf markOf
 cell-canonical Missing = record { mark≤ = omega arith; missing = λ e. refl }
-cell-canonical (Value z) = record { mark≤ = omega arith; missing = λ e. absurd (omega arith) }
+cell-canonical (Measured z) = record { mark≤ = omega arith; missing = λ e. absurd (omega arith) }
+cell-canonical (WorkedOut z) = record { mark≤ = omega arith; missing = λ e. absurd (omega arith) }
 
--- value × mark is the value of the cell, so that the writer's bytes are those of a cell
-pub times-cell : (z : ℤ) (mark : ℕ) → mark ≤ 1 → z *ℤ pos mark ≡ valueOf (cellOf z mark)
-unfolding cellOf valueOf
-times-cell z zero h = times-zero z
-times-cell z (suc zero) h = times-one z
-times-cell z (suc (suc k)) h = absurd (omega arith)
+-- a value times the factor of its mark is the value of the cell, so that the writer's bytes are those of a cell
+pub times-cell : (z : ℤ) (mark : ℕ) → z *ℤ pos (factor mark) ≡ valueOf (cellOf z mark)
+unfolding cellOf valueOf factor
+times-cell z zero = times-zero z
+times-cell z (suc zero) = times-one z
+times-cell z (suc (suc k)) = times-one z ∙ sym (ap valueOf (cellOf-worked z k))
 
-pub putMarked-cell : (s : Sizes) (j : ℕ) (z : ℤ) (mark : ℕ) (file : List ℕ) → mark ≤ 1 → putMarked s j z mark file ≡ putCell s j (cellOf z mark) file
+pub putMarked-cell : (s : Sizes) (j : ℕ) (z : ℤ) (mark : ℕ) (file : List ℕ) → mark ≤ 2 → putMarked s j z mark file ≡ putCell s j (cellOf z mark) file
 unfolding putMarked putCell
-putMarked-cell s j z mark file h = simp (times-cell z mark h, markOf-cellOf z mark h)
+putMarked-cell s j z mark file h = simp (times-cell z mark, markOf-cellOf z mark h)
 
 -- lengths
 pub marksOf-length : (cs : List Cell) → length (marksOf cs) ≡ length cs

@@ -5,7 +5,7 @@ use mathlib.Core.Logic.{_≢_}
 use mathlib.Core.Bool.{Bool, true, false}
 use native.Mathlib.Omega.{arith}
 use native.Mathlib.Numerals.{add-one}
-use borrow.Author.Tests.{lt-ltb}
+use borrow.Author.Tests.{lt-ltb, le-ltb, ne-eqb}
 use lib.IntN.{ℤ, pos}
 use Rattle.integers.specs.Range.{eqZ, isIndex}
 use Rattle.laws.specs.Outcome.{first}
@@ -37,9 +37,9 @@ module _ (f : ℕ → ℕ) (i : ℕ) (k : Check) (so-far : first i f ≡ 0) (nex
       here ∙ sym (first-found f n i so-far (λ z. number-positive r (here ∙ z)) l)
 
 module _ (n : ℕ) (reference : Bool) (z : ℤ) (mark : ℕ) where
-  pub refused-mark : 1 < mark → cellRefusal n reference z mark ≡ 3
+  pub refused-mark : 2 < mark → cellRefusal n reference z mark ≡ 3
   unfolding cellRefusal
-  refused-mark h = simp (lt-ltb 1 mark h)
+  refused-mark h = simp (lt-ltb 2 mark h)
 
   pub missing-zero : mark ≡ 0 → eqZ z (pos 0) ≡ true → cellRefusal n reference z mark ≡ 0
   unfolding cellRefusal
@@ -50,18 +50,15 @@ module _ (n : ℕ) (reference : Bool) (z : ℤ) (mark : ℕ) where
   refused-missing h e = simp (h, e)
 
   -- a filled cell
-  module _ (low : mark ≤ 1) (filled : mark ≢ 0) where
-    one : mark ≡ 1
-    one = omega arith
-
+  module _ (low : mark ≤ 2) (filled : mark ≢ 0) where
     pub filled-measure : reference ≡ false → cellRefusal n reference z mark ≡ 0
     unfolding cellRefusal
-    filled-measure e = simp (one, e)
+    filled-measure e = simp (le-ltb 2 mark low, ne-eqb mark 0 filled, e)
 
     pub filled-reference : reference ≡ true → isIndex n z ≡ true → cellRefusal n reference z mark ≡ 0
     unfolding cellRefusal
-    filled-reference e i = simp (one, e, i)
+    filled-reference e i = simp (le-ltb 2 mark low, ne-eqb mark 0 filled, e, i)
 
     pub refused-reference : reference ≡ true → isIndex n z ≡ false → cellRefusal n reference z mark ≡ 5
     unfolding cellRefusal
-    refused-reference e i = simp (one, e, i)
+    refused-reference e i = simp (le-ltb 2 mark low, ne-eqb mark 0 filled, e, i)

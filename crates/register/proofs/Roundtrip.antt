@@ -194,6 +194,10 @@ module _ (s : Sizes) (cs : List Cell) (v : Valid s cs) where
   unfolding cellsOfFile
   decode-encode = ap₂ cellsOf values-read marks-read ∙ cellsOf-arrays cs (v .values)
 
+  -- the file of such cells is a register
+  pub encoded-register : Register s (fileOf s cs)
+  encoded-register = record { valid = rw decode-encode v; file-is = ap (fileOf s) (sym decode-encode); whole = whole-length }
+
 -- the two parts of a register hold the value and the mark of each of its cells
 module _ (s : Sizes) (file : List ℕ) (r : Register s file) (j : ℕ) where
   pub register-value : j < cellCount s → valueAt (valuesPart s file) (4 * j) ≡ valueOf (getD (cellsOfFile s file) j Missing)

@@ -8,25 +8,27 @@ use lib.IntN.{ℤ, pos}
 use lib.ListN.{getD, drop}
 use Rattle.integers.specs.Bytes.{valueAt, valueBytes}
 use Rattle.register.specs.declared.cells.Cell.{Cell}
-use Rattle.register.specs.declared.cells.Cell.the-variants.{Missing, Value}
+use Rattle.register.specs.declared.cells.Cell.the-variants.{Missing, Measured, WorkedOut}
 
 -- "An unfilled cell has value 0."
 unfoldable pub valueOf : Cell → ℤ
 valueOf Missing = pos 0
-valueOf (Value z) = z
+valueOf (Measured z) = z
+valueOf (WorkedOut z) = z
 
--- the mark: 1 filled, 0 unfilled
+-- the mark: 0 unfilled, 1 measured; "Mark 2 is "worked out", and a cell with mark 1 or 2 is filled." (M-107)
 unfoldable pub markOf : Cell → ℕ
 markOf Missing = 0
-markOf (Value z) = 1
+markOf (Measured z) = 1
+markOf (WorkedOut z) = 2
 
 -- the cell of a value and its mark
 unfoldable pub cellOf : ℤ → ℕ → Cell
-cellOf z mark = cond (eqb mark 0) Missing (Value z)
+cellOf z mark = cond (eqb mark 0) Missing (cond (eqb mark 1) (Measured z) (WorkedOut z))
 
 -- a value and a mark that a file may hold
 pub record Canonical (z : ℤ) (mark : ℕ) : Type 0 where
-  pub mark≤ : mark ≤ 1
+  pub mark≤ : mark ≤ 2
   pub missing : mark ≡ 0 → z ≡ pos 0
 
 -- cell j of the two parallel arrays, values and marks

@@ -5,6 +5,7 @@ use lib.IntN.{ℤ, pos, _*ℤ_}
 use lib.ListN.{take, drop, set}
 use lib.Seq.{sets}
 use Rattle.integers.specs.Bytes.{wordAt, wordBytes, valueBytes}
+use Rattle.integers.specs.Factor.{factor}
 use Rattle.register.specs.Cells.{valueOf, markOf, cellsOf, valuesOf, marksOf}
 use Rattle.register.specs.declared.Sizes.{Sizes}
 use Rattle.register.specs.declared.cells.Cell.{Cell}
@@ -45,6 +46,6 @@ fileOf s cells =
 unfoldable pub putCell : Sizes → ℕ → Cell → List ℕ → List ℕ
 putCell s j c file = set (sets file (12 + 4 * j) (valueBytes (valueOf c))) (12 + 4 * cellCount s + j) (markOf c)
 
--- the file with a value and its mark at place j: the four bytes are those of value × mark
+-- the file with a value and its mark at place j: the four bytes are those of the value times the factor of its mark
 unfoldable pub putMarked : Sizes → ℕ → ℤ → ℕ → List ℕ → List ℕ
-putMarked s j z mark file = set (sets file (12 + 4 * j) (valueBytes (z *ℤ pos mark))) (12 + 4 * cellCount s + j) mark
+putMarked s j z mark file = set (sets file (12 + 4 * j) (valueBytes (z *ℤ pos (factor mark)))) (12 + 4 * cellCount s + j) mark

@@ -21,12 +21,13 @@ use Rattle.register.specs.File.{width, cellCount, cellIndex, sizesOf, va
 unfoldable pub withinLimits : Sizes → Bool
 withinLimits s = leb (s .records) 4096 && leb (s .references) 8 && leb (s .measures) 8
 
--- 3 a mark above 1; 4 unfilled with value not 0; 5 a reference outside 0 to n − 1; 0 for a cell with none of these
+-- "Refusal 3 now begins above 2" (M-107); 4 unfilled with value not 0; 5 a filled reference outside 0 to n − 1; 0 for a cell with
+-- none of these
 unfoldable pub cellRefusal : ℕ → Bool → ℤ → ℕ → ℕ
 cellRefusal n reference z mark =
-    cond (ltb 1 mark) 3
+    cond (ltb 2 mark) 3
     (cond (eqb mark 0 && not (eqZ z (pos 0))) 4
-    (cond (eqb mark 1 && reference && not (isIndex n z)) 5
+    (cond (not (eqb mark 0) && reference && not (isIndex n z)) 5
     0))
 
 -- the refusal of the cell of record u and field f

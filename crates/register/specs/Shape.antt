@@ -12,7 +12,7 @@ use Rattle.laws.specs.Outcome.{first}
 use Rattle.register.specs.Cells.{valueOf}
 use Rattle.register.specs.declared.Sizes.{Sizes}
 use Rattle.register.specs.declared.cells.Cell.{Cell}
-use Rattle.register.specs.declared.cells.Cell.the-variants.{Missing, Value}
+use Rattle.register.specs.declared.cells.Cell.the-variants.{Missing, Measured, WorkedOut}
 use Rattle.register.specs.File.{width, cellCount, cellIndex, fileOf, cellsOfFile}
 use Rattle.register.specs.Load.{refusalAt}
 
@@ -31,7 +31,8 @@ pub record Parts (s : Sizes) (values marks : List ℕ) : Type 0 where
 -- "A filled reference is 0 to n − 1."
 unfoldable pub refersWithin : ℕ → Cell → Bool
 refersWithin n Missing = true
-refersWithin n (Value z) = isIndex n z
+refersWithin n (Measured z) = isIndex n z
+refersWithin n (WorkedOut z) = isIndex n z
 
 -- cells that a register of these sizes may hold
 pub record Valid (s : Sizes) (cells : List Cell) : Type 0 where

@@ -10,10 +10,11 @@ ghost use lib.Seq.{sets};
 ghost use Rattle.integers.specs.Bytes.{valueBytes};
 use crate::Sizes;
 
-// Document 01's cell: unfilled, or filled with a value.
+// Document 01's cell: unfilled, or filled with a value that was measured or (M-107) worked out by a rule.
 pub enum Cell {
     Missing,
-    Value(i32),
+    Measured(i32),
+    WorkedOut(i32),
 }
 
 // The values, a part of the file behind the sizes.
@@ -39,15 +40,20 @@ pub fn cell_at(cells: &[u8], filled: &[u8], j: usize) -> Cell
     requires { ⌜ (4 * j + 4 ≤ length (now cells)) × (j < length (now filled)) ⌝ }
     ensures { λ r. ⌜ r ≡ cellAt (now (cells .entry)) (now (filled .entry)) j ⌝ }
 {
-    if filled[j] == 0 {
+    let mark = filled[j];
+    if mark == 0 {
         return Cell::Missing;
     }
-    Cell::Value(integers::value_at(cells, 4 * j))
+    let value = integers::value_at(cells, 4 * j);
+    if mark == 1 {
+        return Cell::Measured(value);
+    }
+    Cell::WorkedOut(value)
 }
 
-// Cell j of a file, from a value and its mark: the bytes of value × mark, and no branch on the mark.
+// Cell j of a file, from a value and its mark: the bytes of the value times the factor of its mark, and no branch on it.
 pub fn put_cell(file: &mut [u8], sizes: Sizes, j: usize, value: i32, mark: u8)
-    requires { ⌜ Limits sizes × (length (now file) ≡ 12 + 5 * cellCount sizes) × (j < cellCount sizes) × (mark ≤ 1) ⌝ }
+    requires { ⌜ Limits sizes × (length (now file) ≡ 12 + 5 * cellCount sizes) × (j < cellCount sizes) × (mark ≤ 2) ⌝ }
     ensures { λ _. ⌜ now (file .exit) ≡ putMarked sizes j value mark (now (file .entry)) ⌝ }
 {
     let split = 12 + 4 * crate::cell_count(sizes);

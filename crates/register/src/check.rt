@@ -18,7 +18,7 @@ fn check_cell(records: usize, reference: bool, value: i32, mark: u8) -> Check
     requires { ⌜ records ≤ 4096 ⌝ }
     ensures { λ r. ⌜ checkNumber r ≡ cellRefusal records reference value mark ⌝ }
 {
-    if 1 < mark {
+    if 2 < mark {
         return Check::Failed(Refusal::Mark);
     }
     if mark == 0 {

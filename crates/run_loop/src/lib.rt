@@ -19,7 +19,7 @@ use register::cells;
 use scratch;
 use scratch::column;
 
-// "The same, values and marks".
+// Whether the same is read, value and whether filled: "not 1 against 2" (M-107).
 fn same_reading(x: Reading, y: Reading) -> bool
     ensures { λ r. ⌜ r ≡ sameReadingOf x y ⌝ }
 {

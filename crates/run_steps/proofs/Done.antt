@@ -12,12 +12,14 @@ use Rattle.register.specs.declared.Sizes.{Sizes}
 use Rattle.register.specs.declared.cells.Cell.{Cell}
 use Rattle.register.specs.declared.cells.Cell.the-variants.{Missing}
 use Rattle.program.specs.declared.location.Located.{Located}
+use Rattle.program.specs.declared.frame.Frame.{Frame}
 use Rattle.program.specs.Kept.{programOf}
 use Rattle.program.specs.declared.Program as R
 use Rattle.machine.specs.Run.{begins, direct}
 use Rattle.machine.specs.Step.{stepCells}
 use Rattle.machine.proofs.Untouched.{step-untouched}
 use Rattle.machine.proofs.Folding.{stepCells-length}
+use Rattle.machine.proofs.Stops.{offence-sum}
 use Rattle.machine_messages.specs.declared.Machine.{Machine}
 use Rattle.scratch.specs.Places.{Kept}
 use Rattle.scratch.proofs.Placed.{kept-again}
@@ -28,9 +30,9 @@ use Rattle.step_cells.proofs.Working.{same-then, proper-held}
 use Rattle.step_rules.specs.Delivered.{Delivered}
 use Rattle.step_rules.specs.Stepped.{GoesThrough}
 use Rattle.step_rules.proofs.Remotes.{silent-step}
-use Rattle.step_rules.proofs.Stepping.{AllDone, all-done, local-stops, goes-through, total-stops}
+use Rattle.step_rules.proofs.Stepping.{AllDone, all-done, goes-through, total-stops}
 use Rattle.step_commit.specs.Committed.{isWritten, AllCommitted, Committed}
-use Rattle.step_commit.proofs.Committing.{stop-out-of-range, committed-in-range, committed-file}
+use Rattle.step_commit.proofs.Committing.{stop-first, committed-in-range, committed-file}
 use Rattle.run_loop.specs.Column.{Space, HasPass, NextIs}
 use Rattle.gather.specs.Counted.{countsAfter}
 use Rattle.gather.specs.declared.counts.Counts.{Counts}
@@ -51,13 +53,14 @@ kept-below {base} {j} {values} {values′} {marks} {marks′} h a =
     }
 
 module _ {m : Machine} {s : Sizes} {p : R.Program} {budget : ℕ} {file : List ℕ} {step first finished : ℕ} {counts : Counts}
-    {out : List ℕ} {values : List ℤ} {marks : List ℕ} {a : Turn m s p budget file step first finished counts out values marks}
+    {out : List ℕ} {values : List ℤ} {marks : List ℕ} {f : Frame} {a : Turn m s p budget file step first finished counts out values marks f}
     {places : List Located} {values₁ values₂ : List ℤ} {marks₁ marks₂ : List ℕ} {r : Counts} where
   -- a local sum is out of range
   pub ends-local : (b : Prepared a places values₁ marks₁ values₂ marks₂ r) {values₃ : List ℤ} {marks₃ : List ℕ} {u c : ℕ}
       → Applied b values₃ marks₃ (At u c) → Ends m s (programOf p) budget file out (stoppedAt finished counts u c)
   unfolding direct
-  ends-local b h = stands-offended (a .stands) (inside a) (a .later) (local-stops s out (rs a) (rw (rules-taken b) at (h .1)))
+  ends-local b h =
+      stands-offended (a .stands) (inside a) (a .later) (offence-sum s (direct s (rs a) (cells a)) (rs a) (cells a) (rw (rules-taken b) at (h .1)))
 
   -- the rules of the step are done, local and remote
   pub record Done (b : Prepared a places values₁ marks₁ values₂ marks₂ r) (values₄ : List ℤ) (marks₄ : List ℕ) (sent : ℕ) : Type 0 where
@@ -105,17 +108,15 @@ module _ {m : Machine} {s : Sizes} {p : R.Program} {budget : ℕ} {file : List �
     pub ends-total : {out′ : List ℕ} {o : Stop} {u c : ℕ} → Committed s (base a) (frame a .fields) values₄ marks₄ out out′ o → o ≡ At u c
         → Ends m s (programOf p) budget file out′ (stoppedAt finished counts u c)
     unfolding direct
-    ends-total {out′} h e =
-        let c = rw e at h in
-        stands-offended (a .stands) (inside a) (a .later)
-        (total-stops s out (rs a) out′ (c .row) (c .col) (stop-out-of-range s after after-count (base a) after-held c) (c .length-is))
+    ends-total h e =
+        stands-offended (a .stands) (inside a) (a .later) (total-stops s out (rs a) (d .all) (stop-first s after after-count (base a) after-held (rw e at h)))
 
     -- or the step goes through
     goes : {out′ : List ℕ} → AllCommitted s (base a) (frame a .fields) values₄ marks₄ out out′
         → GoesThrough s (direct s (rs a) (cells a)) (rs a) out out′ (base a) values₄ marks₄ sent
     unfolding direct
-    goes {out′} c =
-        goes-through s out (rs a) out′ (d .all) (committed-in-range s after after-count (base a) after-held (a .stands .register) untouched c)
+    goes c =
+        goes-through s out (rs a) (d .all) (committed-in-range s after after-count (base a) after-held (a .stands .register) untouched c)
         (committed-file s after after-count (base a) after-held (a .stands .register) untouched c)
 
   -- the step went through: its cells stand in the file, and the column of the loop where it stood

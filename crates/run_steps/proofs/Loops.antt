@@ -5,16 +5,15 @@ use mathlib.Core.List.{List}
 use native.Mathlib.Omega.{arith}
 use lib.IntN.{ℤ}
 use lib.ListN.{length, getD, take}
-use Rattle.register.specs.Shape.{Limits}
 use Rattle.register.specs.declared.Sizes.{Sizes}
 use Rattle.register.specs.declared.cells.Cell.{Cell}
 use Rattle.program.specs.declared.location.Located.{Located}
-use Rattle.program.specs.Stored.{ruleIn, rulesIn}
+use Rattle.program.specs.Stored.{rulesIn}
 use Rattle.step_cells.specs.Work.{Same}
 use Rattle.step_cells.specs.declared.stop.Stop.{Stop}
 use Rattle.step_cells.specs.declared.stop.Stop.the-variants.{Nowhere, At}
 use Rattle.step_cells.proofs.Working.{same-refl, same-then}
-use Rattle.step_rules.specs.Ready.{RuleReady, LocalRule, LocalDone, LocalAnswer}
+use Rattle.step_rules.specs.Ready.{LocalRule, LocalDone, LocalAnswer}
 use Rattle.step_rules.proofs.Locals.{RecordDone, ruleAt, record-start, record-more, record-stops, records-start, records-more, records-all}
 use Rattle.run_steps.proofs.Arrays.{placesOf}
 
@@ -77,17 +76,15 @@ module _ {s : Sizes} {cells : List Cell} {base : ℕ} {rules : List Located} {us
         → LocalAnswer s cells base (rulesIn used rules) values marks valuesₑ marksₑ r
     left-behind h v m t = rw (sym e ∙ t ∙ a .nowhere, v, m) (a .same, records-all (omega (arith, a .u≤)) (a .done))
 
-    pub left-within : {values″ values‴ : List ℤ} {marks″ marks‴ : List ℕ} {stop′ stop″ : Stop} {k v c : ℕ} → Limits s → u < s .records
+    pub left-within : {values″ values‴ : List ℤ} {marks″ marks‴ : List ℕ} {stop′ stop″ : Stop} {k v c : ℕ} → u < s .records
         → RulesDone s cells base rules used u values′ marks′ values″ marks″ stop′ k → k < used → used ≤ length rules
         → stop″ ≡ At v c → valuesₑ ≡ values‴ → marksₑ ≡ marks‴ → stopₑ ≡ stop″
         → (x : Located) → LocalRule s cells base u (ruleAt (getD rules k x)) values″ marks″ values‴ marks‴ stop″
-        → {valuesᵣ : List ℤ} {marksᵣ : List ℕ} → RuleReady s cells valuesᵣ marksᵣ (getD rules k x)
         → LocalAnswer s cells base (rulesIn used rules) values marks valuesₑ marksₑ r
-    unfolding ruleIn
-    left-within {k = k} limits row b h fits o vₑ mₑ t x rule ready =
+    left-within {k = k} row b h fits o vₑ mₑ t x rule =
         let inside : k < length rules = omega arith in
         let stops = rw o at rule in
         rw (sym e ∙ t ∙ o, vₑ, mₑ) (
           same-then (same-then (a .same) (b .done .same)) (stops .0),
-          record-stops rules k x inside h limits row (ready .field) (stops .1),
+          record-stops rules k x inside h row (a .done .in-range) (b .done .in-range) (stops .1),
         )

@@ -19,19 +19,18 @@ use Rattle.program.specs.declared.setting.Setting.{Setting}
 use Rattle.program.specs.declared.setting.Setting.the-variants.{Single, Looped}
 use Rattle.program.specs.Program.{Step, Program}
 use Rattle.program.specs.Passed.{openBehind, ProgramPasses}
-use Rattle.machine.specs.Step.{stepCells}
+use Rattle.machine.specs.Step.{stepCells, offence}
 use Rattle.machine.specs.Run.{begins, goesOn, direct, scratch}
 use Rattle.machine.proofs.RunningPass.{openBefore}
 use Rattle.machine.proofs.Running.{Trace, Running, running-start, running-complete, running-around, running-exhausted, running-offended, running-step}
-use Rattle.machine.proofs.Stops.{stops-at}
 use Rattle.scratch.specs.Places.{Kept}
 use Rattle.scratch.proofs.Placed.{placeAt-kept}
 use Rattle.step_cells.specs.Work.{HoldsCells}
-use Rattle.step_rules.specs.Stepped.{GoesThrough, StopsAt}
+use Rattle.step_rules.specs.Stepped.{GoesThrough}
 use Rattle.run_loop.specs.Column.{LoopColumn, InPass, HasPass, Entered, NextIs}
 use Rattle.machine_messages.specs.declared.Machine.{Machine}
 use Rattle.gather.specs.Counted.{noCounts}
-use Rattle.run_steps.specs.Answer.{countsOf, endedWith, Scratch, Ends}
+use Rattle.run_steps.specs.Answer.{countsOf, endedWith, stoppedAt, Scratch, Ends}
 use Rattle.gather.specs.declared.counts.Counts.{Counts}
 use Rattle.run_steps.proofs.Counting.{counts-none}
 use Rattle.run_steps.proofs.Bounds.{Few}
@@ -131,17 +130,12 @@ module _ {m : Machine} {s : Sizes} {p : Program} {at budget : ℕ} {file : List 
           record { finished-is = rw e (sym (t .running .count)); counts-are = rw e (t .counts-are); ends-by = rw e refl }
 
       -- a sum or total is out of range
-      pub stands-offended : finished < budget → {out′ : List ℕ} {u c : ℕ} → StopsAt s (direct s (here .rules) (cellsOfFile s out)) (here .rules) out out′ u c
-          → Ends m s p budget file out′ (record { refusal = 21; line = 0; finished = finished; counts = counts; row = u; column = c })
-      stands-offended b {out′} {u} {c} o =
-          let cells = cellsOfFile s out in
-          let stops = stops-at s (direct s (here .rules) cells) (here .rules) cells u c (o .row) (o .col) (o .offends-there) in
-          let e = running-offended (t .running) comes b stops in
-          record {
-            finished-is = rw e (sym (t .running .count));
-            counts-are = rw e (t .counts-are);
-            ends-by = rw e (refl, refl, record { row = o .row; col = o .col; offends = o .offends-there });
-          }
+      pub stands-offended : finished < budget → {out′ : List ℕ} {u c : ℕ}
+          → offence s (direct s (here .rules) (cellsOfFile s out)) (here .rules) (cellsOfFile s out) ≡ some (record { row = u; column = c })
+          → Ends m s p budget file out′ (stoppedAt finished counts u c)
+      stands-offended b o =
+          let e = running-offended (t .running) comes b o in
+          record { finished-is = rw e (sym (t .running .count)); counts-are = rw e (t .counts-are); ends-by = rw e refl }
 
       -- the column of the loop that the step stands in, where its pass has begun before
       pub in-pass : {g : Setting} → here .setting ≡ g → begins g ≡ false → InPass s g (t .before) at values marks

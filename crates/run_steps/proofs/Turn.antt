@@ -46,9 +46,27 @@ lines-most [] i d h = absurd (omega arith)
 lines-most (x ∷ xs) zero d h = omega arith
 lines-most (x ∷ xs) (suc i) d h = omega (arith, lines-most xs i d (omega arith))
 
+-- the frame and the rules that are held are those of a step
+pub record Held (slots : List Located) (frames : List Frame) (step : ℕ) (f : Frame) (rules : List Located) : Type 0 where
+  pub frame-is : f ≡ getD frames step noFrame
+  pub rules-are : Taken slots step (f .rules) rules (f .rules)
+
+module _ {slots : List Located} {frames : List Frame} {step : ℕ} {f g : Frame} {rules rules′ : List Located} where
+  -- they are taken anew
+  pub held-anew : {k : ℕ} → g ≡ getD frames step noFrame → Taken slots step (g .rules) rules k → g .rules ≤ k → rules′ ≡ rules → f ≡ g
+      → Held slots frames step f rules′
+  held-anew {k} e h l p q =
+      let all : k ≡ g .rules = omega (arith, h .k≤) in
+      rw (p, q) (record { frame-is = e; rules-are = subst (Taken slots step (g .rules) rules) all h })
+
+  -- they are those of the step before, which is the same step
+  pub held-still : {taken : ℕ} → Held slots frames taken g rules → taken ≡ step → rules′ ≡ rules → f ≡ g → Held slots frames step f rules′
+  held-still h e p q = rw (← e, p, q) h
+
 -- The loop's turn for step `step` of the program p: the run stands before it, and the budget allows it.
 pub record Turn (m : Machine) (s : Sizes) (p : R.Program) (budget : ℕ) (file : List ℕ) (step first finished : ℕ) (counts : Counts)
-    (out : List ℕ) (values : List ℤ) (marks : List ℕ) : Type 0 where
+    (out : List ℕ) (values : List ℤ) (marks : List ℕ) (f : Frame) : Type 0 where
+  pub held : f ≡ getD (p .frames) step noFrame
   pub complete : Complete p
   pub passes : ProgramPasses s (programOf p)
   pub few-lines : p .lines ≤ 64
@@ -58,9 +76,9 @@ pub record Turn (m : Machine) (s : Sizes) (p : R.Program) (budget : ℕ) (file :
   pub later : finished < budget
 
 module _ {m : Machine} {s : Sizes} {p : R.Program} {budget : ℕ} {file : List ℕ} {step first finished : ℕ} {counts : Counts}
-    {out : List ℕ} {values : List ℤ} {marks : List ℕ} (a : Turn m s p budget file step first finished counts out values marks) where
+    {out : List ℕ} {values : List ℤ} {marks : List ℕ} {f : Frame} (a : Turn m s p budget file step first finished counts out values marks f) where
   abbrev pub frame : Frame
-  frame = getD (p .frames) step noFrame
+  frame = f
 
   abbrev pub at : ℕ
   at = p .lines * s .records
@@ -97,7 +115,7 @@ module _ {m : Machine} {s : Sizes} {p : R.Program} {budget : ℕ} {file : List �
   rs = stepHere .rules
 
   pub at-step : StepAt p step frame stepHere
-  at-step = step-at p step noStep noFrame (a .complete) (a .more)
+  at-step = rw (a .held) (step-at p step noStep noFrame (a .complete) (a .more))
 
   pub step-passes : StepPasses s stepHere
   step-passes = running-passes (t .running) (comes t inside) (a .passes)
@@ -167,7 +185,7 @@ module _ {m : Machine} {s : Sizes} {p : R.Program} {budget : ℕ} {file : List �
 
 -- then the step can be run
 module _ {m : Machine} {s : Sizes} {p : R.Program} {budget : ℕ} {file : List ℕ} {step first finished : ℕ} {counts : Counts}
-    {out : List ℕ} {values : List ℤ} {marks : List ℕ} {a : Turn m s p budget file step first finished counts out values marks}
+    {out : List ℕ} {values : List ℤ} {marks : List ℕ} {f : Frame} {a : Turn m s p budget file step first finished counts out values marks f}
     {places : List Located} {values₁ values₂ : List ℤ} {marks₁ marks₂ : List ℕ} {r : Counts} (b : Prepared a places values₁ marks₁ values₂ marks₂ r) where
   abbrev n : ℕ
   n = frame a .rules

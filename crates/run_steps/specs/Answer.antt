@@ -1,15 +1,13 @@
 -- How the code's answer tells a run.
 use mathlib.Core.Path.{_≡_}
-use mathlib.Core.Bool.{true}
 use mathlib.Core.List.{List}
-use Prim.Native.Nat.{ℕ, _≤_, _<_}
+use Prim.Native.Nat.{ℕ, _≤_}
 use lib.IntN.{ℤ}
 use lib.ListN.{length}
-use Rattle.register.specs.File.{width, fileOf, cellsOfFile}
+use Rattle.register.specs.File.{fileOf, cellsOfFile}
 use Rattle.register.specs.declared.Sizes.{Sizes}
 use Rattle.register.specs.declared.cells.Cell.{Cell}
-use Rattle.program.specs.Program.{Rule, Step, Program}
-use Rattle.machine.specs.Step.{offendsAt}
+use Rattle.program.specs.Program.{Step, Program}
 use Rattle.machine.specs.Run.{Ending, complete, exhausted, offended, Run, direct, run, scratch}
 use Rattle.machine_messages.specs.By.{exchangesBy, messagesBy}
 use Rattle.machine_messages.specs.declared.Machine.{Machine}
@@ -30,12 +28,6 @@ pub record Scratch (s : Sizes) (lines : ℕ) (values : List ℤ) (marks : List �
   pub values-room : scratch s lines ≤ length values
   pub marks-room : scratch s lines ≤ length marks
 
--- a place that 21 may name, in this step over these cells
-pub record Offence (s : Sizes) (rs : List Rule) (cells : List Cell) (u c : ℕ) : Type 0 where
-  pub row : u < s .records
-  pub col : c < width s
-  pub offends : offendsAt s (direct s rs cells) rs cells u c ≡ true
-
 -- the exchanges and messages of the finished steps
 abbrev pub countsOf : Machine → Sizes → List (Step × List Cell) → Counts
 countsOf m s trace = record { exchanges = exchangesBy m trace; messages = messagesBy m s trace }
@@ -44,7 +36,7 @@ countsOf m s trace = record { exchanges = exchangesBy m trace; messages = messag
 abbrev pub EndsBy : Sizes → Ending → List Cell → List ℕ → RunAnswer → Type 0
 EndsBy s complete cells file r = (r ≡ endedWith 0 (r .finished) (r .counts)) × (file ≡ fileOf s cells)
 EndsBy s exhausted cells file r = r ≡ endedWith 20 (r .finished) (r .counts)
-EndsBy s (offended rs before) cells file r = (r .refusal ≡ 21) × (r .line ≡ 0) × Offence s rs before (r .row) (r .column)
+EndsBy s (offended x) cells file r = r ≡ stoppedAt (r .finished) (r .counts) (x .row) (x .column)
 
 -- a run as the code tells it
 pub record EndsAs (m : Machine) (s : Sizes) (x : Run) (file : List ℕ) (r : RunAnswer) : Type 0 where

@@ -79,6 +79,8 @@ fn run_steps(
     let at = program.lines * sizes.records;
     let base = at + sizes.records;
     let mut rules = [slots[0]; 32];
+    let mut frame = frames[0];
+    let mut taken = steps;
     let mut step = 0;
     let mut first = steps;
     let mut finished = 0;
@@ -87,12 +89,15 @@ fn run_steps(
         if finished == budget {
             return ended(20, finished, counts);
         }
-        let frame = frames[step];
+        if taken != step {
+            frame = frames[step];
+            for k in 0..frame.rules {
+                rules[k] = slots[32 * step + k];
+            }
+            taken = step;
+        }
         let setting = frame.setting;
         let used = frame.rules;
-        for k in 0..used {
-            rules[k] = slots[32 * step + k];
-        }
         first = run_loop::enter(out, values, marks, sizes, at, setting, step, first);
         let gathered = gather::gather(
             out,

@@ -4,35 +4,32 @@ use mathlib.Core.Path.{_≡_, refl, sym, ap, ap₂, _∙_}
 use mathlib.Core.Logic.{_≢_}
 use mathlib.Core.List.{List}
 use native.Mathlib.Omega.{arith}
-use borrow.Author.Tests.{eq-eqb, ne-eqb}
+use borrow.Author.Tests.{eq-eqb}
 use lib.IntN.{ℤ, pos}
 use lib.ListN.{getD, set}
 use lib.Seq.{getD-set-other}
 use Rattle.register.specs.Cells.{cellOf}
-use Rattle.register.specs.declared.cells.Cell.the-variants.{Missing as Unfilled, Value as Filled}
+use Rattle.register.specs.declared.cells.Cell.the-variants.{Missing as Unfilled}
 use Rattle.chain.specs.declared.reading.Reading.{Reading}
 use Rattle.chain.specs.declared.reading.Reading.the-variants.{Missing, Value}
 use Rattle.chain.specs.Word.{readOf, readingValue}
+use Rattle.chain.proofs.ReadOf.{read-filled}
 use Rattle.scratch.specs.Places.{storedAt, placeAt, readingMark, Kept}
 
 module _ (values : List ℤ) (marks : List ℕ) (j : ℕ) where
-  -- a working cell by its mark
+  -- a missing working cell
   pub storedAt-missing : getD marks j 0 ≡ 0 → Unfilled ≡ storedAt values marks j
   unfolding storedAt cellOf
   storedAt-missing e = simp (eq-eqb _ _ e)
 
-  pub storedAt-value : getD marks j 0 ≢ 0 → Filled (getD values j (pos 0)) ≡ storedAt values marks j
-  unfolding storedAt cellOf
-  storedAt-value e = simp (ne-eqb _ _ e)
-
-  -- and what is read there
+  -- what is read by the mark of a place
   pub placeAt-missing : getD marks j 0 ≡ 0 → Missing ≡ placeAt values marks j
   unfolding placeAt readOf
   placeAt-missing e = ap readOf (storedAt-missing e)
 
   pub placeAt-value : getD marks j 0 ≢ 0 → Value (getD values j (pos 0)) ≡ placeAt values marks j
-  unfolding placeAt readOf
-  placeAt-value e = ap readOf (storedAt-value e)
+  unfolding placeAt storedAt
+  placeAt-value e = sym (read-filled (getD values j (pos 0)) (getD marks j 0) e)
 
   -- a reading that is put there
   pub placeAt-put : (x : Reading) → getD values j (pos 0) ≡ readingValue x → getD marks j 0 ≡ readingMark x → placeAt values marks j ≡ x

@@ -5,63 +5,60 @@ use mathlib.Core.Logic.{_≢_}
 use mathlib.Core.Bool.{true, false}
 use mathlib.Core.List.{List}
 use native.Mathlib.Omega.{arith}
-use borrow.Author.Tests.{ne-eqb}
 use lib.IntN.{ℤ, pos, _+ℤ_}
-use lib.ListN.{getD, set}
-use lib.Seq.{set-getD}
+use lib.ListN.{getD}
 use lib.Signed.{ltZ, mag}
 use mir.Syntax.{w32}
 use mir.Val.{SFits}
 use Rattle.integers.proofs.Complement.{mag-sum}
-use Rattle.register.specs.Cells.{valueOf, cellOf}
+use Rattle.register.specs.Cells.{valueOf}
 use Rattle.register.specs.declared.cells.Cell.{Cell}
-use Rattle.register.specs.declared.cells.Cell.the-variants.{Missing, Value}
-use Rattle.machine.specs.Remote.{smaller, increased, merged}
+use Rattle.register.specs.declared.cells.Cell.the-variants.{Missing, Measured, WorkedOut}
+use Rattle.chain.specs.declared.reading.Reading.the-variants as R
+use Rattle.chain.specs.Word.{readOf}
+use Rattle.machine.specs.Remote.{isLowered, smaller, added, increased, merged}
 use Rattle.program.specs.declared.rule.Sort.{Sort}
 use Rattle.program.specs.declared.rule.Sort.the-variants.{Least, Total}
 use Rattle.laws.proofs.Bools.{cond-both}
-use Rattle.scratch.specs.Places.{storedAt}
-use Rattle.scratch.proofs.Placed.{storedAt-missing, storedAt-value}
+use Rattle.scratch.specs.Places.{storedAt, placeAt}
+use Rattle.scratch.proofs.Placed.{storedAt-missing, placeAt-value}
 use Rattle.step_cells.specs.Work.{Put}
 use Rattle.step_cells.proofs.Working.{put-kept}
 
 module _ (values : List ℤ) (marks : List ℕ) (j : ℕ) (a : ℤ) where
   -- a missing cell
   module _ (none : getD marks j 0 ≡ 0) where
-    pub least-missing : merged Least (storedAt values marks j) a ≡ Value a
-    unfolding merged smaller
+    pub least-missing : merged Least (storedAt values marks j) a ≡ WorkedOut a
+    unfolding merged smaller isLowered readOf
     least-missing = rw (← storedAt-missing values marks j none)
 
     pub total-missing : Put j (merged Total (storedAt values marks j) a) values marks values marks
-    unfolding merged increased
+    unfolding merged increased added readOf
     total-missing = put-kept (rw (← storedAt-missing values marks j none))
 
   -- a cell that has a value
   module _ (some : getD marks j 0 ≢ 0) where
-    pub least-smaller : ltZ a (getD values j (pos 0)) ≡ true → merged Least (storedAt values marks j) a ≡ Value a
-    unfolding merged smaller
-    least-smaller h = rw (← storedAt-value values marks j some) (simp h)
+    read-there : readOf (storedAt values marks j) ≡ R.Value (getD values j (pos 0))
+    unfolding placeAt
+    read-there = sym (placeAt-value values marks j some)
+
+    pub least-smaller : ltZ a (getD values j (pos 0)) ≡ true → merged Least (storedAt values marks j) a ≡ WorkedOut a
+    unfolding merged smaller isLowered
+    least-smaller h = rw read-there (simp h)
 
     pub least-kept : ltZ a (getD values j (pos 0)) ≡ false → Put j (merged Least (storedAt values marks j) a) values marks values marks
-    unfolding merged smaller
-    least-kept h = put-kept (rw (← storedAt-value values marks j some) (simp h))
+    unfolding merged smaller isLowered
+    least-kept h = put-kept (rw read-there (simp h))
 
-    pub total-added : (z : ℤ) → z ≡ getD values j (pos 0) +ℤ a → Put j (merged Total (storedAt values marks j) a) values marks (set values j z) marks
-    unfolding merged increased cellOf
-    total-added z e = record {
-      value = getD values j (pos 0) +ℤ a;
-      mark = getD marks j 0;
-      values-are = rw e;
-      marks-are = sym (set-getD marks j 0);
-      cell-is = rw (← storedAt-value values marks j some) (simp (ne-eqb _ _ some));
-      proper = λ h. record { mark≤ = h .mark≤; missing = λ e. absurd (some e) };
-    }
+    pub total-added : merged Total (storedAt values marks j) a ≡ WorkedOut (getD values j (pos 0) +ℤ a)
+    unfolding merged increased added
+    total-added = rw read-there
 
 -- a value grows by one amount at most
 pub merged-below : (k : Sort) (c : Cell) (a : ℤ) {b : ℕ} → SFits w32 a → mag (valueOf c) < b → mag (valueOf (merged k c a)) < b + 2147483648
-unfolding merged smaller increased valueOf
-merged-below Least Missing a fits h = omega (arith, fits .sfits)
-merged-below Least (Value z) a {b} fits h =
-    cond-both (λ (c : Cell). mag (valueOf c) < b + 2147483648) (ltZ a z) _ _ (omega (arith, fits .sfits)) (omega arith)
+unfolding merged smaller increased added readOf valueOf
+merged-below Least c a {b} fits h =
+    cond-both (λ (d : Cell). mag (valueOf d) < b + 2147483648) (isLowered (readOf c) a) _ _ (omega (arith, fits .sfits)) (omega arith)
 merged-below Total Missing a fits h = omega arith
-merged-below Total (Value z) a fits h = omega (arith, mag-sum z a, fits .sfits)
+merged-below Total (Measured z) a fits h = omega (arith, mag-sum z a, fits .sfits)
+merged-below Total (WorkedOut z) a fits h = omega (arith, mag-sum z a, fits .sfits)

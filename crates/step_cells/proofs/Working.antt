@@ -13,11 +13,9 @@ use mir.Syntax.{w32}
 use mir.Val.{SFits}
 use Rattle.register.specs.Cells.{valueOf, markOf, cellOf, Canonical}
 use Rattle.register.specs.declared.cells.Cell.{Cell}
-use Rattle.register.specs.declared.cells.Cell.the-variants.{Missing, Value}
+use Rattle.register.specs.declared.cells.Cell.the-variants.{Missing, WorkedOut}
 use Rattle.register.proofs.Arrays.{cellOf-kept, cell-canonical, valueOf-cellOf, markOf-cellOf}
-use Rattle.chain.specs.declared.reading.Reading.the-variants as R
-use Rattle.chain.specs.Word.{readingValue}
-use Rattle.scratch.specs.Places.{storedAt, readingMark, Kept}
+use Rattle.scratch.specs.Places.{storedAt, Kept}
 use Rattle.scratch.proofs.Placed.{storedAt-kept}
 use Rattle.step_cells.specs.Work.{Room, HoldsCells, CanonicalCells, Same, Put, Small}
 
@@ -54,11 +52,11 @@ put-stored {c} v m = record {
   proper = λ h. cell-canonical c;
 }
 
--- and so is a value
-pub put-value : {j : ℕ} (z : ℤ) {values values′ : List ℤ} {marks marks′ : List ℕ}
-    → values′ ≡ set values j (readingValue (R.Value z)) → marks′ ≡ set marks j (readingMark (R.Value z)) → Put j (Value z) values marks values′ marks′
-unfolding readingValue readingMark valueOf markOf
-put-value z v m = put-stored v m
+-- and so is a value that is worked out
+pub put-worked : {j : ℕ} (z : ℤ) {values values′ : List ℤ} {marks marks′ : List ℕ}
+    → values′ ≡ set values j z → marks′ ≡ set marks j 2 → Put j (WorkedOut z) values marks values′ marks′
+unfolding valueOf markOf
+put-worked z v m = put-stored v m
 
 -- a place keeps its cell
 pub put-kept : {j : ℕ} {c : Cell} {values : List ℤ} {marks : List ℕ} → storedAt values marks j ≡ c → Put j c values marks values marks

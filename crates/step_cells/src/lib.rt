@@ -15,7 +15,6 @@ ghost use Rattle.machine.specs.Remote.{merged};
 ghost use Rattle.program.specs.declared.rule.Sort.the-variants.{Least, Total};
 ghost use Rattle.step_cells.specs.Work.{Room, HoldsCells, Put, Same};
 use chain::follow;
-use chain::reading::Reading;
 use program::rule::Sort;
 use register::Sizes;
 use register::cells;
@@ -42,7 +41,7 @@ pub fn place(sizes: Sizes, base: usize, u: usize, field: u64) -> usize
     base + register::cell_index(sizes, u, follow::column(sizes, field as usize))
 }
 
-// `<?=` keeps the smaller, and fills a missing cell.
+// `<?=` keeps the smaller, and fills a missing cell: either is worked out. One that is not smaller leaves value and mark.
 fn keep_least(values: &mut [i64], marks: &mut [u8], j: usize, amount: i32)
     requires { ⌜ (j < length (now values)) × (j < length (now marks)) ⌝ }
     ensures { λ _. ⌜ Put j (merged Least (storedAt (now (values .entry)) (now (marks .entry)) j) amount) (now (values .entry)) (now (marks .entry)) (now (values .exit)) (now (marks .exit)) ⌝ }
@@ -52,10 +51,10 @@ fn keep_least(values: &mut [i64], marks: &mut [u8], j: usize, amount: i32)
             return;
         }
     }
-    scratch::put_reading(values, marks, j, Reading::Value(amount));
+    scratch::put(values, marks, j, integers::widen(amount), 2);
 }
 
-// `+=` adds to a cell that has a value; a missing cell stays missing.
+// `+=` adds to a cell that has a value, which is worked out then, also where the amount is 0; a missing cell stays missing.
 fn add_total(values: &mut [i64], marks: &mut [u8], j: usize, amount: i32)
     requires { ⌜ (j < length (now values)) × (j < length (now marks)) × (mag (valueOf (storedAt (now values) (now marks) j)) < 4611686018427387904) ⌝ }
     ensures { λ _. ⌜ Put j (merged Total (storedAt (now (values .entry)) (now (marks .entry)) j) amount) (now (values .entry)) (now (marks .entry)) (now (values .exit)) (now (marks .exit)) ⌝ }
@@ -63,7 +62,8 @@ fn add_total(values: &mut [i64], marks: &mut [u8], j: usize, amount: i32)
     if marks[j] == 0 {
         return;
     }
-    values[j] = integers::increase(values[j], amount);
+    let total = integers::increase(values[j], amount);
+    scratch::put(values, marks, j, total, 2);
 }
 
 // One remote write.

@@ -4,12 +4,13 @@ use mathlib.Core.Path.{_≡_, refl, sym, ap, subst, _∙_}
 use mathlib.Core.Logic.{_⊎_, inl, inr, ⊎-elim}
 use mathlib.Core.Bool.{Bool, true, false, cond}
 use mathlib.Core.List.{List}
+use mathlib.Core.Option.{some}
 use native.Mathlib.Omega.{arith}
 use native.Mathlib.Numerals.{add-one}
 use native.Mathlib.Decide.{ℕ-discrete}
 use borrow.Author.Count.{below-none, below-more}
 use borrow.Author.Tests.{ne-eqb}
-use lib.IntN.{ℤ}
+use lib.IntN.{ℤ, pos}
 use lib.ListN.{length, getD, set, length-set}
 use lib.Seq.{getD-set-same, getD-set-other, ext-getD}
 use Rattle.integers.specs.Range.{inRange, sumOf}
@@ -25,12 +26,19 @@ use Rattle.register.specs.declared.cells.Cell.the-variants.{Missing}
 use Rattle.register.proofs.Arrays.{putCell-file}
 use Rattle.register.proofs.Bounds.{cellIndex-below, place-row, place-column, place-is}
 use Rattle.laws.proofs.Cases.{true-or-false, lt-or-le}
-use Rattle.step_cells.specs.Work.{HoldsCells}
+use Rattle.step_cells.specs.Work.{HoldsCells, CanonicalCells}
+use Rattle.step_cells.specs.declared.stop.Stop.{Stop}
+use Rattle.step_cells.specs.declared.stop.Stop.the-variants.{Nowhere, At}
 use Rattle.step_cells.proofs.Working.{held-at}
 use Rattle.chain.specs.Word.{readOf}
+use Rattle.chain.proofs.ReadOf.{read-filled}
 use Rattle.machine.specs.Value.{readingInRange, cellInRange}
+use Rattle.machine.specs.Step.{Offence, totalOffence}
 use Rattle.machine.proofs.Keeping.{fits-in-range}
-use Rattle.step_commit.specs.Committed.{OneCommitted, working, putColumn, isWritten, putColumns, OneColumn, AllCommitted, CommitStops}
+use Rattle.machine.proofs.Stops.{total-each, totalOffence-agree}
+use Rattle.scratch.specs.Places.{storedAt}
+use Rattle.step_commit.specs.Committed.{OneCommitted, working, putColumn, isWritten, putColumns, OneColumn, ColumnCommitted, AllCommitted, Committed}
+use Rattle.step_commit.specs.Committed.{valueInRange, offenceOf}
 
 -- what the answer for a total tells
 abbrev Told : ℤ → Sum → Type 0
@@ -49,7 +57,7 @@ total-told z = go (inRange z) refl
 pub cell-in-range : (z : ℤ) (mark : ℕ) → Canonical z mark → cellInRange (cellOf z mark) ≡ inRange z
 unfolding cellInRange readingInRange readOf cellOf inRange
 cell-in-range z zero h = rw (h .missing refl) refl
-cell-in-range z (suc k) h = rw (ne-eqb (suc k) 0 (λ e. omega arith)) refl
+cell-in-range z (suc k) h = rw (read-filled z (suc k) (λ e. omega arith)) refl
 
 -- one of the first n, or the one behind them
 below-or-last : (i n : ℕ) → i < suc n → (i < n) ⊎ (i ≡ n)
@@ -200,15 +208,32 @@ columns-file s fields base values marks file cells d k l e h same =
     (agrees-columns s d (working base values marks) (λ j b. held-at h j (omega (arith, l))) fields (width s) (omega arith)
     (record { cells = cells; count = k; agree = same; file-is = e })))
 
+-- the working cells are in range where their values are
+values-in-range : (s : Sizes) {base : ℕ} {values : List ℤ} {marks : List ℕ} → CanonicalCells base (cellCount s) values marks
+    → totalOffence s (valueInRange base values) ≡ totalOffence s (λ j. cellInRange (working base values marks j))
+unfolding storedAt
+values-in-range s {base} {values} {marks} k =
+    totalOffence-agree s _ _
+    (λ u c row col. sym (cell-in-range (getD values (base + cellIndex s u c) (pos 0)) _ (k .each (cellIndex s u c) (cellIndex-below s u c row col))))
+
+-- a column is not in range: the first cell of all that is not, as it is answered
+pub columns-stop : (s : Sizes) (fields : List Bool) (file before file′ : List ℕ) {base c : ℕ} {values : List ℤ} {marks : List ℕ}
+    → CanonicalCells base (cellCount s) values marks → c < width s → (done : Bool) → done ≡ false → ColumnCommitted s base c values marks before file′ done
+    → (r : Stop) → offenceOf r ≡ totalOffence s (valueInRange base values) → Committed s base fields values marks file file′ r
+columns-stop s fields file before file′ k col true d t r e = true-false refl d
+columns-stop s fields file before file′ k col false d t Nowhere e =
+    true-false (total-each s _ (sym (e ∙ values-in-range s k)) _ (cellIndex-below s (t .row) _ (t .row<) col)) (t .out-of-range)
+columns-stop s fields file before file′ k col false d t (At u c) e = sym (e ∙ values-in-range s k)
+
 -- the working cells hold the cells d of a register
 module _ (s : Sizes) (d : List Cell) (count : length d ≡ cellCount s) (base : ℕ) {values : List ℤ} {marks : List ℕ} (held : HoldsCells base d values marks) where
   working-is : (u c : ℕ) → u < s .records → c < width s → working base values marks (cellIndex s u c) ≡ getD d (cellIndex s u c) Missing
   working-is u c row col = held-at held (cellIndex s u c) (omega (arith, cellIndex-below s u c row col))
 
-  -- they are not committed: one of d is out of range
-  pub stop-out-of-range : {file file′ : List ℕ} {u c : ℕ} → CommitStops s base values marks file file′ u c
-      → cellInRange (getD d (cellIndex s u c) Missing) ≡ false
-  stop-out-of-range {u = u} {c} t = ap cellInRange (sym (working-is u c (t .row) (t .col))) ∙ t .out-of-range
+  -- they are not committed: the first of d that is out of range
+  pub stop-first : {x : Offence} → totalOffence s (λ j. cellInRange (working base values marks j)) ≡ some x
+      → totalOffence s (λ j. cellInRange (getD d j Missing)) ≡ some x
+  stop-first e = totalOffence-agree s _ _ (λ u c row col. ap cellInRange (sym (working-is u c row col))) ∙ e
 
   -- they are committed in the columns that are written, and in the others d has the cells that the file had
   module _ {fields : List Bool} {file file′ : List ℕ} (register : Register s file)

@@ -1,23 +1,22 @@
 -- The local rules of a step, record by record and rule by rule: what the working cells hold so far.
 use Prim.Native.Nat.{ℕ, zero, suc, _+_, _<_}
-use mathlib.Core.Path.{_≡_, refl, sym, ap, subst, _∙_}
-use mathlib.Core.Bool.{true, false, _&&_, or-true}
+use mathlib.Core.Path.{_≡_, refl, sym, ap, ap₂, subst, _∙_}
+use mathlib.Core.Bool.{true}
 use mathlib.Core.List.{List, [], _∷_, _++_, map, map-append}
+use mathlib.Core.Option.{none, some}
 use native.Mathlib.Omega.{arith}
-use lib.Dec.{eqb}
 use lib.IntN.{ℤ}
 use native.Mathlib.Decide.{decLt}
 use lib.ListN.{length, getD, take, drop, length-take}
-use lib.Seq.{take-suc, split-at, getD-take}
+use lib.Seq.{take-suc, take-take, split-at, getD-take}
 use mir.Syntax.{w32}
 use mir.Val.{SFits}
-use borrow.Author.Tests.{eq-eqb}
 use Rattle.register.specs.Cells.{valueOf}
 use Rattle.register.specs.File.{cellCount, cellIndex}
 use Rattle.register.specs.Shape.{Limits}
 use Rattle.register.specs.declared.Sizes.{Sizes}
 use Rattle.register.specs.declared.cells.Cell.{Cell}
-use Rattle.register.specs.declared.cells.Cell.the-variants.{Value}
+use Rattle.register.specs.declared.cells.Cell.the-variants.{WorkedOut}
 use Rattle.register.proofs.Bounds.{cellIndex-below}
 use Rattle.chain.specs.declared.reading.Reading.{Reading}
 use Rattle.chain.specs.Word.{hasField, column}
@@ -26,13 +25,15 @@ use Rattle.program.specs.declared.location.Located.{Located}
 use Rattle.program.specs.Program.{Rule, targetField}
 use Rattle.laws.specs.Lists.{Each}
 use Rattle.program.specs.Stored.{ruleIn, rulesIn}
-use Rattle.machine.specs.Local.{offends, localRules, localRecords, sumOffends}
-use Rattle.machine.proofs.Folding.{localRules-more, localRules-length, localRecords-length, sumOffends-more}
+use Rattle.machine.specs.Local.{localRules, localRecords, sumColumn}
+use Rattle.machine.proofs.Folding.{localRules-more, localRules-length, localRecords-length, sumColumn-more, sumColumn-earliest}
+use Rattle.machine.specs.Step.{sumOffence}
+use Rattle.machine.proofs.Stops.{sum-at}
 use Rattle.step_terms.specs.Found.{followed}
 use Rattle.step_effects.specs.Answers.{writeOf}
 use Rattle.step_effects.specs.declared.stored.Write.the-variants.{Nothing, Store, OutOfRange}
 use Rattle.step_cells.specs.Work.{Room, HoldsCells, Same, Put, Small}
-use Rattle.step_rules.specs.Ready.{RuleReady, AllReady, LocalRule, RuleStops, LocalDone, LocalStops}
+use Rattle.step_rules.specs.Ready.{RuleReady, AllReady, LocalRule, RuleStops, LocalDone}
 use Rattle.step_cells.specs.declared.stop.Stop.the-variants.{Nowhere, At}
 use Rattle.step_cells.proofs.Working.{same-refl, same-then, same-put, holds-put, small-put}
 use Rattle.step_rules.proofs.Writing.{told}
@@ -70,7 +71,7 @@ module _ (s : Sizes) (cells : List Cell) (u : ℕ) (r : Rule) where
 
     pub rule-stores : (f : ℕ) (z : ℤ) {values′ : List ℤ} {marks′ : List ℕ} → writeOf read r ≡ Store f z → Limits s → u < s .records
         → hasField s (targetField (r .target)) ≡ true → Room base (cellCount s) values marks
-        → Put (base + cellIndex s u (column s f)) (Value z) values marks values′ marks′ → SFits w32 z
+        → Put (base + cellIndex s u (column s f)) (WorkedOut z) values marks values′ marks′ → SFits w32 z
         → LocalRule s cells base u r values marks values′ marks′ Nowhere
     unfolding valueOf
     rule-stores f z e limits row field room p fits =
@@ -96,16 +97,15 @@ module _ (places : List Located) (k : ℕ) (x : Located) (h : k < length places)
   unfolding rulesIn
   rules-more = ap (map ruleAt) (take-suc places k x h) ∙ map-append ruleAt (take k places) (getD places k x ∷ [])
 
-  -- and stands among more of them
-  rules-split : (n : ℕ) → k < n → (P : List Rule → Type 0) → ((before behind : List Rule) → P (before ++ ruleAt (getD places k x) ∷ behind))
-      → P (rulesIn n places)
+  -- and stands behind them among more
+  rules-split : (n : ℕ) → k < n → rulesIn n places ≡ rulesIn k places ++ ruleAt (getD places k x) ∷ map ruleAt (drop (suc k) (take n places))
   unfolding rulesIn
-  rules-split n l P f =
+  rules-split n l =
       let some = take n places in
-      let cut : some ≡ take k some ++ getD places k x ∷ drop (suc k) some =
-      split-at some k x (omega (arith, length-take n places)) ∙ ap (λ (y : Located). take k some ++ y ∷ drop (suc k) some) (getD-take n places k x l) in
-      subst P (sym (ap (map ruleAt) cut ∙ map-append ruleAt (take k some) (getD places k x ∷ drop (suc k) some)))
-      (f (map ruleAt (take k some)) (map ruleAt (drop (suc k) some)))
+      let cut : some ≡ take k places ++ getD places k x ∷ drop (suc k) some =
+      split-at some k x (omega (arith, length-take n places))
+      ∙ ap₂ (λ (ys : List Located) (y : Located). ys ++ y ∷ drop (suc k) some) (take-take k n places (omega arith)) (getD-take n places k x l) in
+      ap (map ruleAt) cut ∙ map-append ruleAt (take k places) (getD places k x ∷ drop (suc k) some)
 
   -- and is ready where they all are
   pub ready-at : {s : Sizes} {cells : List Cell} {values : List ℤ} {marks : List ℕ} {n : ℕ} → k < n → AllReady s cells values marks (take n places)
@@ -114,19 +114,11 @@ module _ (places : List Located) (k : ℕ) (x : Located) (h : k < length places)
       subst (RuleReady s cells values marks) (getD-take n places k x l)
       (each-at (RuleReady s cells values marks) (take n places) k x (omega (arith, length-take n places)) r)
 
--- one offending rule among others
-offends-among : (s : Sizes) (read : List ℕ → Reading) (r : Rule) → offends read r ≡ true
-    → (before behind : List Rule) → sumOffends s read (before ++ r ∷ behind) (column s (targetField (r .target))) ≡ true
-unfolding sumOffends
-offends-among s read r h [] behind = simp (h, eq-eqb (column s (targetField (r .target))) (column s (targetField (r .target))) refl)
-offends-among s read r h (x ∷ before) behind =
-    rw (offends-among s read r h before behind) (or-true (offends read x && eqb (column s (targetField (x .target))) (column s (targetField (r .target)))))
-
 -- what the first k rules leave at record u
 pub record RecordDone (s : Sizes) (cells : List Cell) (base : ℕ) (places : List Located) (u k : ℕ) (values : List ℤ) (marks : List ℕ)
     (values′ : List ℤ) (marks′ : List ℕ) : Type 0 where
   pub same : Same base values marks values′ marks′
-  pub in-range : (c : ℕ) → sumOffends s (followed s cells u) (rulesIn k places) c ≡ false
+  pub in-range : sumColumn s (followed s cells u) (rulesIn k places) ≡ none
   pub holds : (d : List Cell) → length d ≡ cellCount s → HoldsCells base d values marks
       → HoldsCells base (localRules s (followed s cells u) u (rulesIn k places) d) values′ marks′
   pub small : Small 2147483648 base (cellCount s) values marks → Small 2147483648 base (cellCount s) values′ marks′
@@ -134,13 +126,13 @@ pub record RecordDone (s : Sizes) (cells : List Cell) (base : ℕ) (places : Lis
 -- nothing is done yet
 pub record-start : {s : Sizes} {cells : List Cell} {base : ℕ} {places : List Located} {u : ℕ} {values : List ℤ} {marks : List ℕ}
     → RecordDone s cells base places u 0 values marks values marks
-unfolding localRules rulesIn sumOffends
-record-start = record { same = same-refl; in-range = λ c. refl; holds = λ d l h. h; small = λ h. h }
+unfolding localRules rulesIn sumColumn
+record-start = record { same = same-refl; in-range = refl; holds = λ d l h. h; small = λ h. h }
 
 pub records-start : {s : Sizes} {cells : List Cell} {base : ℕ} {rs : List Rule} {values : List ℤ} {marks : List ℕ}
     → LocalDone s cells base rs 0 values marks values marks
 unfolding localRecords
-records-start = record { in-range = λ u c l. absurd (omega arith); holds = λ d l h. h; small = λ h. h }
+records-start = record { in-range = λ u l. absurd (omega arith); holds = λ d l h. h; small = λ h. h }
 
 -- one rule more at a record
 pub record-more : {s : Sizes} {cells : List Cell} {base : ℕ} {places : List Located} {u k : ℕ}
@@ -154,8 +146,7 @@ record-more {s} {cells} {base} {places} {u} {k} {values″ = values″} {marks�
     rw q
     (record {
       same = same-then (t .same) same;
-      in-range = λ c.
-          ap (λ (l : List Rule). sumOffends s read l c) (rules-more places k x h) ∙ sumOffends-more s read rs rule c ∙ simp (t .in-range c, done .in-range);
+      in-range = ap (sumColumn s read) (rules-more places k x h) ∙ sumColumn-more s read rs rule (t .in-range) (done .in-range);
       holds = λ d l hd.
           subst (λ (cs : List Cell). HoldsCells base cs values″ marks″)
           (sym (ap (λ (l : List Rule). localRules s read u l d) (rules-more places k x h) ∙ localRules-more s read u rs rule d))
@@ -163,20 +154,16 @@ record-more {s} {cells} {base} {places} {u} {k} {values″ = values″} {marks�
       small = λ z. done .small (t .small z);
     })
 
--- or its sum is out of range
+-- or its sum is out of range: the first, where none was so at the records before and by the rules before
 pub record-stops : {s : Sizes} {cells : List Cell} (places : List Located) {u : ℕ} (k : ℕ) (x : Located) → k < length places → {v c rules : ℕ} → k < rules
-    → Limits s → u < s .records → hasField s (targetField (ruleAt (getD places k x) .target)) ≡ true
-    → RuleStops s cells u (ruleAt (getD places k x)) v c → LocalStops s cells (rulesIn rules places) v c
-record-stops {s} {cells} places {u} k x h {rules = rules} l limits row field stop =
-    let rule = ruleAt (getD places k x) in
-    let f = targetField (rule .target) in
+    → u < s .records → ((v : ℕ) → v < u → sumColumn s (followed s cells v) (rulesIn rules places) ≡ none)
+    → sumColumn s (followed s cells u) (rulesIn k places) ≡ none → RuleStops s cells u (ruleAt (getD places k x)) v c
+    → sumOffence s (followed s cells) (rulesIn rules places) ≡ some (record { row = v; column = c })
+record-stops {s} {cells} places {u} k x h {rules = rules} l row records-before rules-before stop =
     let read = followed s cells u in
-    record {
-      row = rw (stop .row) row;
-      col = rw (stop .column-is) (column-below s limits f field);
-      out-of-range = rw (stop .row, stop .column-is)
-          (rules-split places k x h rules l (λ rs. sumOffends s read rs (column s f) ≡ true) (offends-among s read rule (stop .out-of-range)));
-    }
+    rw (stop .row, stop .column-is)
+    (sum-at s (followed s cells) (rulesIn rules places) u _ row records-before
+    (ap (sumColumn s read) (rules-split places k x h rules l) ∙ sumColumn-earliest s read (rulesIn k places) _ _ rules-before (stop .out-of-range)))
 
 -- one record more
 pub records-more : {s : Sizes} {cells : List Cell} {base : ℕ} {places : List Located} {rules n : ℕ}
@@ -188,9 +175,9 @@ records-more {s} {cells} {base} {places} {rules} {n} {values} {values′} {value
     rw q′ (go (subst (λ (i : ℕ). RecordDone s cells base places n i values′ marks′ values″ marks″) q r))
   where
     at : RecordDone s cells base places n rules values′ marks′ values″ marks″
-        → (u c : ℕ) → Dec (u < n) → u < suc n → sumOffends s (followed s cells u) (rulesIn rules places) c ≡ false
-    at r u c (yes l) _ = t .in-range u c l
-    at r u c (no l) l′ = let q : u ≡ n = omega arith in rw q (r .in-range c)
+        → (u : ℕ) → Dec (u < n) → u < suc n → sumColumn s (followed s cells u) (rulesIn rules places) ≡ none
+    at r u (yes l) _ = t .in-range u l
+    at r u (no l) l′ = let q : u ≡ n = omega arith in rw q (r .in-range)
 
     go : RecordDone s cells base places n rules values′ marks′ values″ marks″
         → LocalDone s cells base (rulesIn rules places) (suc n) values marks values″ marks″
@@ -198,7 +185,7 @@ records-more {s} {cells} {base} {places} {rules} {n} {values} {values′} {value
         let read = followed s cells in
         let rs = rulesIn rules places in
         record {
-          in-range = λ u c l. at r u c (decLt u n) l;
+          in-range = λ u l. at r u (decLt u n) l;
           holds = λ d l hd. r .holds (localRecords s read rs n d) (localRecords-length s read rs n d ∙ l) (t .holds d l hd);
           small = λ z. r .small (t .small z);
         }

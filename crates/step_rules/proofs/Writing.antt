@@ -9,7 +9,7 @@ use lib.Seq.{set-getD}
 use Rattle.register.specs.File.{cellIndex}
 use Rattle.register.specs.declared.Sizes.{Sizes}
 use Rattle.register.specs.declared.cells.Cell.{Cell}
-use Rattle.register.specs.declared.cells.Cell.the-variants.{Missing, Value}
+use Rattle.register.specs.declared.cells.Cell.the-variants.{Missing, WorkedOut}
 use Rattle.chain.specs.declared.reading.Reading.{Reading}
 use Rattle.chain.specs.declared.reading.Reading.the-variants as R
 use Rattle.chain.specs.Word.{column}
@@ -29,7 +29,7 @@ pub record Idles (read : List ℕ → Reading) (r : Rule) : Type 0 where
 pub record Stores (read : List ℕ → Reading) (r : Rule) (f : ℕ) (z : ℤ) : Type 0 where
   pub in-range : offends read r ≡ false
   pub field-is : f ≡ targetField (r .target)
-  pub cells-are : (s : Sizes) (u : ℕ) (d : List Cell) → localRule s read u r d ≡ set d (cellIndex s u (column s f)) (Value z)
+  pub cells-are : (s : Sizes) (u : ℕ) (d : List Cell) → localRule s read u r d ≡ set d (cellIndex s u (column s f)) (WorkedOut z)
 
 -- its sum for field f is out of range
 pub record Offends (read : List ℕ → Reading) (r : Rule) (f : ℕ) : Type 0 where

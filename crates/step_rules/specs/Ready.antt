@@ -2,10 +2,11 @@
 use mathlib.Core.Path.{_≡_}
 use mathlib.Core.Bool.{true, false}
 use mathlib.Core.List.{List}
+use mathlib.Core.Option.{none, some}
 use Prim.Native.Nat.{ℕ, _<_}
 use lib.IntN.{ℤ}
 use lib.ListN.{length}
-use Rattle.register.specs.File.{width, cellCount}
+use Rattle.register.specs.File.{cellCount}
 use Rattle.register.specs.declared.Sizes.{Sizes}
 use Rattle.register.specs.declared.cells.Cell.{Cell}
 use Rattle.chain.specs.declared.reading.Reading.{Reading}
@@ -14,7 +15,8 @@ use Rattle.program.specs.declared.location.Located.{Located}
 use Rattle.program.specs.Program.{Target, own, remote, Rule, targetField}
 use Rattle.laws.specs.Lists.{Each}
 use Rattle.program.specs.Stored.{targetIn}
-use Rattle.machine.specs.Local.{offends, localRule, localRecords, sumOffends}
+use Rattle.machine.specs.Local.{offends, localRule, localRecords, sumColumn}
+use Rattle.machine.specs.Step.{sumOffence}
 use Rattle.step_terms.specs.Found.{followed, RuleReads}
 use Rattle.step_cells.specs.Work.{HoldsCells, Same, Small}
 use Rattle.step_cells.specs.declared.stop.Stop.{Stop}
@@ -54,17 +56,13 @@ LocalRule s cells base u r values marks values′ marks′ (At v c) = Same base 
 -- what all local rules leave at the records below n
 pub record LocalDone (s : Sizes) (cells : List Cell) (base : ℕ) (rs : List Rule) (n : ℕ) (values : List ℤ) (marks : List ℕ)
     (values′ : List ℤ) (marks′ : List ℕ) : Type 0 where
-  pub in-range : (u c : ℕ) → u < n → sumOffends s (followed s cells u) rs c ≡ false
+  pub in-range : (u : ℕ) → u < n → sumColumn s (followed s cells u) rs ≡ none
   pub holds : (d : List Cell) → length d ≡ cellCount s → HoldsCells base d values marks → HoldsCells base (localRecords s (followed s cells) rs n d) values′ marks′
   pub small : Small 2147483648 base (cellCount s) values marks → Small 2147483648 base (cellCount s) values′ marks′
 
--- where they stop instead
-pub record LocalStops (s : Sizes) (cells : List Cell) (rs : List Rule) (u c : ℕ) : Type 0 where
-  pub row : u < s .records
-  pub col : c < width s
-  pub out-of-range : sumOffends s (followed s cells u) rs c ≡ true
-
+-- or where they stop: the first local sum that is out of range
 abbrev pub LocalAnswer : Sizes → List Cell → ℕ → List Rule → List ℤ → List ℕ → List ℤ → List ℕ → Stop → Type 0
 LocalAnswer s cells base rs values marks values′ marks′ Nowhere =
     Same base values marks values′ marks′ × LocalDone s cells base rs (s .records) values marks values′ marks′
-LocalAnswer s cells base rs values marks values′ marks′ (At u c) = Same base values marks values′ marks′ × LocalStops s cells rs u c
+LocalAnswer s cells base rs values marks values′ marks′ (At u c) =
+    Same base values marks values′ marks′ × (sumOffence s (followed s cells) rs ≡ some (record { row = u; column = c }))

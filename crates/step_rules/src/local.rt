@@ -7,11 +7,10 @@ ghost use Rattle.register.specs.File.{cellCount, cellIndex, cellsOfFile};
 ghost use Rattle.register.specs.Shape.{Limits};
 ghost use Rattle.chain.specs.Word.{hasField, column as columnOf};
 ghost use Rattle.program.specs.Stored.{ruleIn};
-ghost use Rattle.register.specs.declared.cells.Cell.the-variants.{Value};
+ghost use Rattle.register.specs.declared.cells.Cell.the-variants.{WorkedOut};
 ghost use Rattle.step_cells.specs.Work.{Room, Put};
 ghost use Rattle.step_rules.specs.Ready.{RuleReady, LocalRule};
 use chain::follow;
-use chain::reading::Reading;
 use program::location::Located;
 use register::Sizes;
 use register::cells;
@@ -21,7 +20,7 @@ use step_cells::stop::Stop;
 use step_effects::stored;
 use step_effects::stored::Write;
 
-// Stores a value in the working cell of record u and a field.
+// Stores a value in the working cell of record u and a field: it is worked out, whatever was read for it.
 fn store(
     values: &mut [i64],
     marks: &mut [u8],
@@ -32,10 +31,10 @@ fn store(
     value: i32,
 )
     requires { ⌜ Limits sizes × (u < sizes .records) × (hasField sizes field ≡ true) × Room base (cellCount sizes) (now values) (now marks) ⌝ }
-    ensures { λ _. ⌜ Put (base + cellIndex sizes u (columnOf sizes field)) (Value value) (now (values .entry)) (now (marks .entry)) (now (values .exit)) (now (marks .exit)) ⌝ }
+    ensures { λ _. ⌜ Put (base + cellIndex sizes u (columnOf sizes field)) (WorkedOut value) (now (values .entry)) (now (marks .entry)) (now (values .exit)) (now (marks .exit)) ⌝ }
 {
     let place = step_cells::place(sizes, base, u, field);
-    scratch::put_reading(values, marks, place, Reading::Value(value));
+    scratch::put(values, marks, place, integers::widen(value), 2);
 }
 
 // One rule at record u of the register in `out`.

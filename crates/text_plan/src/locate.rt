@@ -5,8 +5,8 @@ ghost use lib.ListN.{length};
 ghost use Rattle.chain.specs.Word.{unpack};
 ghost use Rattle.plan_lines.specs.Held.{factsIn, Keyed};
 ghost use Rattle.program.specs.Location.{slotChains, locationOf, placesIn, locationsIn};
-ghost use Rattle.text_plan.specs.Readings.{words, pairWords, Short};
-ghost use Rattle.text_plan.specs.Listed.{withLine, withLines, withWanted};
+ghost use Rattle.text_plan.specs.Readings.{Sound, addedOf, words, pairWords, Short};
+ghost use Rattle.text_plan.specs.Listed.{withLine, withLines, withWanted, RulePlanned};
 use crate::readings;
 use plan_lines::Found;
 use program::location::Location;
@@ -43,7 +43,7 @@ fn locate_pair(keys: &[u64; 64], count: usize, pair: Pair) -> Places
 }
 
 // Where the readings of a rule are found in a plan of these keys.
-pub fn locate(keys: &[u64; 64], count: usize, slot: Slot) -> Locations
+fn locate(keys: &[u64; 64], count: usize, slot: Slot) -> Locations
     requires { ⌜ Keyed (now keys) count × Short (words (slotChains slot)) ⌝ }
     ensures { λ r. ⌜ r ≡ locationsIn (factsIn (now (keys .entry)) count) (slotChains slot) ⌝ }
 {
@@ -80,10 +80,32 @@ fn mark_lines(wanted: &mut [bool; 64], places: Places)
 }
 
 // Marks the lines that a rule reads whose readings are located so.
-pub fn mark_wanted(wanted: &mut [bool; 64], at: Locations)
+fn mark_wanted(wanted: &mut [bool; 64], at: Locations)
     requires { ⌜ length (now wanted) ≡ 64 ⌝ }
     ensures { λ _. ⌜ now (wanted .exit) ≡ withWanted (now (wanted .entry)) at ⌝ }
 {
     mark_lines(wanted, at.test);
     mark_lines(wanted, at.rule);
+}
+
+// Adds the readings of a rule to the plan of its step, marks their lines, and tells where they are found.
+pub fn plan_rule(
+    keys: &mut [u64; 64],
+    rounds: &mut [u8; 64],
+    backs: &mut [u8; 64],
+    reads: &mut [u8; 64],
+    count: &mut usize,
+    full: &mut bool,
+    wanted: &mut [bool; 64],
+    slot: Slot,
+) -> Locations
+    requires { ⌜ Sound (addedOf (now keys) (now rounds) (now backs) (now reads) (now count) (now full)) × Short (words (slotChains slot)) × (length (now wanted) ≡ 64) ⌝ }
+    ensures { λ r. ⌜ RulePlanned slot (addedOf (now (keys .entry)) (now (rounds .entry)) (now (backs .entry)) (now (reads .entry)) (now (count .entry)) (now (full .entry)))
+        (now (wanted .entry))
+        (addedOf (now (keys .exit)) (now (rounds .exit)) (now (backs .exit)) (now (reads .exit)) (now (count .exit)) (now (full .exit))) (now (wanted .exit)) r ⌝ }
+{
+    readings::add_rule(keys, rounds, backs, reads, count, full, slot);
+    let found = locate(keys, *count, slot);
+    mark_wanted(wanted, found);
+    found
 }

@@ -33,7 +33,7 @@ use Rattle.text_rules.proofs.Passing.{Reached, start-reached, advance-reached}
 use Rattle.text_next.specs.Front.{lineBytes, firstForm}
 use Rattle.program.specs.Stored.{rulesIn}
 use Rattle.program.specs.Kept.{stepsIn, programOf}
-use Rattle.text_reader.specs.Answers.{outcomeOf, Answers}
+use Rattle.text_reader.specs.Answers.{checkOutcome, Answers}
 use Rattle.program.specs.declared.location.Located.{Located}
 use Rattle.program.specs.declared.location.Locations.{Locations}
 use Rattle.program.specs.Location.{slotChains, locationsIn}
@@ -258,7 +258,7 @@ module _ {s : Sizes} {lim : Limits s} {t : List ℕ} {plan : Added} {wanted : Li
 
 -- the answer with a refusal, and with the program
 pub answer-refused : {o : Outcome Program} (n k : ℕ) (p : C.Program) → (n ≡ 0 → ⊥) → o ≡ refused n k → Answers o (record { refusal = n; line = k; program = p })
-unfolding outcomeOf
+unfolding checkOutcome
 answer-refused n k p h e = record { outcome-is = refuse-none n k (O.done (programOf p)) h ∙ sym e; complete = λ z. absurd (h z) }
 
 module _ {s : Sizes} {t : List ℕ} {plan : Added} {wanted : List Bool} {slots : List Located}
@@ -276,7 +276,7 @@ module _ {s : Sizes} {t : List ℕ} {plan : Added} {wanted : List Bool} {slots :
   pub answer-read : length t ≤ at
       → Answers (readFrom s start 1 (lines t))
       (record { refusal = lastRefusal x; line = k; program = record { slots = slots; frames = frames; steps = x .steps; lines = x .lines } })
-  unfolding outcomeOf program lines readFrom closedText unless
+  unfolding checkOutcome program lines readFrom closedText unless
   answer-read h =
       let ended : readFrom s start 1 (lines t) ≡ closedText (q .state) k =
       q .rest ∙ ap (λ (u : List ℕ). readFrom s (q .state) k (lines u)) (drop-of-length-le t h) in

@@ -6,10 +6,10 @@ use Rattle.program.specs.Kept.{programOf, Complete}
 use Rattle.text_reader.specs.declared.Checked.{Checked}
 
 -- the outcome of a check
-unfoldable pub outcomeOf : Checked → Outcome Program
-outcomeOf r = unless (r .refusal) (r .line) (done (programOf (r .program)))
+unfoldable pub checkOutcome : Checked → Outcome Program
+checkOutcome r = unless (r .refusal) (r .line) (done (programOf (r .program)))
 
 -- an answer of this outcome, with all that is kept beside a program that passed
 pub record Answers (o : Outcome Program) (r : Checked) : Type 0 where
-  pub outcome-is : outcomeOf r ≡ o
+  pub outcome-is : checkOutcome r ≡ o
   pub complete : r .refusal ≡ 0 → Complete (r .program)

@@ -1,8 +1,13 @@
-// The text reader: one loop over the lines that holds the program's arrays.
+// The text reader: one loop over the lines that holds the program. The open step's plan is lent to it.
+ghost use mathlib.Core.Path.{_≡_};
+ghost use mathlib.Core.Bool.{false};
+ghost use mathlib.Core.List.{[]};
 ghost use Prim.Native.Nat.{_≤_};
 ghost use lib.ListN.{length};
+ghost use Rattle.plan_lines.specs.Held.{HoldsLines, planOf};
 ghost use Rattle.register.specs.Shape.{Limits};
 ghost use Rattle.text_rules.specs.Text.{lines, start as startOf, readFrom};
+ghost use Rattle.text_state.specs.State.{frameOf};
 ghost use Rattle.text_reader.specs.Answers.{Answers};
 use plan_lines::Plan;
 use program::Program;
@@ -18,9 +23,9 @@ use program::setting::Setting;
 use program::term::Term;
 use register::Sizes;
 use text_line::line::LineRead;
-use text_plan::locate;
-use text_plan::readings;
+use text_plan::locate::plan_rule;
 use text_state::state;
+use text_state::state::State;
 
 // A program, where the refusal is 0; otherwise the refusal's number and its line.
 pub struct Checked {
@@ -58,59 +63,75 @@ fn empty_frame() -> Frame {
     }
 }
 
-// The program of the lines of a text.
-pub fn read_lines(text: &[u8], sizes: Sizes) -> Checked
-    requires { ⌜ Limits sizes × (length (now text) ≤ 8192) ⌝ }
-    ensures { λ r. ⌜ Answers (readFrom sizes startOf 1 (lines (now (text .entry)))) r ⌝ }
+// The frame of the step that is closed. Nothing is planned yet for the next one.
+fn close(
+    state: State,
+    keys: &[u64; 64],
+    rounds: &[u8; 64],
+    backs: &[u8; 64],
+    reads: &[u8; 64],
+    count: &mut usize,
+    wanted: &mut [bool; 64],
+) -> Frame
+    ensures { λ r. ⌜ (r ≡ frameOf state (planOf (now (keys .entry)) (now (rounds .entry)) (now (backs .entry)) (now (reads .entry)) (now (count .entry))) (now (wanted .entry)))
+        × (now (count .exit) ≡ 0) × (length (now (wanted .exit)) ≡ 64) ⌝ }
+{
+    let keys = *keys;
+    let rounds = *rounds;
+    let backs = *backs;
+    let reads = *reads;
+    let plan = Plan {
+        keys,
+        rounds,
+        backs,
+        reads,
+        count: *count,
+    };
+    let frame = state::open_frame(state, plan, *wanted);
+    *count = 0;
+    *wanted = [false; 64];
+    frame
+}
+
+// The program of the lines of a text. Lent are the arrays of a plan that has no line yet, and the number and the line of the
+// refusal.
+fn read_program(
+    text: &[u8],
+    sizes: Sizes,
+    keys: &mut [u64; 64],
+    rounds: &mut [u8; 64],
+    backs: &mut [u8; 64],
+    reads: &mut [u8; 64],
+    count: &mut usize,
+    full: &mut bool,
+    wanted: &mut [bool; 64],
+    refusal: &mut u32,
+    line: &mut usize,
+) -> Program
+    requires { ⌜ Limits sizes × (length (now text) ≤ 8192) × HoldsLines (planOf (now keys) (now rounds) (now backs) (now reads) (now count)) []
+        × (now full ≡ false) × (length (now wanted) ≡ 64) × (now refusal ≡ 0) × (now line ≡ 1) ⌝ }
+    ensures { λ r. ⌜ Answers (readFrom sizes startOf 1 (lines (now (text .entry)))) (record { refusal = now (refusal .exit); line = now (line .exit); program = r }) ⌝ }
 {
     let mut slots = [empty_slot(); 1024];
     let mut frames = [empty_frame(); 32];
     let mut state = state::start();
-    let mut keys = [0u64; 64];
-    let mut rounds = [0u8; 64];
-    let mut backs = [0u8; 64];
-    let mut reads = [0u8; 64];
-    let mut count = 0;
-    let mut full = false;
-    let mut wanted = [false; 64];
     let mut at = 0;
-    let mut line = 1;
-    let mut refusal = 0;
     while at < text.len() {
         let end = text_next::line_end(text, at);
         let read = text_next::read_first(text, at, end, sizes);
-        refusal = text_refusals::refusal(state, full, read);
-        if refusal != 0 {
+        *refusal = text_refusals::refusal(state, *full, read);
+        if *refusal != 0 {
             break;
         }
         let steps = state.steps;
-        let lines = count;
+        let lines = *count;
         match read {
             LineRead::Rule(slot, _) => {
-                readings::add_rule(
-                    &mut keys,
-                    &mut rounds,
-                    &mut backs,
-                    &mut reads,
-                    &mut count,
-                    &mut full,
-                    slot,
-                );
-                let found = locate::locate(&keys, count, slot);
-                locate::mark_wanted(&mut wanted, found);
+                let found = plan_rule(keys, rounds, backs, reads, count, full, wanted, slot);
                 slots[state::place(state)] = Located { slot, at: found };
             }
             LineRead::End => {
-                let plan = Plan {
-                    keys,
-                    rounds,
-                    backs,
-                    reads,
-                    count,
-                };
-                frames[steps] = state::open_frame(state, plan, wanted);
-                count = 0;
-                wanted = [false; 64];
+                frames[steps] = close(state, keys, rounds, backs, reads, count, wanted);
             }
             LineRead::Done => {
                 frames[steps - 1] = state::last_frame(frames[steps - 1]);
@@ -121,16 +142,47 @@ pub fn read_lines(text: &[u8], sizes: Sizes) -> Checked
         }
         state = state::advance(state, lines, read);
         at = end + 1;
-        line += 1;
+        *line += 1;
     }
+    *refusal = text_refusals::refusal_or_last(*refusal, state);
+    Program {
+        slots,
+        frames,
+        steps: state.steps,
+        lines: state.lines,
+    }
+}
+
+// The program of the lines of a text.
+pub fn read_lines(text: &[u8], sizes: Sizes) -> Checked
+    requires { ⌜ Limits sizes × (length (now text) ≤ 8192) ⌝ }
+    ensures { λ r. ⌜ Answers (readFrom sizes startOf 1 (lines (now (text .entry)))) r ⌝ }
+{
+    let mut keys = [0u64; 64];
+    let mut rounds = [0u8; 64];
+    let mut backs = [0u8; 64];
+    let mut reads = [0u8; 64];
+    let mut count = 0;
+    let mut full = false;
+    let mut wanted = [false; 64];
+    let mut refusal = 0;
+    let mut line = 1;
+    let program = read_program(
+        text,
+        sizes,
+        &mut keys,
+        &mut rounds,
+        &mut backs,
+        &mut reads,
+        &mut count,
+        &mut full,
+        &mut wanted,
+        &mut refusal,
+        &mut line,
+    );
     Checked {
-        refusal: text_refusals::refusal_or_last(refusal, state),
+        refusal,
         line,
-        program: Program {
-            slots,
-            frames,
-            steps: state.steps,
-            lines: state.lines,
-        },
+        program,
     }
 }

@@ -40,7 +40,7 @@ fn cell([n, r, m]: [u32; 3], bytes: &[u8]) -> Option<String> {
     let values = values.map(|value| i32::from_le_bytes(value.try_into().expect("4 bytes")));
     let is_wrong = |(place, (value, mark)): &(usize, (i32, &u8))| match *mark {
         0 => *value != 0,
-        1 => place % sizes.width() < sizes.references && !(0..n as i32).contains(value),
+        1 | 2 => place % sizes.width() < sizes.references && !(0..n as i32).contains(value),
         _ => true,
     };
     let (place, (value, mark)) = values.zip(marks).enumerate().find(is_wrong)?;

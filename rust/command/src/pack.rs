@@ -22,8 +22,9 @@ plot pack SHEET.csv -o REGISTER [--json]
 Makes a register of a sheet of comma-separated values. The first row has the letters
 of the fields: A, B, .. for references, then M, N, .. for measures. Each further row
 is a record, the first one record 0. A reference is the number of a record, a measure
-a whole number of centimetres; an empty cell is unfilled. Every cell that is wrong is
-told with its row and column, and then nothing is written.
+a whole number of centimetres; ~ stands behind a value that a rule has worked out, and
+an empty cell is unfilled. Every cell that is wrong is told with its row and column,
+and then nothing is written.
 
   -o REGISTER  the file to write, - for standard output
   --json       for programs: what is wrong, by row and column
@@ -43,8 +44,8 @@ pub const UNPACK: Command = Command {
 plot unpack REGISTER [-o SHEET.csv]
 
 Writes a register as a sheet of comma-separated values, as `plot pack` takes it: a
-header row of field letters, then a row for each record, an empty cell where a cell
-is unfilled.
+header row of field letters, then a row for each record, ~ behind a value that a rule
+has worked out, and an empty cell where a cell is unfilled.
 
   -o SHEET.csv  the file to write; without it, or for -, standard output
 ",

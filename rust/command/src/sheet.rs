@@ -2,7 +2,7 @@
 //! and a row for each record.
 
 use crate::show;
-use plot::{Register, Sizes};
+use plot::{Cell, Register, Sizes};
 
 /// The most records, and the letters that a header may have.
 const MAX_RECORDS: usize = 4096;
@@ -20,13 +20,17 @@ pub struct Fault {
 }
 
 /// What a sheet holds: the sizes, and the cells row by row.
-pub type Sheet = (Sizes, Vec<Option<i32>>);
+pub type Sheet = (Sizes, Vec<Cell>);
 
-/// The register as a sheet; an unfilled cell is empty.
+/// The register as a sheet; an unfilled cell is empty, and a worked-out value has ~
+/// behind it.
 pub fn written(register: &Register) -> String {
     let header: Vec<String> = register.sizes().fields().map(String::from).collect();
     let rows = show::records(register).map(|(_, cells)| {
-        let value = |cell: plot::Cell| cell.value().map_or(String::new(), |v| v.to_string());
+        let value = |cell: Cell| match cell {
+            Cell::Unfilled => String::new(),
+            cell => cell.to_string(),
+        };
         cells.into_iter().map(value).collect::<Vec<String>>()
     });
     let rows = [header].into_iter().chain(rows);
@@ -132,11 +136,7 @@ fn cells(sizes: Sizes, header: &[String], rows: &[Vec<String>]) -> Result<Sheet,
 /// The faults of a row: the column, where it is one cell, and what is wrong.
 type RowFaults = Vec<(Option<usize>, String)>;
 
-fn row_cells(
-    sizes: Sizes,
-    header: &[String],
-    row: &[String],
-) -> Result<Vec<Option<i32>>, RowFaults> {
+fn row_cells(sizes: Sizes, header: &[String], row: &[String]) -> Result<Vec<Cell>, RowFaults> {
     // A row of one empty cell is an empty line.
     let empty = [String::new()];
     let row = if row.is_empty() && header.len() == 1 {
@@ -161,12 +161,16 @@ fn row_cells(
     }
 }
 
-/// The value of a cell, `None` where it is empty; a reference has a number of
+/// A cell as it is written, unfilled where it is empty; a reference has a number of
 /// records that it is below.
-fn cell_value(cell: &str, records: Option<usize>) -> Result<Option<i32>, String> {
+fn cell_value(cell: &str, records: Option<usize>) -> Result<Cell, String> {
     if cell.is_empty() {
-        return Ok(None);
+        return Ok(Cell::Unfilled);
     }
+    let (filled, cell): (fn(i32) -> Cell, &str) = match cell.strip_suffix('~') {
+        Some(cell) => (Cell::WorkedOut, cell),
+        None => (Cell::Measured, cell),
+    };
     let value: i64 = number(cell).ok_or_else(|| not_a_number(cell))?;
     match records {
         Some(records) if !(0..records as i64).contains(&value) => Err(format!(
@@ -174,7 +178,7 @@ fn cell_value(cell: &str, records: Option<usize>) -> Result<Option<i32>, String>
             show::counted(records, "record")
         )),
         _ => i32::try_from(value)
-            .map(Some)
+            .map(filled)
             .map_err(|_| format!("{cell} is out of range: -2147483648 to 2147483647")),
     }
 }

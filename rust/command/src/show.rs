@@ -20,15 +20,16 @@ pub const COMMAND: Command = Command {
     help: "\
 plot show REGISTER [--gaps] [--svg FILE] [--json]
 
-Shows a register as a table: a row for each record, a column for each field, and
-- where a cell is unfilled.
+Shows a register as a table: a row for each record, a column for each field, ~ behind
+a value that a rule has worked out, and - where a cell is unfilled.
 
   --gaps      a grid that shows only which cells are filled (.) and which are not
               (#), with the number of gaps behind each line; where 60 records in a
               row have no gap it says so in one line
   --svg FILE  the same as a picture
-  --json      for programs: the fields, and the cells record by record, null where
-              a cell is unfilled; with --gaps the unfilled cells
+  --json      for programs: the fields, the cells record by record, null where a
+              cell is unfilled, and which of them are worked out; with --gaps the
+              unfilled cells
 ",
     run: show,
 };
@@ -53,13 +54,23 @@ fn show(arguments: &Arguments) -> Result<Outcome, Failure> {
 pub fn summary(register: &Register) -> String {
     let sizes = register.sizes();
     let unfilled = gaps::all(register).count();
+    let worked_out = records(register).flat_map(|(_, cells)| cells);
+    let worked_out = match worked_out.filter(|&cell| is_worked_out(cell)).count() {
+        0 => String::new(),
+        worked_out => format!(", {worked_out} worked out"),
+    };
     format!(
-        "{}, {}, {}, {unfilled} of {} unfilled",
+        "{}, {}, {}, {unfilled} of {} unfilled{worked_out}",
         counted(sizes.records, "record"),
         counted(sizes.references, "reference field"),
         counted(sizes.measures, "measure field"),
         counted(sizes.cells(), "cell"),
     )
+}
+
+/// Whether a rule has worked a cell's value out.
+fn is_worked_out(cell: Cell) -> bool {
+    matches!(cell, Cell::WorkedOut(_))
 }
 
 /// A number of things.
@@ -96,12 +107,14 @@ pub fn records(register: &Register) -> impl Iterator<Item = (usize, Vec<Cell>)> 
 }
 
 fn json(register: &Register) -> String {
-    let value = |cell: Cell| json::option(cell.value());
-    let rows = records(register).map(|(_, cells)| json::list(cells.into_iter().map(value)));
+    let rows = |member: fn(Cell) -> String| {
+        json::list(records(register).map(|(_, cells)| json::list(cells.into_iter().map(member))))
+    };
     json::object(&[
         ("records", register.sizes().records.to_string()),
         ("fields", field_list(register.sizes())),
-        ("cells", json::list(rows)),
+        ("cells", rows(|cell| json::option(cell.value()))),
+        ("worked_out", rows(|cell| is_worked_out(cell).to_string())),
     ]) + "\n"
 }
 

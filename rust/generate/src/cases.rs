@@ -1,5 +1,6 @@
 //! Registers that load, each with a text that passes for it.
 
+use crate::marks;
 use crate::offences::{Fate, Offence, offences};
 use crate::random::Random;
 use crate::registers;
@@ -58,15 +59,25 @@ impl Case {
 
     /// A small case whose steps write a field again and again, over a register with gaps.
     pub fn with_gaps(random: &mut Random) -> Case {
+        Case::filled(random, texts::gap_shape, &[50, 80, 90])
+    }
+
+    /// A small case whose sums and totals go out of range at many places.
+    pub fn out_of_range(random: &mut Random) -> Case {
+        Case::filled(random, texts::overflow_shape, &[90, 100])
+    }
+
+    /// A small case of a shape, with one of these densities.
+    fn filled(random: &mut Random, shape: fn(&mut Random) -> Shape, densities: &[usize]) -> Case {
         let sizes = Sizes {
             records: random.between(2, 12),
             references: random.between(1, 3),
             measures: random.between(1, 3),
         };
         loop {
-            let shape = texts::gap_shape(random);
+            let shape = shape(random);
             if let Some(mut case) = Case::of_shape(random, sizes, shape) {
-                let density = random.pick(&[50, 80, 90]);
+                let density = random.pick(densities);
                 case.register = encode(sizes, &registers::cells(random, sizes, density));
                 return case;
             }
@@ -112,7 +123,7 @@ impl Case {
         let mut cells = registers::cells(random, sizes, density);
         for record in cells.chunks_mut(sizes.fields()) {
             for cell in &mut record[sizes.references..] {
-                if let Cell::Value(value) = cell
+                if let Cell::Measured(value) | Cell::WorkedOut(value) = cell
                     && random.percent(70)
                 {
                     *value = random.pick(&FAR);
@@ -132,6 +143,24 @@ impl Case {
                     return case;
                 }
             }
+        }
+    }
+
+    /// A small case whose values are all near 0, so that rules often store what is there, add nothing
+    /// and offer what is not smaller.
+    pub fn with_marks(random: &mut Random) -> Case {
+        let sizes = Sizes {
+            records: random.between(1, 4),
+            references: 1,
+            measures: 1,
+        };
+        let text = marks::text(random).into_bytes();
+        let program = read_text(&text, &sizes).expect("the text passes");
+        Case {
+            sizes,
+            register: encode(sizes, &marks::cells(random, sizes)),
+            text,
+            program,
         }
     }
 

@@ -89,16 +89,19 @@ fn damage_cell(random: &mut Random, sizes: Sizes, file: &mut [u8]) {
         false => random.below(sizes.fields()),
     };
     let last = sizes.records as i32 - 1;
-    let (value, mark) = match random.below(9) {
-        0 => (0, 2),
+    let (value, mark) = match random.below(12) {
+        0 => (0, 3),
         1 => (last, 255),
+        8 => (last, 2),
+        9 => (last + 1, 2),
+        10 => (0, 2),
         2 => (1, 0),
         3 => (i32::MIN, 0),
         4 => (last + 1, 1),
         5 => (-1, 1),
         6 => (last, 1),
         7 => (0, 1),
-        _ => (random.number() as i32, random.below(3) as u8),
+        _ => (random.number() as i32, random.below(4) as u8),
     };
     set_cell(file, sizes, record * sizes.fields() + field, value, mark);
 }

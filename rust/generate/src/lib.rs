@@ -4,6 +4,7 @@
 pub mod cases;
 pub mod chains;
 pub mod damage;
+mod marks;
 pub mod metres;
 pub mod mutations;
 pub mod neighbours;

@@ -3,7 +3,7 @@
 
 use reference::program::{PlannedRule, Reading, Step};
 use reference::reading::follow;
-use reference::register::{Cell, Register};
+use reference::register::Register;
 use reference::rule::{Action, Comparison, Expression, Node, Operator, Term};
 
 /// What became of a sum that is out of range.
@@ -176,10 +176,6 @@ fn operated(operator: Operator, mut x: Worth, mut y: Worth) -> Worth {
 }
 
 fn read(chain: &Reading, register: &Register<'_>, record: usize) -> Option<i128> {
-    match follow(&chain.word, record, |record, field| {
-        register.cell(record, field)
-    }) {
-        Cell::Missing => None,
-        Cell::Value(value) => Some(i128::from(value)),
-    }
+    let cell = |record, field| register.cell(record, field);
+    follow(&chain.word, record, cell).map(i128::from)
 }

@@ -13,7 +13,8 @@ pub fn list(records: usize) -> Vec<u8> {
         references: 1,
         measures: 1,
     };
-    let record = |u: usize| [u.saturating_sub(1), u.min(1)].map(|value| Cell::Value(value as i32));
+    let record =
+        |u: usize| [u.saturating_sub(1), u.min(1)].map(|value| Cell::Measured(value as i32));
     let cells: Vec<Cell> = (0..records).flat_map(record).collect();
     encode(sizes, &cells)
 }

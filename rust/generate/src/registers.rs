@@ -50,12 +50,34 @@ pub fn cells(random: &mut Random, sizes: Sizes, density: usize) -> Vec<Cell> {
         for field in 0..sizes.fields() {
             cells.push(match random.percent(density) {
                 false => Cell::Missing,
-                true if field < sizes.references => Cell::Value(random.below(sizes.records) as i32),
-                true => Cell::Value(measure(random)),
+                true if field < sizes.references => {
+                    let record = random.below(sizes.records) as i32;
+                    filled(random, record)
+                }
+                true => {
+                    let measure = measure(random);
+                    filled(random, measure)
+                }
             });
         }
     }
     cells
+}
+
+/// The same cell, with a mark drawn anew where it is filled.
+pub fn marked_anew(random: &mut Random, cell: Cell) -> Cell {
+    match cell.value() {
+        None => Cell::Missing,
+        Some(value) => filled(random, value),
+    }
+}
+
+/// A filled cell with this value: measured, seldom worked out.
+fn filled(random: &mut Random, value: i32) -> Cell {
+    match random.percent(25) {
+        true => Cell::WorkedOut(value),
+        false => Cell::Measured(value),
+    }
 }
 
 /// A measure: a small one, one worth meeting, or any.

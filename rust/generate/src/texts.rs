@@ -87,6 +87,22 @@ pub fn gap_shape(random: &mut Random) -> Shape {
     }
 }
 
+/// A shape for sums and totals out of range: one step of several rules, from all local to all remote.
+pub fn overflow_shape(random: &mut Random) -> Shape {
+    Shape {
+        parts: 1,
+        rules: 10,
+        fewest_rules: 5,
+        hops: 2,
+        tests: 10,
+        remotes: random.pick(&[20, 50, 70, 100]),
+        numbers: 5,
+        metres: 40,
+        repeats: 20,
+        ..DOCUMENT_01
+    }
+}
+
 /// A shape with expressions on both sides of 8 groups and of 64 operators.
 pub fn expression_shape(random: &mut Random) -> Shape {
     Shape {

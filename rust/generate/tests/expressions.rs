@@ -335,13 +335,11 @@ fn sums_out_of_range_are_those_of_a_second_evaluator() {
             tally.count("no sum out of range");
             continue;
         };
-        let End::OutOfRange(places) = &end else {
+        let End::OutOfRange(outside) = &end else {
             panic!("{sums:?}, and yet {end:?}");
         };
-        assert_eq!(
-            (places[0].record, places[0].field),
-            (first.record, first.field)
-        );
+        let named = outside.named().expect("21 has a place");
+        assert_eq!((named.record, named.field), (first.record, first.field));
         let alone = |wanted: &dyn Fn(&generate::offences::Offence) -> bool| sums.iter().all(wanted);
         if alone(&|one| one.fate == first.fate) {
             tally.count(&format!("{:?}", first.fate));

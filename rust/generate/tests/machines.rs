@@ -9,7 +9,7 @@ use reference::direct::run_direct;
 use reference::messages::{inspect, run_messages};
 use reference::plan::Line;
 use reference::reading::follow;
-use reference::register::{Cell, Register};
+use reference::register::Register;
 use reference::run::{Run, Scratch};
 
 const RUNS: usize = 20_000;
@@ -56,7 +56,7 @@ fn message(cells: &Register, line: &Line, origin: usize, t: u16) -> (i64, u8) {
         cells.cell(record, field)
     });
     match read {
-        Cell::Value(value) if line.round <= usize::from(t) => (i64::from(value), 1),
+        Some(value) if line.round <= usize::from(t) => (i64::from(value), 1),
         _ => (0, 0),
     }
 }

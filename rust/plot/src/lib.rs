@@ -22,7 +22,7 @@
 //!
 //! let run = text.run(Machine::Messages, 1000);
 //! assert_eq!((run.finished, run.exchanges, run.messages), (1, 3, 4));
-//! assert_eq!(run.register.cell(0, 'M').unwrap().to_string(), "180");
+//! assert_eq!(run.register.cell(0, 'M').unwrap().to_string(), "180~");
 //! // Record 1 reads nothing, and keeps its 0.
 //! assert_eq!(run.register.cell(1, 'M').unwrap().to_string(), "0");
 //! # Ok::<(), plot::Refusal>(())

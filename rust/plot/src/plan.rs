@@ -67,7 +67,7 @@ impl Line {
 /// ```
 /// use plot::{LineKind, Register, Sizes, Text};
 /// let sizes = Sizes { records: 0, references: 1, measures: 1 };
-/// let register = Register::from_cells(sizes, &[])?;
+/// let register = Register::from_cells::<Option<i32>>(sizes, &[])?;
 /// let text = Text::check(&register, "step\nM[u] := M[A[A[u]]]\nend\n")?;
 /// let plan = text.plan(1)?;
 /// assert_eq!(plan.lines.len(), 3);

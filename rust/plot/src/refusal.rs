@@ -19,7 +19,7 @@ pub enum Kind {
     FileLength,
     /// 2: a size of the register is over its limit.
     Size,
-    /// 3: a mark is neither 0 nor 1.
+    /// 3: a mark is none of 0, 1 and 2.
     Mark,
     /// 4: an unfilled cell has a value other than 0.
     UnfilledValue,
@@ -57,9 +57,9 @@ pub enum Kind {
     Budget,
     /// 21: a sum or total is out of range.
     Range,
-    /// 24: groups stand more than 8 deep.
+    /// 24: groups stand more than 8 deep. The library does not answer it yet.
     Groups,
-    /// 25: an expression has more than 64 operators.
+    /// 25: an expression has more than 64 operators. The library does not answer it yet.
     Operators,
     /// A number that this crate does not know.
     Other(u32),
@@ -84,8 +84,8 @@ const KINDS: [Row; 23] = [
      "A register file has 12 bytes of sizes and 5 for each cell. Was it cut short, or is it another file?"),
     (Kind::Size, "a size of the register is over its limit",
      "A register has at most 4096 records, 8 reference fields and 8 measure fields."),
-    (Kind::Mark, "a mark is neither 0 nor 1",
-     "The mark of a cell is 1 where it is filled and 0 where it is not."),
+    (Kind::Mark, "a mark is none of 0, 1 and 2",
+     "The mark of a cell is 0 where it is unfilled, 1 where it is measured, 2 where a rule worked it out."),
     (Kind::UnfilledValue, "an unfilled cell has a value other than 0",
      "Store the value 0 there, or mark the cell as filled."),
     (Kind::Reference, "a reference leads to no record",
@@ -187,7 +187,7 @@ impl Kind {
 pub struct Refusal {
     /// What it is about.
     pub kind: Kind,
-    /// The line, counted from 1, for the numbers 7 to 15, 24 and 25; else 0. Where a text
+    /// The line, counted from 1, for the numbers 7 to 15; else 0. Where a text
     /// ends too early it is one past the last line.
     pub line: u64,
 }

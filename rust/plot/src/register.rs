@@ -57,8 +57,11 @@ impl Sizes {
 pub enum Cell {
     /// Nobody has filled it. It has no value, not even 0.
     Unfilled,
-    /// A value: a record number in a reference field, centimetres in a measure field.
-    Filled(i32),
+    /// A value that somebody measured or wrote down: a record number in a reference
+    /// field, centimetres in a measure field.
+    Measured(i32),
+    /// A value that a rule has worked out.
+    WorkedOut(i32),
 }
 
 impl Cell {
@@ -66,17 +69,35 @@ impl Cell {
     pub fn value(self) -> Option<i32> {
         match self {
             Cell::Unfilled => None,
-            Cell::Filled(value) => Some(value),
+            Cell::Measured(value) | Cell::WorkedOut(value) => Some(value),
+        }
+    }
+
+    /// The mark in a register file: 0 unfilled, 1 measured, 2 worked out.
+    pub fn mark(self) -> u8 {
+        match self {
+            Cell::Unfilled => 0,
+            Cell::Measured(_) => 1,
+            Cell::WorkedOut(_) => 2,
         }
     }
 }
 
+impl From<Option<i32>> for Cell {
+    /// A value is one that was measured.
+    fn from(value: Option<i32>) -> Cell {
+        value.map_or(Cell::Unfilled, Cell::Measured)
+    }
+}
+
 impl fmt::Display for Cell {
-    /// The value, `-` where the cell is unfilled.
+    /// The value, with `~` behind it where it is worked out; `-` where the cell is
+    /// unfilled.
     fn fmt(&self, f: &mut fmt::Formatter<'_>) -> fmt::Result {
-        match self.value() {
-            Some(value) => value.fmt(f),
-            None => f.pad("-"),
+        match self {
+            Cell::Unfilled => f.pad("-"),
+            Cell::Measured(value) => value.fmt(f),
+            Cell::WorkedOut(value) => f.pad(&format!("{value}~")),
         }
     }
 }
@@ -91,7 +112,7 @@ impl fmt::Display for Cell {
 /// let cells = [Some(1), None, Some(2), Some(0), None, Some(180)];
 /// let register = Register::from_cells(sizes, &cells)?;
 /// assert_eq!(register.sizes(), sizes);
-/// assert_eq!(register.cell(0, 'A'), Some(Cell::Filled(1)));
+/// assert_eq!(register.cell(0, 'A'), Some(Cell::Measured(1)));
 /// assert_eq!(register.cell(0, 'M'), Some(Cell::Unfilled));
 /// assert_eq!(register.cell(0, 'B'), None);
 /// assert_eq!(register.as_bytes().len(), 12 + 5 * 6);
@@ -113,16 +134,22 @@ impl Register {
         Ok(Register::loaded(bytes))
     }
 
-    /// The register with these cells, record by record, references first; `None`
-    /// is unfilled. Refusal 1 to 5, 1 where the number of cells is not the one
-    /// that the sizes say.
-    pub fn from_cells(sizes: Sizes, cells: &[Option<i32>]) -> Result<Register, Refusal> {
+    /// The register with these cells, record by record, references first; of plain
+    /// values `None` is unfilled and the others are measured. Refusal 1 to 5, 1 where
+    /// the number of cells is not the one that the sizes say.
+    pub fn from_cells<C>(sizes: Sizes, cells: &[C]) -> Result<Register, Refusal>
+    where
+        C: Copy + Into<Cell>,
+    {
+        let cells: Vec<Cell> = cells.iter().map(|&cell| cell.into()).collect();
         let sizes = [sizes.records, sizes.references, sizes.measures];
         let size = |size: usize| u32::try_from(size).unwrap_or(u32::MAX).to_le_bytes();
-        let values = cells.iter().map(|cell| cell.unwrap_or(0).to_le_bytes());
+        let values = cells
+            .iter()
+            .map(|cell| cell.value().unwrap_or(0).to_le_bytes());
         let mut bytes: Vec<u8> = sizes.into_iter().flat_map(size).collect();
         bytes.extend(values.flatten());
-        bytes.extend(cells.iter().map(|cell| u8::from(cell.is_some())));
+        bytes.extend(cells.iter().map(|cell| cell.mark()));
         Register::from_bytes(bytes)
     }
 
@@ -166,9 +193,11 @@ impl Register {
     fn cell_at(&self, place: usize) -> Cell {
         let value = &self.bytes[HEADER + VALUE_BYTES * place..];
         let marks = HEADER + VALUE_BYTES * self.sizes.cells();
+        let value = i32::from_le_bytes(*value.first_chunk().expect("it loads"));
         match self.bytes[marks + place] {
             0 => Cell::Unfilled,
-            _ => Cell::Filled(i32::from_le_bytes(*value.first_chunk().expect("it loads"))),
+            1 => Cell::Measured(value),
+            _ => Cell::WorkedOut(value),
         }
     }
 
@@ -216,7 +245,7 @@ impl Register {
         let chain = chain.as_ref();
         let number = lent::path(&self.bytes, chain, record as u64, &mut buffers, &mut answer);
         passed(number, &answer)?;
-        Ok(Path::taken_from(record, &buffers, &answer))
+        Ok(Path::taken_from(self, record, &buffers, &answer))
     }
 
     /// Places enough for each working array of any text: n × (64 + r + m + 1).

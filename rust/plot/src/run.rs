@@ -21,7 +21,10 @@ pub enum End {
     Whole,
     /// 20: the finished steps equal the budget and there is a step to do.
     BudgetExhausted,
-    /// 21: a sum for this record and field, or the total of that cell, is out of range.
+    /// 21: a sum or total is out of range. Of several the first: at the lowest
+    /// record a sum, of the earliest rule that forms one out of range, and of the
+    /// field that the rule writes; only where no record has one, a remote total, at
+    /// the lowest record and in it the first field.
     OutOfRange {
         /// The record's number.
         record: usize,
@@ -58,7 +61,7 @@ pub struct Run {
 
 impl Register {
     /// Checks a text and runs it over this register, at most `budget` steps.
-    /// Refusal 6 to 15, 24, 25; how the run ended is told in the [`Run`].
+    /// Refusal 6 to 15; how the run ended is told in the [`Run`].
     ///
     /// This looks at the text once: the working arrays are long enough for every
     /// text. [`Text::run`](crate::Text::run) lends shorter ones.

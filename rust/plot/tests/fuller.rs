@@ -54,13 +54,13 @@ impl Reading {
     /// The places of the cells that it passes, the first unfilled one being the last.
     fn way(&self, sizes: Sizes, cells: &[Cell]) -> Vec<usize> {
         let word = read_chain(&self.chain, &sizes).expect("the chain is valid");
-        let mut reached = Cell::Value(self.record as i32);
+        let mut reached = Some(self.record as i32);
         let mut places = Vec::new();
         for &field in word.fields() {
-            let Cell::Value(at) = reached else { break };
+            let Some(at) = reached else { break };
             let place = at as usize * sizes.fields() + usize::from(field);
             places.push(place);
-            reached = cells[place];
+            reached = cells[place].value();
         }
         places
     }
@@ -87,9 +87,10 @@ impl Pair {
         let ways = readings.iter().flat_map(|r| r.way(sizes, &second));
         let ways: Vec<usize> = ways.collect();
         let first = with_gaps(random, &second, &ways);
-        let differ = if ways.iter().any(|&place| first[place] != second[place]) {
+        let differs = |&place: &usize| first[place].value() != second[place].value();
+        let differ = if ways.iter().any(differs) {
             ON_THE_WAY
-        } else if first != second {
+        } else if (0..first.len()).any(|place| differs(&place)) {
             ELSEWHERE
         } else {
             EQUAL
@@ -160,12 +161,13 @@ fn loaded(file: &[u8]) -> Register {
     Register::from_bytes(file).expect("it loads")
 }
 
-/// These cells with some unfilled, most often one at a place of some ways.
+/// These cells with marks drawn anew and some unfilled, most often one at a place of
+/// some ways.
 fn with_gaps(random: &mut Random, cells: &[Cell], ways: &[usize]) -> Vec<Cell> {
     let gaps = random.pick(&[0, 0, 3, 10, 50]);
     let kept = |&cell: &Cell| match random.percent(gaps) {
         true => Cell::Missing,
-        false => cell,
+        false => registers::marked_anew(random, cell),
     };
     let mut cells: Vec<Cell> = cells.iter().map(kept).collect();
     if !ways.is_empty() && random.percent(80) {
@@ -214,6 +216,6 @@ fn a_whole_text_may_alter_a_depth() {
         let run = loaded(&encode(sizes, &depths)).run(text, Machine::Direct, 1_000);
         run.expect("it passes").register.read("M[u]", 0)
     };
-    assert_eq!(behind([Cell::Value(5), Cell::Missing]), Ok(Some(5)));
-    assert_eq!(behind([Cell::Value(5), Cell::Value(7)]), Ok(Some(1)));
+    assert_eq!(behind([Cell::Measured(5), Cell::Missing]), Ok(Some(5)));
+    assert_eq!(behind([Cell::Measured(5), Cell::Measured(7)]), Ok(Some(1)));
 }

@@ -48,7 +48,7 @@ fn expected(before: PathBuffers, sizes: Sizes, answer: &Result<Vec<Hop>, Refusal
     for (i, hop) in hops.iter().enumerate() {
         expected.buffers.records[i] = hop.record as u64;
         expected.buffers.fields[i] = sizes.letter(hop.field);
-        if let Cell::Value(value) = hop.cell {
+        if let Some(value) = hop.cell.value() {
             expected.buffers.values[i] = i64::from(value);
             expected.buffers.marks[i] = 1;
         }
@@ -79,18 +79,10 @@ fn name(answer: &Result<Vec<Hop>, Refusal>) -> String {
     }
 }
 
-/// What is read of a cell.
-fn value(cell: Cell) -> Option<i32> {
-    match cell {
-        Cell::Missing => None,
-        Cell::Value(value) => Some(value),
-    }
-}
-
 /// What is read at the end of a path: at `u` alone the record's own number.
 fn last(record: usize, hops: &[Hop]) -> Option<i32> {
     hops.last()
-        .map_or(Some(record as i32), |hop| value(hop.cell))
+        .map_or(Some(record as i32), |hop| hop.cell.value())
 }
 
 /// What the library reads over a file that loads.
@@ -130,8 +122,8 @@ fn compare(
     from_paper
 }
 
-/// A register of the same sizes that agrees on the listed cells, all else drawn
-/// anew: the same path, and the same reading.
+/// A register of the same sizes that agrees on the listed cells, values and whether
+/// filled, all else drawn anew: the same path, and the same reading.
 fn compare_other(
     random: &mut Random,
     tally: &mut Tally,
@@ -143,20 +135,22 @@ fn compare_other(
     let density = registers::density(random);
     let mut cells = registers::cells(random, sizes, density);
     for hop in hops {
-        cells[place(sizes, hop)] = hop.cell;
+        cells[place(sizes, hop)] = registers::marked_anew(random, hop.cell);
     }
     let other = encode(sizes, &cells);
     let _failing = OnFailure::new(&other)
         .bytes("chain", chain)
         .number("record", record as u64);
-    assert_eq!(path(&other, chain, record as u64).as_deref(), Ok(hops));
+    let same = path(&other, chain, record as u64).expect("it is not refused");
+    let shows = |hop: &Hop| (hop.record, hop.field, hop.cell.value());
+    assert!(same.iter().map(shows).eq(hops.iter().map(shows)));
     let register = plot::Register::from_bytes(&other[..]).expect("it loads");
     let listed = register.path(chain, record).expect("it is not refused");
     assert_eq!(listed.hops.len(), hops.len());
     for (hop, same) in listed.hops.iter().zip(hops) {
         assert_eq!(hop.record, same.record);
         assert_eq!(hop.field, char::from(sizes.letter(same.field)));
-        assert_eq!(hop.cell.value(), value(same.cell));
+        assert_eq!(hop.cell.value(), same.cell.value());
     }
     assert_eq!(listed.value, last(record, hops));
     assert_eq!(register.read(chain, record), Ok(last(record, hops)));
@@ -244,7 +238,7 @@ fn bindings_answer_in_rust_values() {
     let hop = |record, field, value: Option<i32>| plot::Hop {
         record,
         field,
-        cell: value.map_or(plot::Cell::Unfilled, plot::Cell::Filled),
+        cell: value.into(),
     };
     assert_eq!(path("u", 2), Ok((vec![], Some(2))));
     let whole = [(0, 'A', 1), (1, 'A', 2), (2, 'M', 180)];

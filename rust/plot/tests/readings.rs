@@ -11,7 +11,7 @@ use plot::lent::{self, Answer};
 use plot::{Kind, Register};
 use reference::reading::reading;
 use reference::refusal::Refusal;
-use reference::register::{Cell, Sizes};
+use reference::register::Sizes;
 
 const SMALL_REGISTERS: usize = 24_000;
 const LARGE_REGISTERS: usize = 500;
@@ -27,15 +27,15 @@ struct Expected {
 }
 
 /// For a value that was lent as `before`, which a refusal leaves.
-fn expected(before: i64, answer: Result<Cell, Refusal>) -> Expected {
+fn expected(before: i64, answer: Result<Option<i32>, Refusal>) -> Expected {
     let mut expected = Expected {
         refusal: 0,
         value: before,
         answer: [0; 8],
     };
     match answer {
-        Ok(Cell::Missing) => expected.value = 0,
-        Ok(Cell::Value(value)) => {
+        Ok(None) => expected.value = 0,
+        Ok(Some(value)) => {
             expected.value = i64::from(value);
             expected.answer[lent::FILLED] = 1;
         }
@@ -44,12 +44,12 @@ fn expected(before: i64, answer: Result<Cell, Refusal>) -> Expected {
     expected
 }
 
-fn name(chain: &[u8], answer: Result<Cell, Refusal>) -> String {
+fn name(chain: &[u8], answer: Result<Option<i32>, Refusal>) -> String {
     match answer {
-        Ok(Cell::Value(_)) if chain == b"u" => "own number".to_owned(),
-        Ok(Cell::Value(0)) => "filled zero".to_owned(),
-        Ok(Cell::Value(_)) => "filled".to_owned(),
-        Ok(Cell::Missing) => "unfilled".to_owned(),
+        Ok(Some(_)) if chain == b"u" => "own number".to_owned(),
+        Ok(Some(0)) => "filled zero".to_owned(),
+        Ok(Some(_)) => "filled".to_owned(),
+        Ok(None) => "unfilled".to_owned(),
         Err(refusal) => refusal_name(refusal.reason.number()),
     }
 }

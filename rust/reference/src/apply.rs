@@ -2,6 +2,7 @@
 //! machines do it alike; they differ in how a record comes to know a reading.
 
 use crate::evaluate::{Evaluated, evaluate};
+use crate::marks::{Transition, Transitions};
 use crate::program::{PlannedRule, Reading, Step};
 use crate::register::{Cell, Sizes};
 use crate::rule::{Action, Comparison, Expression, Sort, Test};
@@ -9,7 +10,7 @@ use crate::rule::{Action, Comparison, Expression, Sort, Test};
 /// What the records know of the cells as they stood before a step.
 pub trait Knowledge {
     /// A reading at a record.
-    fn read(&self, reading: &Reading, record: usize) -> Cell;
+    fn read(&self, reading: &Reading, record: usize) -> Option<i32>;
 }
 
 /// A record and a field.
@@ -21,8 +22,29 @@ pub struct Place {
     pub field: usize,
 }
 
-/// All places where a sum or a total is out of range; 21 may name any of them.
-pub type OutOfRange = Vec<Place>;
+/// All places where a sum or a total is out of range.
+#[derive(Clone, Debug, Default, PartialEq, Eq)]
+pub struct OutOfRange {
+    /// The sums that rules form, also in tests and in remote amounts, in each record
+    /// from the top: the record that reads, and the field that the rule writes.
+    pub sums: Vec<Place>,
+    /// The totals, of cells without such a sum.
+    pub totals: Vec<Place>,
+}
+
+impl OutOfRange {
+    /// What 21 names: the lowest record with such a sum and, in it, the field
+    /// that the earliest such rule writes; only where there is no such sum, the
+    /// lowest record, then first field, with such a total.
+    pub fn named(&self) -> Option<Place> {
+        let sum = self.sums.iter().min_by_key(|place| place.record);
+        let total = || {
+            let order = |place: &&Place| (place.record, place.field);
+            self.totals.iter().min_by_key(order)
+        };
+        sum.or_else(total).copied()
+    }
+}
 
 /// A step in work: the cells that it leaves, and the amounts added to them.
 #[derive(Clone, Debug)]
@@ -30,9 +52,12 @@ pub struct Work {
     sizes: Sizes,
     /// The cells, which stand as the step leaves them once it has been applied.
     pub cells: Vec<Cell>,
-    amounts: Vec<i64>,
+    /// For each cell the amounts of the `+=` letters that reached it.
+    amounts: Vec<Option<i64>>,
     /// How often a gap has left what an earlier rule of its step had stored.
     pub kept: u64,
+    /// What rules made of cells and their marks.
+    pub transitions: Transitions,
 }
 
 impl Work {
@@ -41,8 +66,9 @@ impl Work {
         Work {
             sizes,
             cells: vec![Cell::Missing; sizes.cells()],
-            amounts: vec![0; sizes.cells()],
+            amounts: vec![None; sizes.cells()],
             kept: 0,
+            transitions: Transitions::default(),
         }
     }
 
@@ -54,12 +80,17 @@ impl Work {
         known: &impl Knowledge,
     ) -> Result<u64, OutOfRange> {
         self.cells.copy_from_slice(before);
-        self.local_writes(step, known)?;
+        let sums = self.local_writes(step, known);
         let letters = self.remote_writes(step, known);
+        let mut totals = Vec::new();
         if step.has_additions() {
-            self.add_amounts()?;
+            totals = self.add_amounts();
+            totals.retain(|place| !sums.contains(place));
         }
-        Ok(letters)
+        match sums.is_empty() && totals.is_empty() {
+            true => Ok(letters),
+            false => Err(OutOfRange { sums, totals }),
+        }
     }
 
     fn place(&self, record: usize, field: usize) -> usize {
@@ -68,8 +99,9 @@ impl Work {
 
     /// For each record, each local rule in order; later ones overwrite earlier
     /// ones, but a sum out of range stops the run even where overwritten. A rule
-    /// that reads nothing leaves the cell as earlier rules left it.
-    fn local_writes(&mut self, step: &Step, known: &impl Knowledge) -> Result<(), OutOfRange> {
+    /// that reads nothing leaves the cell as earlier rules left it. Gives the
+    /// places of sums out of range, those of remote rules among them.
+    fn local_writes(&mut self, step: &Step, known: &impl Knowledge) -> Vec<Place> {
         let mut outside = Vec::new();
         for record in 0..self.sizes.records {
             for (index, rule) in step.rules.iter().enumerate() {
@@ -82,13 +114,13 @@ impl Work {
                     }
                     Some(Evaluated::Value(value)) => {
                         let place = self.place(record, field);
-                        self.cells[place] = Cell::Value(value);
+                        self.assign(place, value);
                     }
                     Some(Evaluated::OutOfRange) => outside.push(Place { record, field }),
                 }
             }
         }
-        none_outside(outside)
+        outside
     }
 
     /// One letter for each remote write whose test, if any, holds and whose C
@@ -104,7 +136,7 @@ impl Work {
                     continue;
                 }
                 let (target, x) = (known.read(target, record), evaluate(x, record, known));
-                if let (Cell::Value(target), Evaluated::Value(x)) = (target, x) {
+                if let (Some(target), Evaluated::Value(x)) = (target, x) {
                     self.deliver(*sort, self.place(target as usize, rule.field), x);
                     letters += 1;
                 }
@@ -113,25 +145,60 @@ impl Work {
         letters
     }
 
-    /// `<?=` keeps the smaller, and fills a missing cell; `+=` collects amounts.
+    /// `:=` leaves mark 2, whatever was there and whatever was read.
+    fn assign(&mut self, place: usize, value: i32) {
+        let cell = &mut self.cells[place];
+        self.transitions.count(match *cell {
+            Cell::Missing => Transition::AssignedUnfilled,
+            Cell::Measured(same) if same == value => Transition::AssignedSame,
+            Cell::Measured(_) => Transition::AssignedMeasured,
+            Cell::WorkedOut(_) => Transition::AssignedWorkedOut,
+        });
+        *cell = Cell::WorkedOut(value);
+    }
+
     fn deliver(&mut self, sort: Sort, place: usize, x: i32) {
-        match (sort, self.cells[place]) {
-            (Sort::Least, Cell::Missing) => self.cells[place] = Cell::Value(x),
-            (Sort::Least, Cell::Value(cell)) => self.cells[place] = Cell::Value(cell.min(x)),
-            (Sort::Add, _) => self.amounts[place] += i64::from(x),
+        match sort {
+            Sort::Least => self.keep_least(place, x),
+            Sort::Add => *self.amounts[place].get_or_insert(0) += i64::from(x),
         }
     }
 
+    /// `<?=` keeps the smaller, and fills a missing cell; it leaves mark 2 where it
+    /// does one or the other, and the cell as it is where it is not smaller.
+    fn keep_least(&mut self, place: usize, x: i32) {
+        let cell = &mut self.cells[place];
+        let (transition, left) = match *cell {
+            Cell::Missing => (Transition::LeastFills, Cell::WorkedOut(x)),
+            Cell::Measured(value) if x < value => (Transition::LeastChanges, Cell::WorkedOut(x)),
+            Cell::WorkedOut(value) if x < value => (Transition::LeastAgain, Cell::WorkedOut(x)),
+            Cell::Measured(_) => (Transition::LeastLeavesMeasured, *cell),
+            Cell::WorkedOut(_) => (Transition::LeastLeavesWorkedOut, *cell),
+        };
+        self.transitions.count(transition);
+        *cell = left;
+    }
+
     /// All amounts go to their cells as one whole number; only this total must be
-    /// in range. A missing cell stays missing and has no total.
-    fn add_amounts(&mut self) -> Result<(), OutOfRange> {
+    /// in range. A filled cell that one of them reached is left with mark 2, also
+    /// where they come to 0. A missing cell stays missing and has no total. Gives
+    /// the places of totals out of range.
+    fn add_amounts(&mut self) -> Vec<Place> {
         let fields = self.sizes.fields();
         let mut outside = Vec::new();
         for (place, (cell, amount)) in self.cells.iter_mut().zip(&mut self.amounts).enumerate() {
-            let amount = std::mem::take(amount);
-            if let Cell::Value(value) = cell {
-                match i32::try_from(i64::from(*value) + amount) {
-                    Ok(total) => *value = total,
+            let Some(amount) = amount.take() else {
+                continue;
+            };
+            self.transitions.count(match *cell {
+                Cell::Missing => Transition::AddedUnfilled,
+                Cell::Measured(_) if amount == 0 => Transition::AddedNothing,
+                Cell::Measured(_) => Transition::AddedMeasured,
+                Cell::WorkedOut(_) => Transition::AddedWorkedOut,
+            });
+            if let Some(value) = cell.value() {
+                match i32::try_from(i64::from(value) + amount) {
+                    Ok(total) => *cell = Cell::WorkedOut(total),
                     Err(_) => outside.push(Place {
                         record: place / fields,
                         field: place % fields,
@@ -139,14 +206,7 @@ impl Work {
                 }
             }
         }
-        none_outside(outside)
-    }
-}
-
-fn none_outside(outside: OutOfRange) -> Result<(), OutOfRange> {
-    match outside.is_empty() {
-        true => Ok(()),
-        false => Err(outside),
+        outside
     }
 }
 

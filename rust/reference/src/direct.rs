@@ -52,7 +52,7 @@ struct Following<'a> {
 }
 
 impl Knowledge for Following<'_> {
-    fn read(&self, reading: &Reading, record: usize) -> Cell {
+    fn read(&self, reading: &Reading, record: usize) -> Option<i32> {
         follow(&reading.word, record, |record, field| {
             self.cells[record * self.fields + field]
         })

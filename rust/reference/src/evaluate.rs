@@ -3,7 +3,6 @@
 use crate::apply::Knowledge;
 use crate::line_check::MAX_GROUPS;
 use crate::program::Reading;
-use crate::register::Cell;
 use crate::rule::{Expression, Node, Operator, Term};
 
 /// What an expression comes to.
@@ -90,10 +89,7 @@ fn operate(operator: Operator, x: Option<i32>, y: Option<i32>) -> Evaluated {
 #[inline]
 fn value(term: &Term<Reading>, record: usize, known: &impl Knowledge) -> Option<i32> {
     match term {
-        Term::Chain(reading) => match known.read(reading, record) {
-            Cell::Missing => None,
-            Cell::Value(value) => Some(value),
-        },
+        Term::Chain(reading) => known.read(reading, record),
         Term::Number(number) => Some(*number as i32),
     }
 }

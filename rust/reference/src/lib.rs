@@ -9,6 +9,7 @@ pub mod evaluate;
 mod expression_form;
 pub mod form;
 pub mod line_check;
+pub mod marks;
 pub mod messages;
 pub mod path;
 pub mod plan;

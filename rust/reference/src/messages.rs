@@ -44,8 +44,8 @@ pub fn inspect(
     let places = values.iter_mut().zip(marks).zip(&messages.places);
     for ((value, mark), message) in places.take(shown) {
         (*value, *mark) = match message {
-            Cell::Missing => (0, 0),
-            Cell::Value(z) => (i64::from(*z), 1),
+            None => (0, 0),
+            Some(z) => (i64::from(*z), 1),
         };
     }
     Ok(plan.lines().len())
@@ -55,12 +55,12 @@ pub fn inspect(
 /// value read (Read) or the addressee (Back), missing where none was sent.
 struct Messages {
     sizes: Sizes,
-    places: Vec<Cell>,
+    places: Vec<Option<i32>>,
 }
 
 impl Machine for Messages {
     fn new(sizes: Sizes, program: &Program) -> Messages {
-        let places = vec![Cell::Missing; sizes.records * program.most_lines()];
+        let places = vec![None; sizes.records * program.most_lines()];
         Messages { sizes, places }
     }
 
@@ -100,7 +100,7 @@ impl Messages {
             }
             for origin in 0..self.sizes.records {
                 let message = self.message(line, origin, cells);
-                letters += u64::from(message != Cell::Missing);
+                letters += u64::from(message.is_some());
                 self.places[number * self.sizes.records + origin] = message;
             }
         }
@@ -108,27 +108,26 @@ impl Messages {
     }
 
     /// What the writer knows of the rest of the chain, if it knows the origin.
-    fn message(&self, line: &Line, origin: usize, cells: &[Cell]) -> Cell {
+    fn message(&self, line: &Line, origin: usize, cells: &[Cell]) -> Option<i32> {
         let writer = match line.writer {
-            Writer::Origin => Cell::Value(origin as i32),
-            Writer::ToldBy(back) => self.place(back, origin),
+            Writer::Origin => origin,
+            Writer::ToldBy(back) => self.place(back, origin)? as usize,
         };
-        match writer {
-            Cell::Missing => Cell::Missing,
-            Cell::Value(writer) => self.known(line.knows, writer as usize, cells),
-        }
+        self.known(line.knows, writer, cells)
     }
 
     /// What a record knows: its own number, its own cells, and what it was told.
-    fn known(&self, source: Source, record: usize, cells: &[Cell]) -> Cell {
+    fn known(&self, source: Source, record: usize, cells: &[Cell]) -> Option<i32> {
         match source {
-            Source::OwnNumber => Cell::Value(record as i32),
-            Source::OwnCell(field) => cells[record * self.sizes.fields() + usize::from(field)],
+            Source::OwnNumber => Some(record as i32),
+            Source::OwnCell(field) => {
+                cells[record * self.sizes.fields() + usize::from(field)].value()
+            }
             Source::Line(read) => self.place(usize::from(read), record),
         }
     }
 
-    fn place(&self, line: usize, origin: usize) -> Cell {
+    fn place(&self, line: usize, origin: usize) -> Option<i32> {
         self.places[line * self.sizes.records + origin]
     }
 }
@@ -140,7 +139,7 @@ struct Told<'a> {
 }
 
 impl Knowledge for Told<'_> {
-    fn read(&self, reading: &Reading, record: usize) -> Cell {
+    fn read(&self, reading: &Reading, record: usize) -> Option<i32> {
         self.messages.known(reading.source, record, self.cells)
     }
 }

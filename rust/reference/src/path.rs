@@ -29,9 +29,9 @@ fn hops(word: &Word, record: usize, cell: impl Fn(usize, usize) -> Cell) -> Vec<
             field,
             cell,
         });
-        match cell {
-            Cell::Missing => break,
-            Cell::Value(value) => record = value as usize,
+        match cell.value() {
+            None => break,
+            Some(value) => record = value as usize,
         }
     }
     hops

@@ -31,7 +31,8 @@ fn refused(number: u32, at: usize) -> String {
     format!("refused {number} at {at}\n")
 }
 
-/// The header, then each record's number and fields, `-` for unfilled.
+/// The header, then each record's number and fields: `-` for unfilled, `~` behind
+/// a worked-out value.
 fn listing(run: &Run, output: &[u8]) -> String {
     let register = Register::load(output).expect("a run gives a register that loads");
     let sizes = register.sizes;
@@ -45,7 +46,8 @@ fn listing(run: &Run, output: &[u8]) -> String {
         for field in 0..sizes.fields() {
             text += &match register.cell(record, field) {
                 Cell::Missing => " -".to_owned(),
-                Cell::Value(value) => format!(" {value}"),
+                Cell::Measured(value) => format!(" {value}"),
+                Cell::WorkedOut(value) => format!(" {value}~"),
             };
         }
         text += "\n";

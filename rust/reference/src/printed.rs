@@ -11,12 +11,12 @@ pub const SIZES: Sizes = Sizes {
 
 /// A: 1, 2, missing. M: missing, 0, 180.
 pub const CELLS: [Cell; 6] = [
-    Cell::Value(1),
+    Cell::Measured(1),
     Cell::Missing,
-    Cell::Value(2),
-    Cell::Value(0),
+    Cell::Measured(2),
+    Cell::Measured(0),
     Cell::Missing,
-    Cell::Value(180),
+    Cell::Measured(180),
 ];
 
 /// The rules text.
@@ -25,7 +25,7 @@ pub const TEXT: &[u8] = b"step\nM[u] := M[A[A[u]]]\nend\n";
 /// What the program prints.
 pub const OUTPUT: &str = "\
 3 records 1 steps 3 exchanges 4 letters
-0 1 180
+0 1 180~
 1 2 0
 2 - 180
 ";

@@ -5,16 +5,13 @@ use crate::refusal::{Reason, Refusal};
 use crate::register::{Cell, Register};
 
 /// Follows a hop word from a record, hop by hop; the first missing cell makes
-/// the whole reading missing.
-pub fn follow(word: &Word, record: usize, cell: impl Fn(usize, usize) -> Cell) -> Cell {
-    let mut reached = Cell::Value(record as i32);
+/// the whole reading missing. A reading has no mark, only a value or none.
+pub fn follow(word: &Word, record: usize, cell: impl Fn(usize, usize) -> Cell) -> Option<i32> {
+    let mut reached = record as i32;
     for &field in word.fields() {
-        match reached {
-            Cell::Missing => return Cell::Missing,
-            Cell::Value(at) => reached = cell(at as usize, usize::from(field)),
-        }
+        reached = cell(reached as usize, usize::from(field)).value()?;
     }
-    reached
+    Some(reached)
 }
 
 /// What a single reading is asked for: the register is looked at first, then the
@@ -33,7 +30,7 @@ pub(crate) fn asked<'a>(
 }
 
 /// A single reading.
-pub fn reading(register: &[u8], chain: &[u8], record: u64) -> Result<Cell, Refusal> {
+pub fn reading(register: &[u8], chain: &[u8], record: u64) -> Result<Option<i32>, Refusal> {
     let (register, word, record) = asked(register, chain, record)?;
     Ok(follow(&word, record, |record, field| {
         register.cell(record, field)

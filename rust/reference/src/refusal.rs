@@ -8,8 +8,8 @@ pub enum Reason {
     Length = 1,
     /// More records or fields than a register may have.
     SizeOverLimit = 2,
-    /// A mark that is neither 0 nor 1.
-    MarkAboveOne = 3,
+    /// A mark that is none of 0, 1 and 2.
+    MarkAboveTwo = 3,
     /// A missing cell whose value is not 0.
     MissingWithValue = 4,
     /// A reference that is not the number of a record.

@@ -13,10 +13,22 @@ const HEADER: usize = 12;
 /// A cell of a register.
 #[derive(Clone, Copy, Debug, PartialEq, Eq)]
 pub enum Cell {
-    /// Nobody filled it in; the paper's unfilled.
+    /// Nobody filled it in; the paper's unfilled, mark 0.
     Missing,
-    /// Filled with this value, which may well be 0.
-    Value(i32),
+    /// Filled with this value, which may well be 0: mark 1.
+    Measured(i32),
+    /// Filled with this value by a rule: mark 2 (M-107 of document 02).
+    WorkedOut(i32),
+}
+
+impl Cell {
+    /// What is read of it: its value, whatever its mark, where it is filled.
+    pub fn value(self) -> Option<i32> {
+        match self {
+            Cell::Missing => None,
+            Cell::Measured(value) | Cell::WorkedOut(value) => Some(value),
+        }
+    }
 }
 
 /// The kind of a field, a chain or a number.
@@ -161,9 +173,9 @@ fn check_filled(
         match mark {
             0 if value == 0 => (),
             0 => return Err(Reason::MissingWithValue),
-            1 if may_be(value) => (),
-            1 => return Err(Reason::ReferenceOutside),
-            _ => return Err(Reason::MarkAboveOne),
+            1 | 2 if may_be(value) => (),
+            1 | 2 => return Err(Reason::ReferenceOutside),
+            _ => return Err(Reason::MarkAboveTwo),
         }
     }
     Ok(())
@@ -181,9 +193,11 @@ fn read_sizes(header: &[u8]) -> Sizes {
 }
 
 fn decode(value: [u8; 4], mark: u8) -> Cell {
+    let value = i32::from_le_bytes(value);
     match mark {
         0 => Cell::Missing,
-        _ => Cell::Value(i32::from_le_bytes(value)),
+        1 => Cell::Measured(value),
+        _ => Cell::WorkedOut(value),
     }
 }
 
@@ -199,7 +213,8 @@ pub fn encode_into(sizes: Sizes, cells: &[Cell], output: &mut [u8]) {
     for ((value, mark), cell) in places.zip(cells) {
         (*value, *mark) = match cell {
             Cell::Missing => ([0; 4], 0),
-            Cell::Value(z) => (z.to_le_bytes(), 1),
+            Cell::Measured(z) => (z.to_le_bytes(), 1),
+            Cell::WorkedOut(z) => (z.to_le_bytes(), 2),
         };
     }
 }

@@ -2,6 +2,7 @@
 //! run gives. Both machines run alike; they differ in how a step is done.
 
 use crate::apply::{OutOfRange, Work};
+use crate::marks::{Transition, Transitions};
 use crate::program::{Part, Program, Step};
 use crate::refusal::{Reason, Refusal};
 use crate::register::{Cell, Register, Sizes, encode_into};
@@ -37,7 +38,8 @@ pub enum End {
     Whole,
     /// 20: the finished steps equal the budget and there is a step to do.
     BudgetExhausted,
-    /// 21: a sum or a total is out of range, at each of these places.
+    /// 21: a sum or a total is out of range, at each of these places, of which it
+    /// names the first.
     OutOfRange(OutOfRange),
 }
 
@@ -71,6 +73,8 @@ pub struct Run {
     pub counts: Counts,
     /// How often a gap left what an earlier rule of its step had stored.
     pub kept: u64,
+    /// What rules made of cells and their marks.
+    pub transitions: Transitions,
     /// How it ended.
     pub end: End,
 }
@@ -128,6 +132,7 @@ pub fn run<M: Machine>(
         finished: runner.finished,
         counts: runner.counts,
         kept: runner.work.kept,
+        transitions: runner.work.transitions,
         end,
     })
 }
@@ -166,8 +171,8 @@ impl<M: Machine> Runner<M> {
         Ok(())
     }
 
-    /// Runs the steps of a loop once and again until its field is the same,
-    /// values and marks, before and after a pass.
+    /// Runs the steps of a loop once and again until its field is the same, values
+    /// and whether filled, before and after a pass; 1 and 2 are not told apart.
     fn repeat(&mut self, field: usize, steps: &[Step]) -> Result<(), End> {
         let mut before = Vec::new();
         loop {
@@ -176,7 +181,11 @@ impl<M: Machine> Runner<M> {
             for step in steps {
                 self.step(step)?;
             }
-            if self.column(field).eq(before.iter().copied()) {
+            let values = before.iter().copied().map(Cell::value);
+            if self.column(field).map(Cell::value).eq(values) {
+                if self.column(field).ne(before) {
+                    self.work.transitions.count(Transition::AtRest);
+                }
                 return Ok(());
             }
         }

@@ -4,11 +4,13 @@ use reference::printed;
 use reference::reading::reading;
 use reference::register::{Cell, Sizes, encode};
 
-fn read(chain: &str, record: u64) -> Result<Cell, (u32, usize)> {
+fn read(chain: &str, record: u64) -> Result<Option<i32>, (u32, usize)> {
     refuse(reading(&printed::register(), chain.as_bytes(), record))
 }
 
-fn refuse(answer: Result<Cell, reference::refusal::Refusal>) -> Result<Cell, (u32, usize)> {
+fn refuse(
+    answer: Result<Option<i32>, reference::refusal::Refusal>,
+) -> Result<Option<i32>, (u32, usize)> {
     answer.map_err(|refusal| (refusal.reason.number(), refusal.line))
 }
 
@@ -20,16 +22,16 @@ fn chain(letters: &str) -> String {
 
 #[test]
 fn readings_of_the_printed_register() {
-    assert_eq!(read("M[u]", 0), Ok(Cell::Missing));
-    assert_eq!(read("M[u]", 1), Ok(Cell::Value(0)));
-    assert_eq!(read("M[u]", 2), Ok(Cell::Value(180)));
-    assert_eq!(read("u", 2), Ok(Cell::Value(2)));
-    assert_eq!(read("A[A[u]]", 0), Ok(Cell::Value(2)));
-    assert_eq!(read("A[A[u]]", 1), Ok(Cell::Missing));
-    assert_eq!(read("M[A[A[u]]]", 0), Ok(Cell::Value(180)));
-    assert_eq!(read("M[A[A[u]]]", 1), Ok(Cell::Missing));
-    assert_eq!(read("M[A[u]]", 0), Ok(Cell::Value(0)));
-    assert_eq!(read("M[A[u]]", 2), Ok(Cell::Missing));
+    assert_eq!(read("M[u]", 0), Ok(None));
+    assert_eq!(read("M[u]", 1), Ok(Some(0)));
+    assert_eq!(read("M[u]", 2), Ok(Some(180)));
+    assert_eq!(read("u", 2), Ok(Some(2)));
+    assert_eq!(read("A[A[u]]", 0), Ok(Some(2)));
+    assert_eq!(read("A[A[u]]", 1), Ok(None));
+    assert_eq!(read("M[A[A[u]]]", 0), Ok(Some(180)));
+    assert_eq!(read("M[A[A[u]]]", 1), Ok(None));
+    assert_eq!(read("M[A[u]]", 0), Ok(Some(0)));
+    assert_eq!(read("M[A[u]]", 2), Ok(None));
 }
 
 #[test]
@@ -39,10 +41,10 @@ fn hops_go_from_the_inside_out() {
         references: 2,
         measures: 0,
     };
-    let cells = [1, 0, 0, 2, 0, 0].map(Cell::Value);
+    let cells = [1, 0, 0, 2, 0, 0].map(Cell::Measured);
     let file = encode(sizes, &cells);
-    assert_eq!(refuse(reading(&file, b"B[A[u]]", 0)), Ok(Cell::Value(2)));
-    assert_eq!(refuse(reading(&file, b"A[B[u]]", 0)), Ok(Cell::Value(1)));
+    assert_eq!(refuse(reading(&file, b"B[A[u]]", 0)), Ok(Some(2)));
+    assert_eq!(refuse(reading(&file, b"A[B[u]]", 0)), Ok(Some(1)));
 }
 
 #[test]
@@ -74,7 +76,7 @@ fn measure_inside_is_10() {
 
 #[test]
 fn sixteen_hops_pass_and_seventeen_are_11() {
-    assert_eq!(read(&chain(&"A".repeat(16)), 0), Ok(Cell::Missing));
+    assert_eq!(read(&chain(&"A".repeat(16)), 0), Ok(None));
     assert_eq!(read(&chain(&"A".repeat(17)), 0), Err((11, 1)));
     assert_eq!(read(&chain(&"A".repeat(100_000)), 0), Err((11, 1)));
     let sizes = Sizes {
@@ -82,10 +84,10 @@ fn sixteen_hops_pass_and_seventeen_are_11() {
         references: 1,
         measures: 0,
     };
-    let file = encode(sizes, &[1, 0].map(Cell::Value));
+    let file = encode(sizes, &[1, 0].map(Cell::Measured));
     let turns = |hops| refuse(reading(&file, chain(&"A".repeat(hops)).as_bytes(), 0));
-    assert_eq!(turns(15), Ok(Cell::Value(1)));
-    assert_eq!(turns(16), Ok(Cell::Value(0)));
+    assert_eq!(turns(15), Ok(Some(1)));
+    assert_eq!(turns(16), Ok(Some(0)));
 }
 
 #[test]
@@ -102,7 +104,7 @@ fn lowest_number_first() {
 
 #[test]
 fn record_not_below_n_is_16() {
-    assert_eq!(read("u", 2), Ok(Cell::Value(2)));
+    assert_eq!(read("u", 2), Ok(Some(2)));
     assert_eq!(read("u", 3), Err((16, 0)));
     assert_eq!(read("M[u]", u64::MAX), Err((16, 0)));
     assert_eq!(read("M[u]", 1 << 32), Err((16, 0)));
@@ -120,7 +122,7 @@ fn record_not_below_n_is_16() {
 #[test]
 fn register_comes_first_then_the_chain() {
     let mut file = printed::register();
-    file[36] = 2;
+    file[36] = 3;
     assert_eq!(refuse(reading(&file, b"", 3)), Err((3, 0)));
     assert_eq!(read("", 3), Err((7, 1)));
 }

@@ -2,11 +2,10 @@
 
 mod common;
 
-use common::run;
+use common::{measured, run};
 use reference::messages::inspect;
 use reference::print::print;
 use reference::printed;
-use reference::register::Cell::{Missing, Value};
 use reference::register::{Cell, Sizes, encode};
 
 /// Exchanges and letters of a step of these rules over the printed register.
@@ -56,9 +55,14 @@ fn letters_to_oneself_and_to_missing_cells_count() {
         references: 1,
         measures: 0,
     };
-    let left = run(sizes, &[Value(0)], "step\nA[u] := A[A[u]]\nend\n", 9);
+    let left = run(
+        sizes,
+        &measured(&[Some(0)]),
+        "step\nA[u] := A[A[u]]\nend\n",
+        9,
+    );
     assert_eq!((left.run.counts.exchanges, left.run.counts.letters), (2, 2));
-    assert_eq!(left.cells, [Value(0)]);
+    assert_eq!(left.values, [Some(0)]);
 }
 
 #[test]
@@ -67,11 +71,12 @@ fn counts_are_summed_over_the_finished_steps() {
         + "step\nM[u] := 2147483647 + 1\nremote M[u] += 1\nend\n";
     let left = run(printed::SIZES, &printed::CELLS, &text, 9);
     assert_eq!((left.run.finished, left.run.end.number()), (2, 21));
+    assert_eq!(left.cells, printed::CELLS);
     assert_eq!((left.run.counts.exchanges, left.run.counts.letters), (4, 8));
 }
 
 /// The places of the printed step after round t, with rubbish behind the last line.
-fn look(t: u16) -> Vec<Cell> {
+fn look(t: u16) -> Vec<Option<i32>> {
     let (mut values, mut marks) = ([77; 20], [9; 20]);
     let lines = inspect(
         &printed::register(),
@@ -86,19 +91,19 @@ fn look(t: u16) -> Vec<Cell> {
     let cell = |(value, mark): (&i64, &u8)| match mark {
         0 => {
             assert_eq!(*value, 0);
-            Missing
+            None
         }
-        _ => Value(i32::try_from(*value).unwrap()),
+        _ => Some(i32::try_from(*value).unwrap()),
     };
     values.iter().zip(&marks).take(9).map(cell).collect()
 }
 
 #[test]
 fn look_after_each_round() {
-    let nothing = [Missing; 3];
-    let back = [Value(1), Value(2), Missing];
-    let back_two = [Value(2), Missing, Missing];
-    let read = [Value(180), Missing, Missing];
+    let nothing = [None; 3];
+    let back = [Some(1), Some(2), None];
+    let back_two = [Some(2), None, None];
+    let read = [Some(180), None, None];
     assert_eq!(look(0), [nothing, nothing, nothing].concat());
     assert_eq!(look(1), [back, nothing, nothing].concat());
     assert_eq!(look(2), [back, back_two, nothing].concat());
@@ -162,7 +167,7 @@ fn program_takes_512_bytes() {
         references: 0,
         measures: 1,
     };
-    let largest = encode(sizes, &[Missing; 100]);
+    let largest = encode(sizes, &[Cell::Missing; 100]);
     assert_eq!(largest.len(), 512);
     assert!(print(&largest, b"").starts_with("100 records 0 steps"));
     let mut larger = largest;

@@ -19,17 +19,17 @@ fn hop(record: usize, field: usize, cell: Cell) -> Hop {
 #[test]
 fn each_hop_up_to_the_value() {
     let depth = [
-        hop(0, 0, Cell::Value(1)),
-        hop(1, 0, Cell::Value(2)),
-        hop(2, 1, Cell::Value(180)),
+        hop(0, 0, Cell::Measured(1)),
+        hop(1, 0, Cell::Measured(2)),
+        hop(2, 1, Cell::Measured(180)),
     ];
     assert_eq!(listed("M[A[A[u]]]", 0), depth);
-    assert_eq!(listed("M[u]", 1), [hop(1, 1, Cell::Value(0))]);
+    assert_eq!(listed("M[u]", 1), [hop(1, 1, Cell::Measured(0))]);
 }
 
 #[test]
 fn the_first_gap_is_the_last_hop() {
-    let gap = [hop(1, 0, Cell::Value(2)), hop(2, 0, Cell::Missing)];
+    let gap = [hop(1, 0, Cell::Measured(2)), hop(2, 0, Cell::Missing)];
     assert_eq!(listed("M[A[A[u]]]", 1), gap);
     assert_eq!(listed("A[A[A[A[u]]]]", 1), gap);
     assert_eq!(listed("M[A[u]]", 2), [hop(2, 0, Cell::Missing)]);
@@ -48,8 +48,8 @@ fn a_cell_may_be_listed_twice() {
         references: 1,
         measures: 0,
     };
-    let file = encode(sizes, &[1, 0].map(Cell::Value));
-    let [to, back] = [hop(0, 0, Cell::Value(1)), hop(1, 0, Cell::Value(0))];
+    let file = encode(sizes, &[1, 0].map(Cell::Measured));
+    let [to, back] = [hop(0, 0, Cell::Measured(1)), hop(1, 0, Cell::Measured(0))];
     assert_eq!(path(&file, b"A[A[A[u]]]", 0), Ok(vec![to, back, to]));
 }
 

@@ -41,7 +41,7 @@ fn printed_register_loads() {
     let register = Register::load(&PRINTED).unwrap();
     assert_eq!(register.sizes, printed::SIZES);
     assert_eq!(register.cells(), printed::CELLS);
-    assert_eq!(register.cell(1, 1), Cell::Value(0));
+    assert_eq!(register.cell(1, 1), Cell::Measured(0));
     assert_eq!(register.cell(2, 0), Cell::Missing);
 }
 
@@ -53,7 +53,7 @@ fn encoding_gives_the_file_back() {
         references: 0,
         measures: 1,
     };
-    let cells = [Cell::Value(i32::MIN), Cell::Value(-1)];
+    let cells = [Cell::Measured(i32::MIN), Cell::Measured(-1)];
     let file = encode(sizes, &cells);
     assert_eq!(file[12..], [0, 0, 0, 128, 255, 255, 255, 255, 1, 1]);
     assert_eq!(Register::load(&file).unwrap().cells(), cells);
@@ -91,10 +91,19 @@ fn short_header_comes_before_sizes_and_sizes_before_length() {
 }
 
 #[test]
-fn mark_above_one_is_3() {
-    assert_eq!(refusal(&changed(36, 2)), 3);
+fn mark_above_two_is_3() {
+    assert_eq!(refusal(&changed(36, 3)), 3);
     assert_eq!(refusal(&changed(41, 255)), 3);
     assert_eq!(refusal(&changed(37, 1)), 0);
+}
+
+#[test]
+fn mark_2_is_worked_out() {
+    let file = changed(41, 2);
+    let register = Register::load(&file).unwrap();
+    assert_eq!(register.cell(2, 1), Cell::WorkedOut(180));
+    assert_eq!(encode(register.sizes, &register.cells()), file);
+    assert_eq!(refusal(&changed(37, 2)), 0);
 }
 
 #[test]
@@ -112,14 +121,17 @@ fn reference_outside_is_5() {
     assert_eq!(refusal(&changed(12, 2)), 0);
     assert_eq!(refusal(&changed(12, 0)), 0);
     assert_eq!(refusal(&changed(32, 3)), 0);
+    let mut worked_out = changed(12, 3);
+    worked_out[36] = 2;
+    assert_eq!(refusal(&worked_out), 5);
 }
 
 #[test]
 fn cells_are_looked_at_one_by_one() {
     let mut file = changed(12, 3);
-    file[37] = 2;
+    file[37] = 3;
     assert_eq!(refusal(&file), 5);
-    file[36] = 2;
+    file[36] = 3;
     assert_eq!(refusal(&file), 3);
     let mut file = changed(16, 1);
     file[20] = 3;

@@ -18,6 +18,12 @@ enum-known-cell c = search needs
 widen-requires : tie.Need-widen-requires
 widen-requires c κs = search needs
 
+enum-known-cell-2 : tie.Need-enum-known-cell-2
+enum-known-cell-2 c = search needs
+
+widen-requires-2 : tie.Need-widen-requires-2
+widen-requires-2 c κs = search needs
+
 returns : tie.Need-returns
 unfolding valueOf
 returns c = sym (ap valueOf (c .enum-told .given .1))
@@ -28,5 +34,21 @@ returns-2 c =
     let v = c .before .before .cell .given in
     toZ-ofZ {w = w64} (record { sfits = c .widen .ok }) ∙ c .widen .ensures ∙ kept (v .0 .0) (c .before .known-told .given .0 .1) ∙ sym (ap valueOf (v .1))
 
+returns-3 : tie.Need-returns-3
+unfolding valueOf
+returns-3 c =
+    let v = c .before .before .cell2 .given in
+    toZ-ofZ {w = w64} (record { sfits = c .widen2 .ok }) ∙ c .widen2 .ensures ∙ kept (v .0 .0) (c .before .known-told2 .given .0 .1) ∙ sym (ap valueOf (v .1))
+
 pub value-of-spec : {M : Type 1} → statement M
-value-of-spec = tie.close (tie.spec enum-told enum-known-cell widen-requires returns returns-2)
+value-of-spec =
+    tie.close
+    (tie.spec
+    enum-told
+    enum-known-cell
+    widen-requires
+    enum-known-cell-2
+    widen-requires-2
+    returns
+    returns-2
+    returns-3)

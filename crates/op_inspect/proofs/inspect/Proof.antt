@@ -24,7 +24,7 @@ use Rattle.op_check.specs.declared.step.StepPlan.{StepPlan}
 use Rattle.op_check.proofs.Checks.{refused-answer}
 use Rattle.op_check.proofs.Passed.{StepThere, step-passes, loaded, passed, few-lines}
 use Rattle.op_inspect.specs.Inspection.{inspection}
-use Rattle.op_inspect.specs.Answer.{refusedWith, shownLines, Answered}
+use Rattle.op_inspect.specs.Answer.{inspectRefusal, shownLines, InspectAnswered}
 use Rattle.op_inspect.specs.declared.InspectAnswer.{InspectAnswer}
 use Rattle.op_inspect.proofs.Answering.{inspect-refused, inspect-short, inspect-done, lines-room, refused-answered, step-answered}
 use Rattle.op_inspect.proofs.inspect.Statement.{statement}
@@ -35,8 +35,8 @@ module _ (e : tie.Start) where
   abbrev outcome : Outcome (List Fact)
   outcome = let a = e .args in inspection (now (a .file)) (now (a .text)) (a .step) (length (now (a .values))) (length (now (a .marks)))
 
-  turned-back : {n k : ℕ} {r : InspectAnswer} → outcome ≡ refused n k → r ≡ refusedWith n k
-      → let a = e .args in Answered outcome (now (a .file)) (a .t) (now (a .values)) (now (a .marks)) (now (a .values)) (now (a .marks)) r
+  turned-back : {n k : ℕ} {r : InspectAnswer} → outcome ≡ refused n k → r ≡ inspectRefusal n k
+      → let a = e .args in InspectAnswered outcome (now (a .file)) (a .t) (now (a .values)) (now (a .marks)) (now (a .values)) (now (a .marks)) r
   turned-back = let a = e .args in refused-answered (now (a .file)) (a .t) (now (a .values)) (now (a .marks))
 
 -- the text has the step

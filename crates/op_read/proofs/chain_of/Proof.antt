@@ -2,7 +2,7 @@
 -- Assumes nothing.
 use mathlib.Core.Path.{sym, ap, _∙_}
 use borrow.Author.Needs.{needs}
-use Rattle.op_read.specs.Reading.{chainOutcome, refusalNumber}
+use Rattle.op_read.specs.Reading.{chainOutcome, chainRefusalNumber}
 use Rattle.op_read.proofs.Judging.{chain-none, chain-rest, chain-whole}
 use Rattle.op_read.proofs.chain_of.Statement.{statement}
 use Rattle.op_read.proofs.chain_of.Tie as tie
@@ -17,7 +17,7 @@ enum-told : tie.Need-enum-told
 enum-told c = search needs
 
 returns : tie.Need-returns
-unfolding chainOutcome refusalNumber
+unfolding chainOutcome chainRefusalNumber
 returns c = chain-none _ _ (sym (c .before .before .scan .ensures) ∙ c .enum-told .given .1)
 
 judged-requires : tie.Need-judged-requires
@@ -29,7 +29,7 @@ returns-2 c =
     ap chainOutcome (c .judged .ensures) ∙ chain-whole _ _ scanned (c .before .before .before .before .before .before .before .pre) (c .before .if1 .taken)
 
 returns-3 : tie.Need-returns-3
-unfolding chainOutcome refusalNumber
+unfolding chainOutcome chainRefusalNumber
 returns-3 c = chain-rest _ _ (sym (c .before .before .before .before .scan .ensures) ∙ c .before .before .letters .given .1) (c .if1 .left)
 
 pub chain-of-spec : {M : Type 1} → statement M

@@ -1,7 +1,7 @@
 -- `run_steps::run_steps` meets its contract. The loop over the steps keeps where the run of the definition stands; a step's rules are
 -- taken out of the slots, and then done for each record, each rule in order.
 -- Assumes nothing.
-use Prim.Native.Nat.{ℕ, _*_, _-_, _≤_}
+use Prim.Native.Nat.{ℕ, _*_, _-_, _≤_, _<_}
 use mathlib.Core.Path.{_≡_, refl, sym, _∙_}
 use mathlib.Core.List.{List}
 use mathlib.Core.Logic.{⊎-elim}
@@ -9,17 +9,19 @@ use native.Mathlib.Omega.{arith}
 use borrow.Author.Needs.{needs}
 use denote.Ref.{now}
 use lib.IntN.{ℤ}
-use lib.ListN.{length, take}
+use lib.ListN.{length, take, getD}
 use Rattle.register.specs.File.{cellsOfFile}
+use Rattle.program.specs.declared.frame.Frame.{Frame}
 use Rattle.program.specs.Kept.{stepsIn, programOf}
 use Rattle.step_cells.specs.Work.{Same}
 use Rattle.step_cells.specs.declared.stop.Stop.{Stop}
 use Rattle.step_cells.specs.declared.stop.Stop.the-variants.{Nowhere}
-use Rattle.step_cells.proofs.Working.{same-refl, same-then}
+use Rattle.step_cells.proofs.Working.{same-then}
 use Rattle.run_steps.proofs.Loops.{nearer, Taken, RulesDone, RecordsDone, rules-first, rules-next, records-first, records-next, left-behind}
 use Rattle.run_steps.proofs.Loops.{left-within}
 use Rattle.run_steps.proofs.Standing.{lines-end, scratch-behind, Stands, stands-start, stands-complete, stands-exhausted}
-use Rattle.run_steps.proofs.Turn.{Turn, base, limits, out-whole, out-length, at-step, few-steps, few-rules, setting-passes}
+use Rattle.run_steps.proofs.Arrays.{noFrame}
+use Rattle.run_steps.proofs.Turn.{Held, held-anew, held-still, Turn, base, limits, out-whole, out-length, at-step, few-steps, few-rules, setting-passes}
 use Rattle.run_steps.proofs.Turn.{taken-first, taken-more, column-space, planned, lines-values, lines-marks, Prepared, prepares, rules-fit}
 use Rattle.run_steps.proofs.Turn.{values-length, marks-length, Applied, room-still, ready-still, rule-ready, small-still}
 use Rattle.run_steps.proofs.Done.{ends-local, Done, done-remote, done-local, after-proper, ends-total, Went, went, counts-small, next-whole, next-space}
@@ -31,40 +33,41 @@ use Rattle.run_steps.proofs.run_steps.Tie as tie
 
 -- the first k rules of the step are taken out
 abbrev Inv-loop2 : tie.InvT-loop2
-Inv-loop2 out values marks sizes machine budget slots frames steps at base rules₀ step first finished counts frame setting used k₀ rules k =
-    Taken slots step used rules k
+Inv-loop2 out values marks sizes machine budget slots frames steps at base rules₀ frame taken step first finished counts k₀ k-end rules k =
+    Taken slots step (frame .rules) rules k
 
 abbrev μ-loop2 : tie.MeasureT-loop2
-μ-loop2 out values marks sizes machine budget slots frames steps at base rules₀ step first finished counts frame setting used k₀ rules k = used - k
+μ-loop2 out values marks sizes machine budget slots frames steps at base rules₀ frame taken step first finished counts k₀ k-end rules k = frame .rules - k
 
 -- the first k rules are done at record u
 abbrev Inv-loop3 : tie.InvT-loop3
-Inv-loop3 out values₀ marks₀ sizes machine budget slots frames steps at base rules step first finished counts frame setting used gathered stop₀ u k₀ u-end
+Inv-loop3 out values₀ marks₀ sizes machine budget slots frames steps at base rules frame taken step first finished counts setting used gathered stop₀ u k₀ u-end
     values marks stop k = RulesDone sizes (cellsOfFile sizes out) base rules used u values₀ marks₀ values marks stop k
 
 abbrev μ-loop3 : tie.MeasureT-loop3
-μ-loop3 out values₀ marks₀ sizes machine budget slots frames steps at base rules step first finished counts frame setting used gathered stop₀ u k₀ u-end
+μ-loop3 out values₀ marks₀ sizes machine budget slots frames steps at base rules frame taken step first finished counts setting used gathered stop₀ u k₀ u-end
     values marks stop k = used - k
 
 -- all rules are done at the records below u
 abbrev Inv-records : tie.InvT-records
-Inv-records out values₀ marks₀ sizes machine budget slots frames steps at base rules step first finished counts frame setting used gathered stop₀ u₀ u-end
+Inv-records out values₀ marks₀ sizes machine budget slots frames steps at base rules frame taken step first finished counts setting used gathered stop₀ u₀ u-end
     values marks stop u = RecordsDone sizes (cellsOfFile sizes out) base rules used values₀ marks₀ values marks stop u
 
 abbrev μ-records : tie.MeasureT-records
-μ-records out values₀ marks₀ sizes machine budget slots frames steps at base rules step first finished counts frame setting used gathered stop₀ u₀ u-end
+μ-records out values₀ marks₀ sizes machine budget slots frames steps at base rules frame taken step first finished counts setting used gathered stop₀ u₀ u-end
     values marks stop u = sizes .records - u
 
--- the run stands before step `step`, and the arrays have the lengths that they had
+-- the run stands before step `step`, the arrays have the lengths that they had, and the frame and rules of step `taken` are held, where
+-- that is a step
 abbrev Inv-loop : tie.InvT-loop
-Inv-loop out₀ values₀ marks₀ sizes machine budget slots frames steps at base rules₀ step₀ first₀ finished₀ counts₀
-    out values marks rules step first finished counts =
+Inv-loop out₀ values₀ marks₀ sizes machine budget slots frames steps at base rules₀ frame₀ taken₀ step₀ first₀ finished₀ counts₀
+    out values marks rules frame taken step first finished counts =
     Stands machine sizes (stepsIn slots (take steps frames)) at budget out₀ step first finished counts out values marks
-    × (length rules ≡ 32) × (length values ≡ length values₀) × (length marks ≡ length marks₀)
+    × (length rules ≡ 32) × (length values ≡ length values₀) × (length marks ≡ length marks₀) × (taken < steps → Held slots frames taken frame rules)
 
 abbrev μ-loop : tie.MeasureT-loop
-μ-loop out₀ values₀ marks₀ sizes machine budget slots frames steps at base rules₀ step₀ first₀ finished₀ counts₀
-    out values marks rules step first finished counts = budget - finished
+μ-loop out₀ values₀ marks₀ sizes machine budget slots frames steps at base rules₀ frame₀ taken₀ step₀ first₀ finished₀ counts₀
+    out values marks rules frame taken step first finished counts = budget - finished
 
 -- a state of the function, or a need, with these invariants and measures
 abbrev Of : (tie.InvT-loop2 → tie.MeasureT-loop2 → tie.InvT-loop3 → tie.MeasureT-loop3 → tie.InvT-records → tie.MeasureT-records
@@ -85,7 +88,7 @@ abbrev Top : Type 0
 Top = Of tie.At-loop
 
 abbrev entryOfTop : Top → Entry
-entryOfTop c = entry (c .before .before .before)
+entryOfTop c = entry (c .before .before .before .before)
 
 abbrev spent : Of tie.After-ended → Top
 spent c = c .before .before .before
@@ -105,13 +108,14 @@ abbrev Taking : Type 0
 Taking = Of tie.At-loop2
 
 abbrev turning : Taking → Turning
-turning c = c .before .before
+turning c = c .before .before .before
 
-abbrev allTaken : Of tie.After-enter-arg3 → Of tie.After-loop2
-allTaken c = c .before .before .before
+-- the frame and the rules of the step are held
+abbrev Holding : Type 0
+Holding = Of tie.Joined2
 
-abbrev taken : Of tie.After-enter-arg3 → Taking
-taken c = allTaken c .before
+abbrev holding : Of tie.After-enter-arg3 → Holding
+holding c = c .before .before .before
 
 -- the pass is entered and the readings are gathered
 abbrev Gathered : Type 0
@@ -120,11 +124,8 @@ Gathered = Of tie.After-gather
 abbrev entered : Of tie.After-gather-arg8 → Of tie.After-enter
 entered c = c .before .before .before .before .before .before .before .before .before .before .before .before
 
-abbrev taking : Gathered → Taking
-taking c = taken (entered (c .before) .before)
-
-abbrev turningOfGathered : Gathered → Turning
-turningOfGathered c = turning (taking c)
+abbrev holdingOfGathered : Gathered → Holding
+holdingOfGathered c = holding (entered (c .before) .before)
 
 -- the head of the loop over the records
 abbrev Records : Type 0
@@ -140,8 +141,8 @@ Ruling = Of tie.In-loop3
 abbrev records : Ruling → Records
 records c = c .before .before .before
 
-abbrev turningOfRuling : Ruling → Turning
-turningOfRuling c = turningOfGathered (gathered (records c))
+abbrev holdingOfRuling : Ruling → Holding
+holdingOfRuling c = holdingOfGathered (gathered (records c))
 
 abbrev ruling : Of tie.After-apply-rule-arg3 → Ruling
 ruling c = c .before .before .before
@@ -159,8 +160,8 @@ Left = Of tie.Left-records
 abbrev gatheredOfLeft : Left → Gathered
 gatheredOfLeft c = gathered (c .before)
 
-abbrev turningOfLeft : Left → Turning
-turningOfLeft c = turningOfGathered (gatheredOfLeft c)
+abbrev holdingOfLeft : Left → Holding
+holdingOfLeft c = holdingOfGathered (gatheredOfLeft c)
 
 abbrev left : Of tie.After-out-of-range → Left
 left c = c .before .before .before .before
@@ -177,13 +178,13 @@ local c = c .before .before .before .before
 
 -- the remote writes are done, where there are any
 abbrev Joined : Type 0
-Joined = Of tie.Joined2
+Joined = Of tie.Joined3
 
 abbrev gatheredOfJoined : Joined → Gathered
 gatheredOfJoined c = gatheredOfLeft (leftOfLocal (c .before))
 
-abbrev turningOfJoined : Joined → Turning
-turningOfJoined c = turningOfLeft (leftOfLocal (c .before))
+abbrev holdingOfJoined : Joined → Holding
+holdingOfJoined c = holdingOfLeft (leftOfLocal (c .before))
 
 abbrev joined : Of tie.After-commit-arg3 → Joined
 joined c = c .before .before .before .before
@@ -201,8 +202,8 @@ committed c = c .before .before .before .before
 abbrev joinedOfThrough : Through → Joined
 joinedOfThrough c = joined (committed c .before)
 
-abbrev turningOfThrough : Through → Turning
-turningOfThrough c = turningOfJoined (joinedOfThrough c)
+abbrev holdingOfThrough : Through → Holding
+holdingOfThrough c = holdingOfJoined (joinedOfThrough c)
 
 abbrev counted : Of tie.After-next-arg3 → Of tie.After-count
 counted c = c .before .before .before
@@ -224,11 +225,14 @@ add-base c = let e = entry (c .before) in record { fits = omega (arith, at≤ e,
 array-copy-out-rules : Of tie.Need-array-copy-out-rules
 array-copy-out-rules c = omega arith
 
+array-copy-out-frame : Of tie.Need-array-copy-out-frame
+array-copy-out-frame c = omega arith
+
 loop-holds : Of tie.Need-loop-holds
 unfolding programOf
 loop-holds c =
-    let e = entry (c .before .before) in
-    (stands-start (e .pre .0) (e .pre .4) (scratch-behind (e .pre .1)) (e .pre .3) (e .pre .2 .steps-are), refl, refl, refl)
+    let e = entry (c .before .before .before) in
+    (stands-start (e .pre .0) (e .pre .4) (scratch-behind (e .pre .1)) (e .pre .3) (e .pre .2 .steps-are), refl, refl, refl, λ h. absurd (omega arith))
 
 -- The budget is spent.
 
@@ -257,12 +261,20 @@ module _ (c : Turning) where
   abbrev e : Entry
   e = entryOfTurning c
 
-  turn : Turn (e .args .machine) (e .args .sizes) (e .args .program) (e .args .budget) (now (e .args .out)) (top c .loop .step) (top c .loop .first)
-      (top c .loop .finished) (top c .loop .counts) (top c .loop .out) (top c .loop .values) (top c .loop .marks)
+  abbrev frameHere : Frame
+  frameHere = getD (e .args .program .frames) (top c .loop .step) noFrame
+
+  abbrev TurnOf : Frame → Type 0
+  TurnOf f = Turn (e .args .machine) (e .args .sizes) (e .args .program) (e .args .budget) (now (e .args .out)) (top c .loop .step) (top c .loop .first)
+      (top c .loop .finished) (top c .loop .counts) (top c .loop .out) (top c .loop .values) (top c .loop .marks) f
+
+  -- with what is held of it
+  turnWith : {f : Frame} → f ≡ frameHere → TurnOf f
   unfolding programOf
-  turn =
+  turnWith held =
       let stands = top c .loop .inv .0 in
       record {
+        held = held;
         complete = e .pre .2;
         passes = e .pre .3;
         few-lines = e .pre .1 .lines≤;
@@ -272,73 +284,100 @@ module _ (c : Turning) where
         later = omega (arith, stands .running .within, c .if1 .left);
       }
 
-mul-frame : Of tie.Need-mul-frame
-mul-frame c = record { fits = omega (arith, few-steps (turn c)) }
+  -- while its frame is taken out
+  anew : TurnOf frameHere
+  anew = turnWith refl
 
-array-copy-out-frame : Of tie.Need-array-copy-out-frame
-array-copy-out-frame c = omega (arith, few-steps (turn c))
+mul-frame : Of tie.Need-mul-frame
+mul-frame c = record { fits = omega (arith, few-steps (anew (c .before))) }
+
+array-copy-out-frame-2 : Of tie.Need-array-copy-out-frame-2
+array-copy-out-frame-2 c = omega (arith, few-steps (anew (c .before)))
 
 -- Its rules are taken out.
 
 loop2-holds : Of tie.Need-loop2-holds
-loop2-holds c = taken-first (turn (c .before)) _ (top (c .before) .loop .inv .1)
+loop2-holds c = let s = c .before .before in taken-first (anew s) _ (top s .loop .inv .1)
 
 mul-rules : Of tie.Need-mul-rules
-mul-rules c = record { fits = omega (arith, few-steps (turn (turning (c .before)))) }
+mul-rules c = record { fits = omega (arith, few-steps (anew (turning (c .before)))) }
 
 add-rules : Of tie.Need-add-rules
-add-rules c = let t = turn (turning (c .before)) in record { fits = omega (arith, few-steps t, few-rules t, c .loop2-test .taken) }
+add-rules c = let t = anew (turning (c .before)) in record { fits = omega (arith, few-steps t, few-rules t, c .loop2-test .taken) }
 
 mul-rules-2 : Of tie.Need-mul-rules-2
-mul-rules-2 c = let t = turn (turning (c .before)) in record { fits = omega (arith, few-steps t, few-rules t, c .loop2-test .taken) }
+mul-rules-2 c = let t = anew (turning (c .before)) in record { fits = omega (arith, few-steps t, few-rules t, c .loop2-test .taken) }
 
 array-copy-out-rules-2 : Of tie.Need-array-copy-out-rules-2
-array-copy-out-rules-2 c = let t = turn (turning (c .before)) in omega (arith, few-steps t, few-rules t, c .loop2-test .taken)
+array-copy-out-rules-2 c = let t = anew (turning (c .before)) in omega (arith, few-steps t, few-rules t, c .loop2-test .taken)
 
 mul-rules-3 : Of tie.Need-mul-rules-3
-mul-rules-3 c = let t = turn (turning (c .before .before)) in record { fits = omega (arith, few-rules t, c .before .loop2-test .taken) }
+mul-rules-3 c = let t = anew (turning (c .before .before)) in record { fits = omega (arith, few-rules t, c .before .loop2-test .taken) }
 
 array-set-from-rules : Of tie.Need-array-set-from-rules
-array-set-from-rules c = let t = turn (turning (c .before .before)) in omega (arith, few-rules t, c .before .loop2-test .taken)
+array-set-from-rules c = let t = anew (turning (c .before .before)) in omega (arith, few-rules t, c .before .loop2-test .taken)
 
 add-k : Of tie.Need-add-k
-add-k c = let t = turn (turning (c .before .before)) in record { fits = omega (arith, few-rules t, c .before .loop2-test .taken) }
+add-k c = let t = anew (turning (c .before .before)) in record { fits = omega (arith, few-rules t, c .before .loop2-test .taken) }
 
 loop2-less : Of tie.Need-loop2-less
 loop2-less c = nearer (c .before .loop2-test .taken)
 
 loop2-again : Of tie.Need-loop2-again
-loop2-again c = let l = c .before .before in taken-more (turn (turning l)) (l .loop2 .inv) (c .before .loop2-test .taken) _
+loop2-again c = let l = c .before .before in taken-more (anew (turning l)) (l .loop2 .inv) (c .before .loop2-test .taken) _
+
+-- What is held is of this step: it was taken anew, or is held from the step before, which was the same.
+module _ (c : Holding) where
+  abbrev now-turning : Turning
+  now-turning = c .before
+
+  abbrev entryHere : Entry
+  entryHere = entryOfTurning now-turning
+
+  held : Held (entryHere .args .program .slots) (entryHere .args .program .frames) (top now-turning .loop .step) (c .if2 .frame) (c .if2 .rules)
+  held =
+      ⊎-elim
+      (λ w. held-anew refl (w .2 .inv) (w .3 .left) (w .4) (w .5))
+      (λ w.
+      let same : top now-turning .loop .taken ≡ top now-turning .loop .step = omega (arith, w .0 .left) in
+      held-still (top now-turning .loop .inv .4 (omega (arith, same, now-turning .before .loop-test .taken))) same (w .1) (w .2))
+      (c .if2 .came)
+
+  held-step : c .if2 .taken ≡ top now-turning .loop .step
+  held-step = ⊎-elim (λ w. w .6) (λ w. w .3 ∙ omega (arith, w .0 .left)) (c .if2 .came)
+
+  turn : TurnOf now-turning (c .if2 .frame)
+  turn = turnWith now-turning (held .frame-is)
 
 -- The pass is entered and the readings are gathered.
 
 enter-requires : Of tie.Need-enter-requires
-enter-requires c κs = let t = turn (turning (taken c)) in (limits t, out-whole t, setting-passes t, column-space t)
+enter-requires c κs = let t = turn (holding c) in (limits t, out-whole t, setting-passes t, column-space t)
 
 gather-requires : Of tie.Need-gather-requires
 gather-requires c κs =
-    let t = turn (turning (taken (entered c .before))) in
+    let t = turn (holding (entered c .before)) in
     let pass = entered c .enter .ensures .1 in
     (t .stands .register, planned t, at-step t .frame .wanted-length, lines-values t pass, lines-marks t pass)
 
 -- the step can be run
 module _ (c : Gathered) where
-  abbrev here : Turning
-  here = turningOfGathered c
+  abbrev here : Holding
+  here = holdingOfGathered c
 
-  prepared : Prepared (turn here) (taking c .loop2 .rules) (entered (c .before) .enter .last .1 .0) (entered (c .before) .enter .last .1 .1 .0)
+  prepared : Prepared (turn here) (here .if2 .rules) (entered (c .before) .enter .last .1 .0) (entered (c .before) .enter .last .1 .1 .0)
       (c .gather .last .1 .0) (c .gather .last .1 .1 .0) (c .gather .result)
   prepared =
       let pass = entered (c .before) in
-      prepares (turn here) (taking c .loop2 .inv) (allTaken (pass .before) .loop2-test .left) (pass .enter .ensures .1) (c .gather .ensures)
+      prepares (turn here) (held here .rules-are) (omega arith) (pass .enter .ensures .1) (c .gather .ensures)
 
   -- whoever keeps what stands below the working cells keeps the lengths of the buffers
   module _ {values : List ℤ} {marks : List ℕ} (same : Same (base (turn here)) (c .gather .last .1 .0) (c .gather .last .1 .1 .0) values marks) where
-    values-still : length values ≡ length (now (entryOfTurning here .args .values))
-    values-still = same .values-length ∙ values-length prepared ∙ top here .loop .inv .2
+    values-still : length values ≡ length (now (entryHere here .args .values))
+    values-still = same .values-length ∙ values-length prepared ∙ top (here .before) .loop .inv .2
 
-    marks-still : length marks ≡ length (now (entryOfTurning here .args .marks))
-    marks-still = same .marks-length ∙ marks-length prepared ∙ top here .loop .inv .3
+    marks-still : length marks ≡ length (now (entryHere here .args .marks))
+    marks-still = same .marks-length ∙ marks-length prepared ∙ top (here .before) .loop .inv .3
 
 -- The local rules, record by record and rule by rule.
 
@@ -351,16 +390,16 @@ loop3-holds c = rules-first (c .before .records .inv .nowhere)
 mul-apply-rule : Of tie.Need-mul-apply-rule
 mul-apply-rule c =
     let r = ruling c in
-    record { fits = omega (arith, few-rules (turn (turningOfRuling r)), r .loop3-test .taken) }
+    record { fits = omega (arith, few-rules (turn (holdingOfRuling r)), r .loop3-test .taken) }
 
 array-copy-out-apply-rule : Of tie.Need-array-copy-out-apply-rule
-array-copy-out-apply-rule c = let r = ruling c in omega (arith, few-rules (turn (turningOfRuling r)), r .loop3-test .taken)
+array-copy-out-apply-rule c = let r = ruling c in omega (arith, few-rules (turn (holdingOfRuling r)), r .loop3-test .taken)
 
 apply-rule-requires : Of tie.Need-apply-rule-requires
 apply-rule-requires c κs =
     let r = ruling (c .before) in
     let g = gathered (records r) in
-    let t = turn (turningOfRuling r) in
+    let t = turn (holdingOfRuling r) in
     let same = same-then (records r .records .inv .same) (r .before .loop3 .inv .done .same) in
     ((limits t, out-whole t, r .before .before .records-test .taken, room-still (prepared g) same), rule-ready (prepared g) same _ _ (r .loop3-test .taken))
 
@@ -373,7 +412,7 @@ enum-told-2 c = search needs
 add-k-2 : Of tie.Need-add-k-2
 add-k-2 c =
     let r = rulingOfRuled c in
-    record { fits = omega (arith, few-rules (turn (turningOfRuling r)), r .loop3-test .taken) }
+    record { fits = omega (arith, few-rules (turn (holdingOfRuling r)), r .loop3-test .taken) }
 
 loop3-less : Of tie.Need-loop3-less
 loop3-less c = nearer (rulingOfRuled c .loop3-test .taken)
@@ -387,7 +426,7 @@ loop3-again c =
 add-u : Of tie.Need-add-u
 add-u c =
     let i = c .before .before in
-    record { fits = omega (arith, limits (turn (turningOfGathered (gathered (i .before)))) .records≤, i .records-test .taken) }
+    record { fits = omega (arith, limits (turn (holdingOfGathered (gathered (i .before)))) .records≤, i .records-test .taken) }
 
 records-less : Of tie.Need-records-less
 records-less c = nearer (c .before .before .records-test .taken)
@@ -406,8 +445,8 @@ applied c stop =
     ⊎-elim
     (λ w. left-behind i stop (w .0 .left) (w .1) (w .2) (w .3))
     (λ w.
-    left-within i stop (limits (turn (turningOfLeft c))) (w .0 .taken) (w .1 .inv) (w .2 .taken) (rules-fit b)
-    (w .12 .given .1) (w .13) (w .14) (w .15) _ (w .7 .ensures) (rule-ready b same-refl (w .1 .k) _ (w .2 .taken)))
+    left-within i stop (w .0 .taken) (w .1 .inv) (w .2 .taken) (rules-fit b)
+    (w .12 .given .1) (w .13) (w .14) (w .15) _ (w .7 .ensures))
     (c .records-test .came)
 
 enum-known-stop : Of tie.Need-enum-known-stop
@@ -419,7 +458,7 @@ out-of-range-requires : Of tie.Need-out-of-range-requires
 out-of-range-requires c κs = tt
 
 same-length-4 : Of tie.Need-same-length-4
-same-length-4 c = out-length (turn (turningOfLeft (left c)))
+same-length-4 c = out-length (turn (holdingOfLeft (left c)))
 
 same-length-5 : Of tie.Need-same-length-5
 same-length-5 c = values-still (gatheredOfLeft (left c)) (applied (left c) (c .before .before .stop .given .1) .0)
@@ -441,26 +480,26 @@ locals c = applied (leftOfLocal c) (c .enum-told3 .given .1)
 
 apply-requires : Of tie.Need-apply-requires
 apply-requires c κs =
-    let t = turn (turningOfLeft (leftOfLocal (local c))) in
+    let t = turn (holdingOfLeft (leftOfLocal (local c))) in
     let b = prepared (gatheredOfLeft (leftOfLocal (local c))) in
     let l = locals (local c) in
     ((limits t, out-whole t, room-still b (l .0), few-rules t, b .taken .length-is), (ready-still b (l .0), small-still b (l .0) (l .1)))
 
 -- all rules are done, remote ones too: `w` has what is known behind the call, or that there are none
-done : (c : Joined) → Done (prepared (gatheredOfJoined c)) (c .if2 .values) (c .if2 .marks) (c .if2 .sent)
+done : (c : Joined) → Done (prepared (gatheredOfJoined c)) (c .if3 .values) (c .if3 .marks) (c .if3 .sent)
 done c =
     let l = locals (c .before) in
     ⊎-elim
     (λ w. done-remote l (w .4 .ensures) (w .8) (w .9) (w .10))
     (λ w. done-local l (w .0 .left) (w .1) (w .2) (w .3))
-    (c .if2 .came)
+    (c .if3 .came)
 
 -- The cells are committed to the file.
 
 commit-requires : Of tie.Need-commit-requires
 commit-requires c κs =
     let j = joined c in
-    let t = turn (turningOfJoined j) in
+    let t = turn (holdingOfJoined j) in
     (limits t, out-whole t, room-still (prepared (gatheredOfJoined j)) (done j .same), after-proper (done j))
 
 enum-known-total : Of tie.Need-enum-known-total
@@ -472,7 +511,7 @@ out-of-range-requires-2 : Of tie.Need-out-of-range-requires-2
 out-of-range-requires-2 c κs = tt
 
 same-length-7 : Of tie.Need-same-length-7
-same-length-7 c = stopped c .commit .kept .0 ∙ out-length (turn (turningOfJoined (joined (stopped c .before))))
+same-length-7 c = stopped c .commit .kept .0 ∙ out-length (turn (holdingOfJoined (joined (stopped c .before))))
 
 same-length-8 : Of tie.Need-same-length-8
 same-length-8 c = let j = joined (stopped c .before) in values-still (gatheredOfJoined j) (done j .same)
@@ -491,36 +530,38 @@ enum-told-4 c = search needs
 
 -- the file holds the cells behind the step
 stepped : (c : Through) → Went (prepared (gatheredOfJoined (joinedOfThrough c))) (committed c .commit .last .0)
-    (joinedOfThrough c .if2 .values) (joinedOfThrough c .if2 .marks) (joinedOfThrough c .if2 .sent)
+    (joinedOfThrough c .if3 .values) (joinedOfThrough c .if3 .marks) (joinedOfThrough c .if3 .sent)
 stepped c = went (done (joinedOfThrough c)) (committed c .commit .ensures) (c .enum-told4 .given .1) (committed c .commit .kept .0)
 
 count-requires : Of tie.Need-count-requires
-count-requires c κs = counts-small (stepped c) (entryOfTurning (turningOfThrough c) .fits .budget .fits)
+count-requires c κs = counts-small (stepped c) (entryHere (holdingOfThrough c) .fits .budget .fits)
 
 add-finished : Of tie.Need-add-finished
 add-finished c =
-    let t = turningOfThrough (c .before) in
-    record { fits = omega (arith, turn t .later, entryOfTurning t .fits .budget .fits) }
+    let t = holdingOfThrough (c .before) in
+    record { fits = omega (arith, turn t .later, entryHere t .fits .budget .fits) }
 
 next-requires : Of tie.Need-next-requires
 next-requires c κs =
-    let t = turn (turningOfThrough (through c)) in
+    let t = turn (holdingOfThrough (through c)) in
     let w = stepped (through c) in
     (limits t, next-whole w, setting-passes t, next-space w, next-pass w, few-steps t)
 
 loop-less : Of tie.Need-loop-less
-loop-less c = nearer (turn (turningOfThrough (through (c .before))) .later)
+loop-less c = nearer (turn (holdingOfThrough (through (c .before))) .later)
 
 loop-again : Of tie.Need-loop-again
 unfolding programOf
 loop-again c =
     let b = through (c .before) in
     let g = gatheredOfJoined (joinedOfThrough b) in
+    let h = holdingOfGathered g in
     let same = done (joinedOfThrough b) .same in (
       next-stands (stepped b) (entered (g .before) .enter .ensures .0) (c .next .ensures) (omega arith) (counted (c .before) .count .ensures),
-      taking g .loop2 .inv .length-is,
+      held h .rules-are .length-is,
       values-still g same,
       marks-still g same,
+      λ l. rw (held-step h) (held h),
     )
 
 -- No step is left.
@@ -547,8 +588,8 @@ pub run-steps-spec : {M : Type 1} → statement M
 run-steps-spec =
     tie.close
     (tie.spec
-    Inv-loop2 μ-loop2 Inv-loop3 μ-loop3 Inv-records μ-records Inv-loop μ-loop mul-at add-base array-copy-out-rules loop-holds
-    ended-requires same-length same-length-2 same-length-3 returns mul-frame array-copy-out-frame loop2-holds mul-rules add-rules
+    Inv-loop2 μ-loop2 Inv-loop3 μ-loop3 Inv-records μ-records Inv-loop μ-loop mul-at add-base array-copy-out-rules array-copy-out-frame loop-holds
+    ended-requires same-length same-length-2 same-length-3 returns mul-frame array-copy-out-frame-2 loop2-holds mul-rules add-rules
     mul-rules-2 array-copy-out-rules-2 mul-rules-3 array-set-from-rules add-k loop2-less loop2-again enter-requires
     gather-requires records-holds loop3-holds mul-apply-rule array-copy-out-apply-rule apply-rule-requires enum-told enum-told-2
     add-k-2 loop3-less loop3-again add-u records-less records-again enum-known-stop out-of-range-requires same-length-4

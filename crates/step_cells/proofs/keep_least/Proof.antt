@@ -1,20 +1,20 @@
 -- `step_cells::keep_least` meets its contract: the amount is stored where the cell is missing or its value is larger.
 -- Assumes nothing.
-use mathlib.Core.Path.{_≡_, sym, ap₂, _∙_}
+use mathlib.Core.Path.{_≡_, sym, ap, ap₂, _∙_}
 use mathlib.Core.Logic.{⊎-elim}
 use borrow.Author.Needs.{needs}
 use borrow.Author.Tests.{not-true, not-false}
 use denote.Ref.{now}
 use lib.IntN.{pos}
-use lib.ListN.{getD}
+use lib.ListN.{getD, set}
 use lib.Signed.{ltZ}
 use mir.Syntax.{w32, w64}
 use mir.Facts.{toZ-ofZ}
-use Rattle.register.specs.declared.cells.Cell.the-variants.{Value}
+use Rattle.register.specs.declared.cells.Cell.the-variants.{WorkedOut}
 use Rattle.machine.specs.Remote.{merged}
 use Rattle.program.specs.declared.rule.Sort.the-variants.{Least}
 use Rattle.scratch.specs.Places.{storedAt}
-use Rattle.step_cells.proofs.Working.{put-value}
+use Rattle.step_cells.proofs.Working.{put-worked}
 use Rattle.step_cells.proofs.Merging.{least-missing, least-smaller, least-kept}
 use Rattle.step_cells.proofs.keep_least.Statement.{statement}
 use Rattle.step_cells.proofs.keep_least.Tie as tie
@@ -30,7 +30,7 @@ compared c =
 
 -- where the arms meet, the amount is to be stored
 stored : (c : tie.Joined1) → let a = c .before .before .before .args in
-    merged Least (storedAt (now (a .values)) (now (a .marks)) (a .j)) (a .amount) ≡ Value (a .amount)
+    merged Least (storedAt (now (a .values)) (now (a .marks)) (a .j)) (a .amount) ≡ WorkedOut (a .amount)
 stored c =
     ⊎-elim
     (λ w.
@@ -54,8 +54,11 @@ is-below-requires c κs = search needs
 returns : tie.Need-returns
 returns c = least-kept _ _ _ _ (c .before .before .before .if1 .taken) (sym (compared (c .before)) ∙ not-true _ (c .if2 .taken))
 
-put-reading-requires : tie.Need-put-reading-requires
-put-reading-requires c κs = search needs
+widen-requires : tie.Need-widen-requires
+widen-requires c κs = search needs
+
+put-requires : tie.Need-put-requires
+put-requires c κs = search needs
 
 same-length : tie.Need-same-length
 same-length c = search needs
@@ -66,9 +69,11 @@ same-length-2 c = search needs
 returns-2 : tie.Need-returns-2
 returns-2 c =
     let p = c .before .before .before in
-    let j = p .before .before .before in
-    let e = p .put-reading .ensures in
-    rw (stored j, ← toZ-ofZ {w = w32} (j .before .before .before .fits .amount)) (put-value _ (e .0) (e .1))
+    let w = p .before in
+    let j = w .before .before .before in
+    let a = j .before .before .before .args in
+    let z = toZ-ofZ {w = w64} (record { sfits = w .widen .ok }) ∙ w .widen .ensures ∙ toZ-ofZ {w = w32} (j .before .before .before .fits .amount) in
+    rw (stored j) (put-worked _ (p .put .ensures .0 ∙ ap (set (now (a .values)) (a .j)) z) (p .put .ensures .1))
 
 pub keep-least-spec : {M : Type 1} → statement M
 keep-least-spec =
@@ -79,7 +84,8 @@ keep-least-spec =
     slice-copy-out-is-below
     is-below-requires
     returns
-    put-reading-requires
+    widen-requires
+    put-requires
     same-length
     same-length-2
     returns-2)

@@ -5,10 +5,10 @@ use Prim.Native.Nat.{_-_, _≤_, _<_}
 use mathlib.Core.Path.{_∙_}
 use mathlib.Core.Logic.{⊎-elim}
 use native.Mathlib.Omega.{arith}
-use borrow.Author.Needs.{needs}
+use borrow.Author.Tests.{not-true, not-false}
 use Rattle.register.specs.File.{width}
 use Rattle.register.proofs.Bounds.{width≤}
-use Rattle.step_commit.proofs.Committing.{ColumnsTo, columns-none, columns-skip, columns-next, columns-all}
+use Rattle.step_commit.proofs.Committing.{ColumnsTo, columns-none, columns-skip, columns-next, columns-all, columns-stop}
 use Rattle.step_commit.proofs.commit.Statement.{statement}
 use Rattle.step_commit.proofs.commit.Tie as tie
 
@@ -44,20 +44,25 @@ commit-column-requires c κs =
     let i = c .before .before .before in
     (start i .pre .0, i .before .loop .inv .0 .length-is ∙ start i .pre .1, start i .pre .2, inside i, start i .pre .3)
 
-enum-told : tie.Need-enum-told Inv-loop μ-loop
-enum-told c = search needs
+-- the column that is not in range
+abbrev stopped : tie.Then2 Inv-loop μ-loop → tie.After-commit-column Inv-loop μ-loop
+stopped c = c .before .before .before
+
+first-offence-requires : tie.Need-first-offence-requires Inv-loop μ-loop
+first-offence-requires c κs =
+    let p = start (stopped c .before .before .before .before) .pre in
+    (p .0, p .2 .base≤, p .2 .values-room)
 
 same-length : tie.Need-same-length Inv-loop μ-loop
-same-length c = let k = c .before .before .before .before in k .commit-column .kept .0 ∙ k .before .before .before .before .before .loop .inv .0 .length-is
+same-length c = let k = stopped (c .before) in k .commit-column .kept .0 ∙ k .before .before .before .before .before .loop .inv .0 .length-is
 
 returns : tie.Need-returns Inv-loop μ-loop
 returns c =
-    let told = c .enum-told .given .1 in
-    let t = rw told at (c .before .before .before .before .commit-column .ensures) in
-    rw told (record { row = t .row; col = t .col; out-of-range = t .out-of-range; length-is = same-length c })
-
-enum-told-2 : tie.Need-enum-told-2 Inv-loop μ-loop
-enum-told-2 c = search needs
+    let k = stopped (c .before) in
+    let i = k .before .before .before .before in
+    columns-stop (start i .args .sizes) _ _ (i .before .loop .out) _ (start i .pre .3) (inside i) (k .commit-column .result)
+    (not-true _ (c .before .if2 .taken)) (k .commit-column .ensures)
+    (c .first-offence .result) (c .first-offence .ensures)
 
 add-column : tie.Need-add-column Inv-loop μ-loop
 add-column c = let i = c .before .before in omega (arith, inside i, width≤ (start i .pre .0))
@@ -72,8 +77,8 @@ loop-again c =
     let so-far = i .before .loop .inv .0 in
     ⊎-elim
     (λ w.
-    let column = rw (w .6 .given .1) at (w .2 .ensures) in
-    rw (w .7) (columns-next so-far (rw (f .field-at .ensures .0) at (w .0 .taken)) (w .2 .kept .0) column, omega (arith, i .loop-test .taken)))
+    let column = rw (not-false (w .2 .result) (w .5 .left)) at (w .2 .ensures) in
+    rw (w .6) (columns-next so-far (rw (f .field-at .ensures .0) at (w .0 .taken)) (w .2 .kept .0) column, omega (arith, i .loop-test .taken)))
     (λ w. rw (w .1) (columns-skip so-far (rw (f .field-at .ensures .0) at (w .0 .left)), omega (arith, i .loop-test .taken)))
     (c .if1 .came)
 
@@ -95,10 +100,9 @@ commit-spec =
     field-at-requires
     array-read-if1
     commit-column-requires
-    enum-told
+    first-offence-requires
     same-length
     returns
-    enum-told-2
     add-column
     loop-less
     loop-again

@@ -37,12 +37,7 @@ returns c =
     let k = c .before .before .before in
     let i = k .before .before in
     let e = rw (not-true (k .commit-cell .result) (c .if1 .taken)) at (k .commit-cell .ensures) in
-    record {
-      row = i .before .loop-test .taken;
-      col = i .before .before .before .before .before .pre .3;
-      out-of-range = rw (i .cell-index .ensures) at (e .0);
-      length-is = same-length c;
-    }
+    record { row = i .before .before .loop .u; row< = i .before .loop-test .taken; out-of-range = rw (i .cell-index .ensures) at (e .0) }
 
 add-u : tie.Need-add-u Inv-loop μ-loop
 add-u c =

@@ -5,7 +5,7 @@ use generate::random::Random;
 use generate::{chains, registers};
 use reference::path::Hop;
 use reference::reading::reading;
-use reference::register::{Cell, Sizes};
+use reference::register::Sizes;
 
 #[test]
 fn a_reading_is_filled_or_not() {
@@ -80,37 +80,34 @@ fn generated_readings() {
                 assert!(read.fails(1, &refused).err.contains(&refused));
                 assert_eq!(path.status, 1);
             }
-            Ok(cell) => {
-                read.is(&format!("{}\n", shown(cell, "-")));
+            Ok(value) => {
+                read.is(&format!("{}\n", shown(value, "-")));
                 let hops = reference::path::path(&bytes, chain.as_bytes(), record as u64);
                 let hops = hops.expect("the reading is not refused");
-                path.is(&path_json(sizes, &hops, cell));
+                path.is(&path_json(sizes, &hops, value));
             }
         }
     }
 }
 
-fn shown(cell: Cell, unfilled: &str) -> String {
-    match cell {
-        Cell::Missing => unfilled.to_owned(),
-        Cell::Value(value) => value.to_string(),
-    }
+fn shown(value: Option<i32>, unfilled: &str) -> String {
+    value.map_or(unfilled.to_owned(), |value| value.to_string())
 }
 
-fn path_json(sizes: Sizes, hops: &[Hop], reading: Cell) -> String {
+fn path_json(sizes: Sizes, hops: &[Hop], reading: Option<i32>) -> String {
     let hop = |hop: &Hop| {
         format!(
             "{{\"record\":{},\"field\":\"{}\",\"cell\":{}}}",
             hop.record,
             char::from(sizes.letter(hop.field)),
-            shown(hop.cell, "null")
+            shown(hop.cell.value(), "null")
         )
     };
     let hops: Vec<String> = hops.iter().map(hop).collect();
     format!(
         "{{\"hops\":[{}],\"filled\":{},\"value\":{}}}\n",
         hops.join(","),
-        reading != Cell::Missing,
+        reading.is_some(),
         shown(reading, "null")
     )
 }

@@ -15,12 +15,12 @@ fn what_changed_is_told_and_nothing_is_written() {
         "3 steps finished, 6 exchanges, 48 messages
 6 cells changed
   record  field  before  after
-       0  N           -    220
-       2  N           -    230
-       3  N           -     40
-       4  N           -    275
-       7  N           -    260
-      10  N           -     65
+       0  N           -   220~
+       2  N           -   230~
+       3  N           -    40~
+       4  N           -   275~
+       7  N           -   260~
+      10  N           -    65~
 ",
     );
     let direct = folder.plot(&["run", "sparse.register", "depths.rules", "--direct"]);

@@ -26,11 +26,12 @@ fn a_register_from_standard_input() {
 #[test]
 fn a_register_for_programs() {
     let folder = Folder::new("show-json");
-    folder.write("three.csv", "A,M\n1,\n2,0\n,180\n");
+    folder.write("three.csv", "A,M\n1,\n2,0\n,180~\n");
     folder.plot(&["pack", "three.csv", "-o", "three"]);
-    folder
-        .plot(&["show", "three", "--json"])
-        .is("{\"records\":3,\"fields\":[\"A\",\"M\"],\"cells\":[[1,null],[2,0],[null,180]]}\n");
+    folder.plot(&["show", "three", "--json"]).is(
+        "{\"records\":3,\"fields\":[\"A\",\"M\"],\"cells\":[[1,null],[2,0],[null,180]],\
+             \"worked_out\":[[false,false],[false,false],[false,true]]}\n",
+    );
     folder
         .plot(&["show", "three", "--json", "--gaps"])
         .is("{\"unfilled\":[{\"record\":0,\"field\":\"M\"},{\"record\":2,\"field\":\"A\"}]}\n");
@@ -85,7 +86,8 @@ fn words(line: &str) -> Vec<&str> {
 fn expected(cell: Cell) -> String {
     match cell {
         Cell::Missing => "-".to_owned(),
-        Cell::Value(value) => value.to_string(),
+        Cell::Measured(value) => value.to_string(),
+        Cell::WorkedOut(value) => format!("{value}~"),
     }
 }
 

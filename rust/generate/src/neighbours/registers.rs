@@ -76,18 +76,18 @@ fn limit(random: &mut Random, mut sizes: Sizes) -> RegisterPair {
     }
 }
 
-/// 3: a mark of 2 and of 1. 4: an unfilled cell whose value is 1 and one of 0.
+/// 3: a mark of 3 and of 2, or 255 and 0. 4: an unfilled cell whose value is 1 and one of 0.
 fn cell(random: &mut Random, sizes: Sizes, number: u32) -> Option<RegisterPair> {
     let place = random.below(sizes.cells().max(1));
     let pairs = match number {
-        3 => [((0, 2), (0, 1)), ((0, 255), (0, 0))],
+        3 => [((0, 3), (0, 2)), ((0, 255), (0, 0))],
         _ => [((1, 0), (0, 0)), ((i32::MIN, 0), (0, 0))],
     };
     let (refused, accepted) = random.pick(&pairs);
     (sizes.cells() > 0).then(|| with_cells(random, sizes, place, refused, accepted))
 }
 
-/// 5: the reference n and n − 1, or −1 and 0.
+/// 5: the reference n and n − 1, or −1 and 0, measured or worked out.
 fn reference(random: &mut Random, sizes: Sizes) -> Option<RegisterPair> {
     let place = random.below(sizes.cells().max(1));
     if sizes.cells() == 0 || sizes.kind(place % sizes.fields()) == Kind::Measure {
@@ -95,12 +95,13 @@ fn reference(random: &mut Random, sizes: Sizes) -> Option<RegisterPair> {
     }
     let records = sizes.records as i32;
     let (refused, accepted) = random.pick(&[(records, records - 1), (-1, 0)]);
+    let mark = random.pick(&[1, 2]);
     Some(with_cells(
         random,
         sizes,
         place,
-        (refused, 1),
-        (accepted, 1),
+        (refused, mark),
+        (accepted, mark),
     ))
 }
 

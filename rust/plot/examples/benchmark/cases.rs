@@ -89,8 +89,8 @@ fn sizes(records: usize, references: usize, measures: usize) -> Sizes {
 /// One reference field that leads far about, and eight measures.
 fn far_about() -> Vec<u8> {
     file(sizes(MAX_RECORDS, 1, 8), |u, f| match f {
-        0 => Cell::Value(((u * 2_654_435 + 977) % MAX_RECORDS) as i32),
-        _ => Cell::Value((u % 100) as i32),
+        0 => Cell::Measured(((u * 2_654_435 + 977) % MAX_RECORDS) as i32),
+        _ => Cell::Measured((u % 100) as i32),
     })
 }
 
@@ -131,8 +131,8 @@ fn rules_of_16_operators() -> Vec<u8> {
 /// Every record refers to the first.
 fn to_first() -> Vec<u8> {
     file(sizes(MAX_RECORDS, 1, 1), |u, f| match f {
-        0 => Cell::Value(0),
-        _ => Cell::Value((u % 100) as i32),
+        0 => Cell::Measured(0),
+        _ => Cell::Measured((u % 100) as i32),
     })
 }
 
@@ -142,15 +142,15 @@ fn remote_rules() -> Vec<u8> {
 
 fn few() -> Vec<u8> {
     file(sizes(16, 1, 1), |u, f| match f {
-        0 => Cell::Value(((u + 1) % 16) as i32),
-        _ => Cell::Value(0),
+        0 => Cell::Measured(((u + 1) % 16) as i32),
+        _ => Cell::Measured(0),
     })
 }
 
 /// All fields that there are; every reference leads far about.
 fn full() -> Vec<u8> {
     file(sizes(MAX_RECORDS, MAX_FIELDS, MAX_FIELDS), |u, f| {
-        Cell::Value(((u * 2_654_435 + 977 * f) % MAX_RECORDS) as i32)
+        Cell::Measured(((u * 2_654_435 + 977 * f) % MAX_RECORDS) as i32)
     })
 }
 

@@ -3,7 +3,7 @@
 use generate::random::Random;
 use generate::{chains, padding, ranking, registers};
 use reference::printed::{OUTPUT, SIZES, TEXT, register};
-use reference::register::Cell::{self, Missing, Value};
+use reference::register::Cell::{self, Measured, Missing};
 use reference::register::{Sizes, encode};
 
 /// A folder: its files, if they are there, and how the program's output begins.
@@ -67,6 +67,9 @@ pub fn folders() -> Vec<Folder> {
 /// What the program prints of the printed register as it is.
 const UNTOUCHED: &str = "3 records 0 steps 0 exchanges 0 letters\n0 1 -\n1 2 0\n2 - 180\n";
 
+/// The same with the last depth worked out.
+const WORKED_OUT: &str = "3 records 0 steps 0 exchanges 0 letters\n0 1 -\n1 2 0\n2 - 180~\n";
+
 /// Files that are missing, empty and as printed.
 fn files() -> Vec<Folder> {
     let row = |name, text| Folder::refused(name, b"", text, (1, 0));
@@ -74,6 +77,7 @@ fn files() -> Vec<Folder> {
         Folder::new("printed example", &register(), TEXT, OUTPUT),
         Folder::new("no rules", &register(), b"", UNTOUCHED).without_text(),
         Folder::new("empty rules", &register(), b"", UNTOUCHED),
+        Folder::new("a mark of 2", &with_byte(41, 2), b"", WORKED_OUT),
         row("no register", TEXT).without_register(),
         row("no files", b"").without_register().without_text(),
         row("empty register", TEXT),
@@ -107,7 +111,7 @@ fn register_files() -> Vec<Folder> {
         row("r 9", &header([0, 9, 0]), 2),
         row("m 9", &header([0, 0, 9]), 2),
         row("a product of 0", &header([1 << 31, 1 << 31, 0]), 2),
-        row("a mark of 2", &with_byte(36, 2), 3),
+        row("a mark of 3", &with_byte(36, 3), 3),
         row("a last mark of 255", &with_byte(last, 255), 3),
         row("unfilled with a value", &with_byte(16, 1), 4),
         row("reference n", &with_byte(12, 3), 5),
@@ -195,8 +199,8 @@ fn count_to(limit: u32) -> Vec<u8> {
 
 /// Texts that run, and end whole, by 20 or by 21.
 fn runs() -> Vec<Folder> {
-    let [zero, most] = [0, i32::MAX].map(|value| measures(&[Value(value)]));
-    let ends = measures(&[Value(i32::MIN), Value(i32::MAX), Value(-1)]);
+    let [zero, most] = [0, i32::MAX].map(|value| measures(&[Measured(value)]));
+    let ends = measures(&[Measured(i32::MIN), Measured(i32::MAX), Measured(-1)]);
     let amounts = step("remote M[u] += 1\nremote M[u] += -1");
     let late = b"step\nend\nstep\nM[u] := 2147483647 + 1\nend\n";
     let total = step("remote M[u] += 2147483647");

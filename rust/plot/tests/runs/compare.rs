@@ -1,13 +1,14 @@
 //! One trial by the library and by the reference, with both machines: output
-//! bytes, every number, and for 21 a place that offends.
+//! bytes, every number, and for 21 the place.
 
 use crate::common::{any_answer, refused};
 use crate::planned;
 use crate::trials::Trial;
 use generate::random::Random;
 use plot::lent::{self, Answer, RunBuffers};
-use reference::apply::Place;
+use reference::apply::OutOfRange;
 use reference::direct::run_direct;
+use reference::marks::Transitions;
 use reference::messages::run_messages;
 use reference::run::{End, Run, RunBy};
 
@@ -36,13 +37,19 @@ pub struct Left {
     pub answer: Answer,
     /// How often a gap left what an earlier rule of its step had stored.
     pub kept: u64,
+    /// What rules made of cells and their marks.
+    pub transitions: Transitions,
+    /// The places that are out of range where it ended in 21.
+    pub outside: OutOfRange,
     buffers: RunBuffers,
 }
 
 impl Left {
-    /// What both machines must agree in: refusal, line, finished steps, output.
-    pub fn in_common(&self) -> (u32, [u64; 2], &[u8]) {
-        let numbers = [lent::LINE, lent::FINISHED].map(|place| self.answer[place]);
+    /// What both machines must agree in: refusal, line, finished steps, the place
+    /// that 21 names, output.
+    pub fn in_common(&self) -> (u32, [u64; 4], &[u8]) {
+        let places = [lent::LINE, lent::FINISHED, lent::RECORD, lent::FIELD];
+        let numbers = places.map(|place| self.answer[place]);
         (self.number, numbers, &self.buffers.output)
     }
 }
@@ -73,7 +80,11 @@ impl Machine {
             }
             Ok(run) => {
                 left.kept = run.kept;
-                answered(run, &left.answer)
+                left.transitions = run.transitions;
+                if let End::OutOfRange(outside) = &run.end {
+                    left.outside = outside.clone();
+                }
+                answered(run)
             }
         };
         assert_eq!((left.number, left.answer), expected, "{}", self.name);
@@ -90,23 +101,21 @@ impl Machine {
             number,
             answer,
             kept: 0,
+            transitions: Transitions::default(),
+            outside: OutOfRange::default(),
             buffers,
         }
     }
 }
 
-/// The number and the answer array of a run, with the place that a given answer
-/// names for 21 if that one offends, else another.
-fn answered(run: &Run, given: &Answer) -> (u32, Answer) {
+/// The number and the answer array of a run.
+fn answered(run: &Run) -> (u32, Answer) {
     let mut answer = Answer::default();
     answer[lent::FINISHED] = u64::from(run.finished);
     answer[lent::EXCHANGES] = run.counts.exchanges;
     answer[lent::LETTERS] = run.counts.letters;
-    if let End::OutOfRange(places) = &run.end {
-        let is_named = |place: &&Place| {
-            [place.record as u64, place.field as u64] == given[lent::RECORD..=lent::FIELD]
-        };
-        let place = places.iter().find(is_named).unwrap_or(&places[0]);
+    if let End::OutOfRange(outside) = &run.end {
+        let place = outside.named().expect("21 has a place");
         answer[lent::RECORD] = place.record as u64;
         answer[lent::FIELD] = place.field as u64;
     }

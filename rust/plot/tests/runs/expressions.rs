@@ -52,8 +52,7 @@ fn sums_out_of_range_agree() {
             continue;
         };
         let named = [lent::RECORD, lent::FIELD].map(|place| left.answer[place] as usize);
-        let offends = sums.iter().any(|sum| [sum.record, sum.field] == named);
-        assert!(left.number == 21 && offends, "{named:?} of {sums:?}");
+        assert_eq!((left.number, named), (21, [first.record, first.field]));
         if sums.iter().all(|one| one.fate == first.fate) {
             tally.count(&format!("{:?}", first.fate));
         }

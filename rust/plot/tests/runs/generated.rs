@@ -1,11 +1,13 @@
 //! Generated runs by both machines.
 
 use crate::common::refusal_name;
-use crate::compare::compare;
+use crate::compare::{Left, compare};
 use crate::trials::{self, Trial};
 use generate::random::Random;
 use generate::tally::Tally;
 use plot::lent;
+use reference::apply::OutOfRange;
+use reference::marks::Transition;
 use reference::text::MAX_STEPS;
 
 /// Runs of texts that pass, by each machine.
@@ -16,6 +18,34 @@ const LEAST: u64 = 500;
 const REPEATED: &str = "a loop repeated";
 /// A gap left what an earlier rule of its step had stored.
 const KEPT: &str = "a gap left what its step had stored";
+
+/// 21 where two places or more are out of range; of these, what they are; and
+/// those where another record has an earlier field among the totals.
+const SEVERAL: &str = "21 with several places";
+const SUMS: &str = "21 with several sums alone";
+const TOTALS: &str = "21 with several totals alone";
+const BOTH: &str = "21 with sums and totals";
+const EARLIER_FIELD: &str = "21 with an earlier field";
+
+/// What offends in a run that ended in 21 with two places or more.
+fn offences(left: &Left) -> Vec<&'static str> {
+    let OutOfRange { sums, totals } = &left.outside;
+    let first = sums.first();
+    let several_sums = sums.iter().any(|place| Some(place) != first);
+    let kind = match (sums.is_empty(), totals.len()) {
+        (true, 0 | 1) => return Vec::new(),
+        (true, _) => TOTALS,
+        (false, 0) if !several_sums => return Vec::new(),
+        (false, 0) => SUMS,
+        (false, _) => BOTH,
+    };
+    let mut found = vec![SEVERAL, kind];
+    let field = totals.iter().map(|place| place.field).min();
+    if kind == TOTALS && field < Some(left.answer[lent::FIELD] as usize) {
+        found.push(EARLIER_FIELD);
+    }
+    found
+}
 
 /// Compares so many trials, and counts and prints what came of them.
 fn tallied(title: &str, seed: u64, runs: usize, trial: fn(&mut Random) -> Trial) -> Tally {
@@ -31,6 +61,14 @@ fn tallied(title: &str, seed: u64, runs: usize, trial: fn(&mut Random) -> Trial)
         }
         if left.kept > 0 {
             tally.count(KEPT);
+        }
+        for (transition, name) in Transition::ALL {
+            if left.transitions.of(transition) > 0 {
+                tally.count(name);
+            }
+        }
+        for found in offences(&left) {
+            tally.count(found);
         }
         tally.count(match left.answer[lent::LETTERS] {
             0 => "letters 0",
@@ -52,11 +90,27 @@ fn runs_agree() {
     tally.require(100, &["letters 10,000 and more", REPEATED]);
 }
 
+/// What rules make of marks, each transition in many runs.
+#[test]
+fn runs_over_marks_agree() {
+    let tally = tallied("runs over marks", 107, 10_000, trials::with_marks);
+    tally.require(LEAST, &Transition::ALL.map(|(_, name)| name));
+    tally.require(LEAST, &[0, 20].map(refusal_name));
+}
+
 #[test]
 fn runs_over_gaps_agree() {
     let tally = tallied("runs over gaps", 44, 10_000, trials::with_gaps);
     tally.require(5_000, &[KEPT]);
     tally.require(1_000, &[0, 21].map(refusal_name));
+}
+
+#[test]
+fn the_first_overflow_is_named() {
+    let title = "runs out of range";
+    let tally = tallied(title, 46, 24_000, trials::out_of_range);
+    tally.require(5_000, &[SEVERAL]);
+    tally.require(LEAST, &[SUMS, TOTALS, BOTH, EARLIER_FIELD]);
 }
 
 #[test]

@@ -8,6 +8,7 @@ mod compare;
 mod expressions;
 mod generated;
 mod inspections;
+mod marks;
 mod metres;
 mod planned;
 mod trials;

@@ -80,7 +80,7 @@ fn metres_and_centimetres_are_one_constant() {
             references: 0,
             measures: 1,
         };
-        encode(sizes, &[Cell::Value(value)])
+        encode(sizes, &[Cell::WorkedOut(value)])
     };
     for (number, centimetres) in [
         ("180", 180),

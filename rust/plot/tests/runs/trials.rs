@@ -86,6 +86,18 @@ pub fn with_gaps(random: &mut Random) -> Trial {
     Trial::new(random, case, 40)
 }
 
+/// The same with few values, which rules store, add and compare again and again.
+pub fn with_marks(random: &mut Random) -> Trial {
+    let case = Case::with_marks(random);
+    Trial::new(random, case, 20)
+}
+
+/// The same with sums and totals that go out of range at many places.
+pub fn out_of_range(random: &mut Random) -> Trial {
+    let case = Case::out_of_range(random);
+    Trial::new(random, case, 40)
+}
+
 /// The same with expressions, in any spacing.
 #[cfg(feature = "m105")]
 pub fn with_expressions(random: &mut Random) -> Trial {

@@ -11,10 +11,18 @@ pub const AMPLE: Scratch = Scratch {
     marks: 10_000,
 };
 
-/// What a run of the message machine leaves, and the cells at the end.
+/// What a run of the message machine leaves, the cells at the end, and what is
+/// read of them.
 pub struct Left {
     pub run: Run,
     pub cells: Vec<Cell>,
+    pub values: Vec<Option<i32>>,
+}
+
+/// Cells with these values, all of them measured.
+pub fn measured(values: &[Option<i32>]) -> Vec<Cell> {
+    let cell = |value: &Option<i32>| value.map_or(Cell::Missing, Cell::Measured);
+    values.iter().map(cell).collect()
 }
 
 /// Runs a text by both machines, checks that they agree, and gives what the
@@ -27,9 +35,11 @@ pub fn run(sizes: Sizes, cells: &[Cell], text: &str, budget: u16) -> Left {
     assert_eq!(direct.finished, messages.finished);
     assert_eq!(direct.end, messages.end);
     assert_eq!((direct.counts.exchanges, direct.counts.letters), (0, 0));
+    let cells = Register::load(&message_output).unwrap().cells();
     Left {
         run: messages,
-        cells: Register::load(&message_output).unwrap().cells(),
+        values: cells.iter().map(|cell| cell.value()).collect(),
+        cells,
     }
 }
 

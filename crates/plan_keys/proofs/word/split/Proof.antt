@@ -1,12 +1,11 @@
 -- `plan_keys::word::split` meets its contract.
 -- Assumes nothing.
-use Prim.Native.Nat.{ℕ}
 use mathlib.Core.Path.{_≡_, ap, _∙_}
 use native.Mathlib.Omega.{arith}
-use lib.ListN.{length, take, drop}
+use lib.ListN.{length}
 use Rattle.chain.specs.Word.{unpack}
 use Rattle.plan_theory.specs.Plan.{half as halfOf, front as frontOf, rest as restOf}
-use Rattle.plan_theory.proofs.Half.{half-pos, half-below}
+use Rattle.plan_theory.proofs.Half.{half-below}
 use borrow.Author.Needs.{needs}
 use Rattle.plan_keys.proofs.word.split.Statement.{statement}
 use Rattle.plan_keys.proofs.word.split.Tie as tie
@@ -20,21 +19,16 @@ hops-requires c κs = search needs
 half-requires : tie.Need-half-requires
 half-requires c κs = search needs
 
-rest-requires : tie.Need-rest-requires
-rest-requires c κs = search needs
-
-front-requires : tie.Need-front-requires
-front-requires c κs =
-    let w = unpack (c .before .before .before .args .chain) in
-    let h = h-is (c .before) in
-    (omega (arith, h, half-pos (length w)), omega (arith, h, half-below (length w) (omega arith)), omega (arith, h, half-below (length w) (omega arith)), c .rest .ensures)
+split-at-requires : tie.Need-split-at-requires
+split-at-requires c κs =
+    let w = unpack (c .before .before .args .chain) in
+    omega (arith, h-is c, half-below (length w) (omega arith))
 
 returns : tie.Need-returns
 unfolding frontOf restOf
 returns c =
-    let w = unpack (c .before .before .before .before .args .chain) in
-    let h = h-is (c .before .before) in
-    record { front-is = c .front .ensures ∙ ap (λ (k : ℕ). take k w) h; rest-is = c .before .rest .ensures ∙ ap (λ (k : ℕ). drop k w) h }
+    let e = rw (h-is (c .before)) at (c .split-at .ensures) in
+    record { front-is = e .front-is; rest-is = e .rest-is }
 
 pub split-spec : {M : Type 1} → statement M
-split-spec = tie.close (tie.spec hops-requires half-requires rest-requires front-requires returns)
+split-spec = tie.close (tie.spec hops-requires half-requires split-at-requires returns)

@@ -10,6 +10,7 @@ use lib.ListN.{set}
 use lib.Seq.{sets}
 use mir.Facts.{toZ-ofZ}
 use Rattle.integers.specs.Bytes.{valueBytes}
+use Rattle.integers.specs.Factor.{factor}
 use Rattle.integers.proofs.Complement.{kept}
 use Rattle.register.specs.File.{putMarked}
 use Rattle.register.proofs.cells.put_cell.Statement.{statement}
@@ -42,7 +43,7 @@ returns c =
     let a = s .args in
     p .put .ensures
     ∙ ap₂ (λ (z : ℤ) (e : ℕ). set (sets (now (a .file)) (12 + 4 * a .j) (valueBytes z)) (e + a .j) (a .mark))
-    (kept _ (t .times-mark .ok) ∙ t .times-mark .ensures ∙ ap (λ (z : ℤ). z *ℤ pos (a .mark)) (toZ-ofZ (s .fits .value)))
+    (kept _ (t .times-mark .ok) ∙ t .times-mark .ensures ∙ ap (λ (z : ℤ). z *ℤ pos (factor (a .mark))) (toZ-ofZ (s .fits .value)))
     (ap (λ (k : ℕ). 12 + 4 * k) (t .before .before .cell-count .ensures))
 
 pub put-cell-spec : {M : Type 1} → statement M

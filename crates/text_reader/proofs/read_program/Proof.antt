@@ -1,0 +1,263 @@
+-- `text_reader::read_program` meets its contract. The loop's invariant: some state of the definition has been reached, and the arrays,
+-- the open step's plan, its wanted lines and what is kept beside them stand for it.
+-- Assumes nothing.
+use Prim.Native.Nat.{ℕ, _-_, _≤_, _<_}
+use mathlib.Core.Path.{_≡_, refl, sym, ap, _∙_}
+use mathlib.Core.Logic.{⊎-elim}
+use native.Mathlib.Omega.{arith}
+use lib.ListN.{length}
+use Rattle.register.specs.Shape.{Limits}
+use Rattle.register.specs.declared.Sizes.{Sizes}
+use Rattle.laws.specs.Outcome.{refused}
+use Rattle.text_rules.specs.Text.{advance}
+use Rattle.text_plan.specs.Readings.{addedOf}
+use Rattle.text_state.specs.State.{advanceOf}
+use Rattle.text_reader.proofs.Arms.{Behind}
+use Rattle.text_reader.proofs.Reading.{Read, Passes, passes, stopped, small, again, arm-step, arm-loop, arm-none, arm-end-steps, arm-end, arm-done-steps, arm-done, arm-steps, arm-rules, arm-short, arm-rule, answer-refused, answer-read, begun}
+use Rattle.text_refusals.proofs.Refusals.{or-first, or-none}
+use borrow.Author.Needs.{needs}
+use Rattle.text_reader.proofs.read_program.Statement.{statement}
+use Rattle.text_reader.proofs.read_program.Tie as tie
+
+abbrev Inv-loop : tie.InvT-loop
+Inv-loop text sizes keys₀ rounds₀ backs₀ reads₀ count₀ full₀ wanted₀ refusal₀ line₀ slots₀ frames₀ state₀ at₀ keys rounds backs reads count full wanted refusal line slots frames state at =
+    Read sizes text (addedOf keys rounds backs reads count full) wanted slots frames state at line × (refusal ≡ 0)
+
+abbrev μ-loop : tie.MeasureT-loop
+μ-loop text sizes keys₀ rounds₀ backs₀ reads₀ count₀ full₀ wanted₀ refusal₀ line₀ slots₀ frames₀ state₀ at₀ keys rounds backs reads count full wanted refusal line slots frames state at =
+    length text - at
+
+-- a line that has passed: the loop's state, the entry, where its end is found and where it is read
+abbrev so-far : (c : tie.Else1 Inv-loop μ-loop) → tie.At-loop Inv-loop μ-loop
+so-far c = c .before .before .before .before .before .before
+
+abbrev entry : (c : tie.Else1 Inv-loop μ-loop) → tie.Start Inv-loop μ-loop
+entry c = so-far c .before .before .before .before .before
+
+abbrev line-at : (c : tie.Else1 Inv-loop μ-loop) → tie.After-line-end Inv-loop μ-loop
+line-at c = c .before .before .before .before
+
+abbrev read-at : (c : tie.Else1 Inv-loop μ-loop) → tie.After-read-first Inv-loop μ-loop
+read-at c = c .before .before .before
+
+abbrev sizes : (c : tie.Else1 Inv-loop μ-loop) → Sizes
+sizes c = entry c .args .sizes
+
+limits : (c : tie.Else1 Inv-loop μ-loop) → Limits (sizes c)
+limits c = entry c .pre .0
+
+passed : (c : tie.Else1 Inv-loop μ-loop) → Passes (sizes c) (limits c) (so-far c .loop .inv .0) (read-at c .read-first .result)
+passed c =
+    passes (sizes c) (limits c) (so-far c .loop .inv .0) (read-at c .read-first .result)
+    (c .before .before .before .before .before .loop-test .taken) (read-at c .read-first .ensures) (sym (c .before .before .refusal .ensures) ∙ c .if1 .left)
+
+-- a rule's line, from where its readings are planned
+abbrev rule-line : (c : tie.After-plan-rule-arg7 Inv-loop μ-loop) → tie.After-read Inv-loop μ-loop
+rule-line c = c .before .before .before .before .before .before .before .before
+
+abbrev rule-from : (c : tie.After-plan-rule-arg7 Inv-loop μ-loop) → tie.Else1 Inv-loop μ-loop
+rule-from c = rule-line c .before .before .before
+
+-- where a rule goes
+place-below : (c : tie.After-place Inv-loop μ-loop) → c .place .result < 1024
+place-below c =
+    let l = c .before .before in
+    let d = rule-from l in
+    let e = rule-line l .read .given .1 in
+    omega (arith, c .place .ensures, arm-steps (passed d) 0 e, arm-rules (passed d) 0 e)
+
+-- the number of steps before an `end`, and before a `done`
+end-below : (c : tie.After-enum-told Inv-loop μ-loop) → so-far (c .before .before .before) .loop .state .steps < 32
+end-below c = arm-end-steps (passed (c .before .before .before)) 0 (c .enum-told .given .1)
+
+done-above : (c : tie.After-enum-told2 Inv-loop μ-loop) → 1 ≤ so-far (c .before .before .before) .loop .state .steps
+done-above c = arm-done-steps (passed (c .before .before .before)) 0 (c .enum-told2 .given .1)
+
+done-below : (c : tie.After-enum-told2 Inv-loop μ-loop) → so-far (c .before .before .before) .loop .state .steps ≤ 32
+done-below c = small (so-far (c .before .before .before) .loop .inv .0) .0
+
+-- the arrays and the open step where the arms meet
+joined : (c : tie.At-match-came Inv-loop μ-loop)
+    → let d = c .before .before in
+    let m = c .match in
+    Behind (m .slots) (m .frames) (addedOf (m .keys) (m .rounds) (m .backs) (m .reads) (m .count) (m .full)) (m .wanted)
+    (advanceOf (so-far d .loop .state) (so-far d .loop .count) (read-at d .read-first .result))
+    (advance (so-far d .loop .inv .0 .state) (passed d .form))
+joined c =
+    let d = c .before .before in
+    let n = so-far d .loop .count in
+    ⊎-elim (λ w. rw (w .12, w .13, w .14, w .15, w .16, w .17, w .18, w .19, w .20, w .11 .ensures, w .10 .ensures .marked)
+    (arm-rule (passed d) n (w .1 .given .1) (w .10 .ensures .planned) (w .10 .ensures .found)))
+    (⊎-elim (λ w. rw (w .9, w .10, w .11, w .12, w .13, w .14, w .15, w .16, w .17, w .8 .ensures .0, w .8 .ensures .1)
+    (arm-end (passed d) n (w .1 .given .1) (w .8 .ensures .2)))
+    (⊎-elim (λ w. rw (w .4, w .5, w .6, w .7, w .8, w .9, w .10, w .11, w .12, w .3 .ensures) (arm-done (passed d) n (w .1 .given .1) _))
+    (⊎-elim (λ w. rw (w .2, w .3, w .4, w .5, w .6, w .7, w .8, w .9, w .10) (arm-step (passed d) n (w .1 .given .1)))
+    (⊎-elim (λ w. rw (w .2, w .3, w .4, w .5, w .6, w .7, w .8, w .9, w .10) (arm-loop (passed d) n (w .1 .given .1)))
+    (λ w. arm-none (passed d) n (w .1 .given .1))))))
+    (c .match .came)
+
+-- and the line is still what was read
+read-same : (c : tie.At-match-came Inv-loop μ-loop) → c .match .read ≡ c .before .before .before .before .before .read-first .result
+read-same c =
+    ⊎-elim (λ w. w .21 ∙ sym (w .1 .given .1))
+    (⊎-elim (λ w. w .18) (⊎-elim (λ w. w .13) (⊎-elim (λ w. w .11) (⊎-elim (λ w. w .11) (λ w. w .11)))))
+    (c .match .came)
+
+empty-slot-requires : tie.Need-empty-slot-requires Inv-loop μ-loop
+empty-slot-requires c κs = tt
+
+empty-frame-requires : tie.Need-empty-frame-requires Inv-loop μ-loop
+empty-frame-requires c κs = tt
+
+start-requires : tie.Need-start-requires Inv-loop μ-loop
+start-requires c κs = tt
+
+loop-holds : tie.Need-loop-holds Inv-loop μ-loop
+loop-holds c =
+    let p = c .before .before .before .before .pre in
+    (rw (p .6) (begun _ _ (p .3, p .2) (p .4) refl refl (c .start .ensures)), p .5)
+
+line-end-requires : tie.Need-line-end-requires Inv-loop μ-loop
+line-end-requires c κs = c .before .loop .inv .0 .within
+
+read-first-requires : tie.Need-read-first-requires Inv-loop μ-loop
+read-first-requires c κs = (c .before .before .before .before .before .before .before .pre .0, c .before .loop-test .taken, c .line-end .ensures)
+
+refusal-requires : tie.Need-refusal-requires Inv-loop μ-loop
+refusal-requires c κs = tt
+
+enum-known-read : tie.Need-enum-known-read Inv-loop μ-loop
+enum-known-read c = search needs
+
+plan-rule-requires : tie.Need-plan-rule-requires Inv-loop μ-loop
+plan-rule-requires c κs =
+    let o = so-far (rule-from c) .loop .inv .0 .behind .opened in
+    (o .sound, arm-short (passed (rule-from c)) 0 (rule-line c .read .given .1), o .marks)
+
+place-requires : tie.Need-place-requires Inv-loop μ-loop
+place-requires c κs = small (so-far (rule-from (c .before)) .loop .inv .0)
+
+mul-slots : tie.Need-mul-slots Inv-loop μ-loop
+mul-slots c = record { fits = omega (arith, place-below c) }
+
+array-set-from-slots : tie.Need-array-set-from-slots Inv-loop μ-loop
+array-set-from-slots c = place-below c
+
+enum-told : tie.Need-enum-told Inv-loop μ-loop
+enum-told c = search needs
+
+close-requires : tie.Need-close-requires Inv-loop μ-loop
+close-requires c κs = tt
+
+mul-frames : tie.Need-mul-frames Inv-loop μ-loop
+mul-frames c = record { fits = omega (arith, end-below (c .before .before .before .before .before .before .before)) }
+
+array-set-from-frames : tie.Need-array-set-from-frames Inv-loop μ-loop
+array-set-from-frames c = end-below (c .before .before .before .before .before .before .before)
+
+enum-told-2 : tie.Need-enum-told-2 Inv-loop μ-loop
+enum-told-2 c = search needs
+
+sub-last-frame : tie.Need-sub-last-frame Inv-loop μ-loop
+sub-last-frame c = done-above c
+
+mul-last-frame : tie.Need-mul-last-frame Inv-loop μ-loop
+mul-last-frame c = record { fits = omega (arith, done-above c, done-below c) }
+
+array-copy-out-last-frame : tie.Need-array-copy-out-last-frame Inv-loop μ-loop
+array-copy-out-last-frame c = omega (arith, done-above c, done-below c)
+
+last-frame-requires : tie.Need-last-frame-requires Inv-loop μ-loop
+last-frame-requires c κs = tt
+
+sub-frames : tie.Need-sub-frames Inv-loop μ-loop
+sub-frames c = done-above (c .before .before)
+
+mul-frames-2 : tie.Need-mul-frames-2 Inv-loop μ-loop
+mul-frames-2 c = record { fits = omega (arith, done-above (c .before .before), done-below (c .before .before)) }
+
+array-set-from-frames-2 : tie.Need-array-set-from-frames-2 Inv-loop μ-loop
+array-set-from-frames-2 c = omega (arith, done-above (c .before .before), done-below (c .before .before))
+
+enum-told-3 : tie.Need-enum-told-3 Inv-loop μ-loop
+enum-told-3 c = search needs
+
+enum-told-4 : tie.Need-enum-told-4 Inv-loop μ-loop
+enum-told-4 c = search needs
+
+enum-told-5 : tie.Need-enum-told-5 Inv-loop μ-loop
+enum-told-5 c = search needs
+
+advance-requires : tie.Need-advance-requires Inv-loop μ-loop
+advance-requires c κs = small (so-far (c .before .before) .loop .inv .0)
+
+add-at : tie.Need-add-at Inv-loop μ-loop
+add-at c = let d = c .before .before .before in record { fits = omega (arith, passed d .inside, line-at d .line-end .ensures, entry d .pre .1) }
+
+add-line : tie.Need-add-line Inv-loop μ-loop
+add-line c = let d = c .before .before .before .before in let q = so-far d .loop .inv .0 in record { fits = omega (arith, q .few, q .within, entry d .pre .1) }
+
+loop-less : tie.Need-loop-less Inv-loop μ-loop
+loop-less c = let d = c .before .before .before .before in omega (arith, passed d .inside, line-at d .line-end .ensures)
+
+loop-again : tie.Need-loop-again Inv-loop μ-loop
+loop-again c =
+    let m = c .before .before in
+    let d = m .before .before in
+    (rw (c .before .advance .ensures, read-same m, line-at d .line-end .ensures) (again (passed d) (joined m)), d .if1 .left)
+
+refusal-or-last-requires : tie.Need-refusal-or-last-requires Inv-loop μ-loop
+refusal-or-last-requires c κs = tt
+
+returns : tie.Need-returns Inv-loop μ-loop
+returns c =
+    let l = c .before .before .before in
+    let s = l .before .before .before .before .before .args .sizes in
+    let lim = l .before .before .before .before .before .pre .0 in
+    ⊎-elim (λ w. rw (c .refusal-or-last .ensures, w .1, l .loop .inv .1, or-none 0 _ refl) (answer-read (l .loop .inv .0) (w .0 .left)))
+    (λ w.
+    let stop = stopped s lim (l .loop .inv .0) (w .2 .result) (w .0 .taken) (w .2 .ensures) (λ z. w .5 .taken (w .3 .ensures ∙ z)) in
+    rw (c .refusal-or-last .ensures, w .6, or-first _ _ (w .5 .taken))
+    (answer-refused (w .3 .result) _ _ (w .5 .taken) (stop ∙ ap (λ (n : ℕ). refused n _) (sym (w .3 .ensures)))))
+    (c .before .before .loop-test .came)
+
+pub read-program-spec : {M : Type 1} → statement M
+read-program-spec =
+    tie.close
+    (tie.spec
+    Inv-loop
+    μ-loop
+    empty-slot-requires
+    empty-frame-requires
+    start-requires
+    loop-holds
+    line-end-requires
+    read-first-requires
+    refusal-requires
+    enum-known-read
+    plan-rule-requires
+    place-requires
+    mul-slots
+    array-set-from-slots
+    enum-told
+    close-requires
+    mul-frames
+    array-set-from-frames
+    enum-told-2
+    sub-last-frame
+    mul-last-frame
+    array-copy-out-last-frame
+    last-frame-requires
+    sub-frames
+    mul-frames-2
+    array-set-from-frames-2
+    enum-told-3
+    enum-told-4
+    enum-told-5
+    advance-requires
+    add-at
+    add-line
+    loop-less
+    loop-again
+    refusal-or-last-requires
+    returns)
