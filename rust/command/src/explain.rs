@@ -58,18 +58,24 @@ fn rules_advice(sizes: Sizes, text: &[u8], kind: Kind, place: Option<Place<'_>>)
 
 /// Whether this place is in or behind what was meant as a number and is none.
 fn is_no_number(line: &[u8], at: usize) -> bool {
-    let meant = |byte: &u8| matches!(byte, b'0'..=b'9' | b'-' | b'.' | b',');
+    let meant = |byte: &u8| matches!(byte, b'0'..=b'9' | b'.' | b',');
     let before = line[..at].iter().rev().take_while(|byte| meant(byte));
     let behind = line[at..].iter().take_while(|byte| meant(byte));
-    let token = &line[at - before.count()..at + behind.count()];
+    let start = at - before.count();
+    let minus = usize::from(line[..start].ends_with(b"-"));
+    let token = &line[start - minus..at + behind.count()];
     token.iter().any(u8::is_ascii_digit) && !Scan::is_number(token)
 }
 
 /// What to do about references and measures that are mixed at this place.
 fn kind_advice(line: &[u8], at: usize) -> &'static str {
-    match (line[..at].last(), &line[at..]) {
+    let before = line[..at].trim_ascii_end().last();
+    match (before, &line[at..]) {
         (Some(b'['), _) => "What stands in square brackets leads to a record: A to H, or u.",
-        (_, [b'+' | b'-', b' ' | b'=', ..]) => "Sums take measures only: M to T, and numbers.",
+        // Behind an operand a minus is the operator.
+        (Some(b']' | b'u' | b')' | b'0'..=b'9'), [b'+' | b'-', ..]) => {
+            "Sums take measures only: M to T, and numbers."
+        }
         _ => "Both sides are references, or both are measures; a number is a measure.",
     }
 }

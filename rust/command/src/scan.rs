@@ -10,6 +10,9 @@ pub struct Part {
     pub start: usize,
     /// The byte behind it.
     pub end: usize,
+    /// Of a group how deep it stands, of an operator which of its expression it is,
+    /// both from 1.
+    pub count: usize,
 }
 
 impl Part {
@@ -26,12 +29,16 @@ pub enum PartSort {
     Written,
     /// The chain in `remote F[C]`.
     Target,
-    /// A side of a test, or what is written.
+    /// A term of a test, or of what is written.
     Chain,
     /// The same as a number.
     Number,
     /// `+`, `-` or `+=`.
     Sum,
+    /// `<?`
+    Smaller,
+    /// The opening bracket of a group.
+    Group,
     /// The end of a test.
     TestEnd,
 }
@@ -63,7 +70,11 @@ impl<'a> Scan<'a> {
 
     /// The same for a chain that stands alone.
     pub fn chain_alone(line: &'a [u8]) -> Result<Scan<'a>, usize> {
-        Scan::by(line, |scan| scan.chain(PartSort::Chain))
+        let scan = Scan::by(line, |scan| scan.chain(PartSort::Chain))?;
+        match line.iter().position(|&byte| byte == b' ') {
+            Some(space) => Err(space),
+            None => Ok(scan),
+        }
     }
 
     /// Whether this is a number.
@@ -73,7 +84,8 @@ impl<'a> Scan<'a> {
 
     fn by(line: &'a [u8], form: impl FnOnce(&mut Scan<'a>) -> bool) -> Result<Scan<'a>, usize> {
         let mut scan = Scan::new(line);
-        match form(&mut scan) && scan.at == line.len() {
+        let fits = form(&mut scan) && scan.at == line.len();
+        match fits && !line.ends_with(b" ") {
             true => Ok(scan),
             false => Err(scan.at),
         }
@@ -84,15 +96,15 @@ impl<'a> Scan<'a> {
     }
 
     fn open_loop(&mut self) -> bool {
-        self.any(&["loop "]) && self.written()
+        self.sign(&["loop "]) && self.written()
     }
 
     fn tested(&mut self) -> bool {
-        self.any(&["if "])
-            && self.term()
-            && self.any(&[" < ", " == ", " != "])
-            && self.term()
-            && self.part(PartSort::TestEnd, |scan| scan.any(&[": "]))
+        self.sign(&["if "])
+            && self.expression()
+            && self.sign(&["<", "==", "!="])
+            && self.expression()
+            && self.part(PartSort::TestEnd, |scan| scan.any(&[":"]))
             && self.action()
     }
 
@@ -104,30 +116,55 @@ impl<'a> Scan<'a> {
     }
 
     fn local(&mut self) -> bool {
-        let begun = self.written() && self.any(&["[u] := "]) && self.term();
-        if !begun || self.at == self.line.len() {
-            return begun;
-        }
-        self.any(&[" "]) && self.part(PartSort::Sum, |scan| scan.any(&["+ ", "- "])) && self.term()
+        self.written()
+            && ["[", "u", "]", ":="].iter().all(|sign| self.sign(&[sign]))
+            && self.expression()
     }
 
     fn remote(&mut self) -> bool {
-        let begun = self.any(&["remote "])
+        let begun = self.sign(&["remote "])
             && self.written()
-            && self.any(&["["])
+            && self.sign(&["["])
             && self.chain(PartSort::Target)
-            && self.any(&["] "]);
+            && self.sign(&["]"]);
         let sum = self.line.get(self.at) == Some(&b'+');
         begun
             && match sum {
-                true => self.part(PartSort::Sum, |scan| scan.any(&["+= "])),
-                false => self.any(&["<?= ", "+= "]),
+                true => self.part(PartSort::Sum, |scan| scan.any(&["+="])),
+                false => self.sign(&["<?=", "+="]),
             }
-            && self.term()
+            && self.expression()
     }
 
     fn written(&mut self) -> bool {
         self.part(PartSort::Written, Scan::capital)
+    }
+
+    /// Operands and the operators between them; groups may stand in each other as
+    /// deep as they like.
+    fn expression(&mut self) -> bool {
+        let (mut open, mut operators) = (0, 0);
+        loop {
+            while self.line.get(self.at) == Some(&b'(') {
+                open += 1;
+                self.counted(PartSort::Group, open, "(");
+            }
+            if !self.term() {
+                return false;
+            }
+            while open > 0 && self.line.get(self.at) == Some(&b')') {
+                open -= 1;
+                self.sign(&[")"]);
+            }
+            operators += 1;
+            match &self.line[self.at..] {
+                [b'<', b'?', b'=', ..] | [b'+', b'=', ..] => return open == 0,
+                [b'<', b'?', ..] => self.counted(PartSort::Smaller, operators, "<?"),
+                [b'+', ..] => self.counted(PartSort::Sum, operators, "+"),
+                [b'-', ..] => self.counted(PartSort::Sum, operators, "-"),
+                _ => return open == 0,
+            }
+        }
     }
 
     fn term(&mut self) -> bool {
@@ -142,11 +179,16 @@ impl<'a> Scan<'a> {
             let mut depth = 0;
             while scan.capital() {
                 depth += 1;
-                if !scan.any(&["["]) {
+                scan.spaces();
+                if !scan.sign(&["["]) {
                     return false;
                 }
             }
-            scan.any(&["u"]) && (0..depth).all(|_| scan.any(&["]"]))
+            scan.any(&["u"])
+                && (0..depth).all(|_| {
+                    scan.spaces();
+                    scan.any(&["]"])
+                })
         })
     }
 
@@ -199,11 +241,43 @@ impl<'a> Scan<'a> {
         false
     }
 
+    /// One of these signs or words, and the spaces behind it.
+    fn sign(&mut self, signs: &[&str]) -> bool {
+        let taken = self.any(signs);
+        if taken {
+            self.spaces();
+        }
+        taken
+    }
+
+    fn spaces(&mut self) {
+        while self.line.get(self.at) == Some(&b' ') {
+            self.at += 1;
+        }
+    }
+
     fn part(&mut self, sort: PartSort, take: impl FnOnce(&mut Scan<'a>) -> bool) -> bool {
         let start = self.at;
         let taken = take(self);
         let end = self.at;
-        self.parts.push(Part { sort, start, end });
+        let count = 0;
+        self.parts.push(Part {
+            sort,
+            start,
+            end,
+            count,
+        });
+        if taken {
+            self.spaces();
+        }
         taken
+    }
+
+    /// A sign that stands here, with its count.
+    fn counted(&mut self, sort: PartSort, count: usize, sign: &str) {
+        self.part(sort, |scan| scan.any(&[sign]));
+        if let Some(part) = self.parts.last_mut() {
+            part.count = count;
+        }
     }
 }

@@ -94,10 +94,14 @@ fn numbers_that_are_none() {
         let said = check(number).fails(1, "refused 12 at line 2");
         said.fails(1, "in metres from -21474836.48 to 21474836.47");
     }
-    for line in ["M[u] := 5x", "M[u] := M[u] -5", "M[u] := 5 * 5"] {
+    let advice = match cfg!(feature = "m105") {
+        true => "Spaces are free between words and signs",
+        false => "Spaces stand exactly as the forms show them",
+    };
+    for line in ["M[u] := 5x", "M[u] := M[u] --", "M[u] := 5 * 5"] {
         let text = format!("step\n{line}\nend\n");
         let said = folder.plot_with(&["check", "full.register", "-"], text.as_bytes());
-        said.fails(1, "Spaces stand exactly as the forms show them");
+        said.fails(1, advice);
     }
 }
 

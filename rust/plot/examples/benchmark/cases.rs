@@ -14,6 +14,8 @@ pub struct Case {
     pub text: Vec<u8>,
     /// The budget.
     pub budget: u16,
+    /// The ratio that the library must keep.
+    pub at_most: f64,
 }
 
 fn case(name: &'static str, register: Vec<u8>, text: Vec<u8>, budget: u16) -> Case {
@@ -22,12 +24,13 @@ fn case(name: &'static str, register: Vec<u8>, text: Vec<u8>, budget: u16) -> Ca
         register,
         text,
         budget,
+        at_most: 1.5,
     }
 }
 
 /// The runs that are timed by both machines.
 pub fn cases() -> Vec<Case> {
-    vec![
+    let mut cases = vec![
         case("32 rules of 16 hops", far_about(), long_rules(), 1),
         case("8 chains of 16 hops, 15 common", full(), in_common(), 1),
         case(
@@ -44,7 +47,15 @@ pub fn cases() -> Vec<Case> {
         ),
         case("65,535 steps, 16 records", few(), counting(), 65_535),
         case("100 steps, records of 16 fields", full(), counting(), 100),
-    ]
+    ];
+    if cfg!(feature = "m105") {
+        let text = rules_of_16_operators();
+        cases.push(Case {
+            at_most: 1.2,
+            ..case("32 rules of 16 operators", far_about(), text, 1)
+        });
+    }
+    cases
 }
 
 /// So many steps of so many rules each over all records.
@@ -101,6 +112,20 @@ fn long_rules() -> Vec<u8> {
 /// differ, so that the eight readings have 51 lines and only this in common.
 fn in_common() -> Vec<u8> {
     reading_behind(b"HEFCDABHGFEDCBA", b'M'..=b'T')
+}
+
+/// Rules of 16 operators of every sort, some in groups; the sums stay small.
+fn rules_of_16_operators() -> Vec<u8> {
+    let rule = |number: usize| {
+        let field = |place: usize| char::from(b'M' + ((number + place) % 8) as u8);
+        let mut text = format!("{}[u] := {}[A[u]]", field(0), field(1));
+        for place in 0..4 {
+            let [x, y, z] = [2, 3, 4].map(|more| field(3 * place + more));
+            text += &format!(" - {x}[u] <? ({y}[u] + {place} - {z}[u])");
+        }
+        text + "\n"
+    };
+    step(&(0..32).map(rule).collect::<String>().into_bytes())
 }
 
 /// Every record refers to the first.

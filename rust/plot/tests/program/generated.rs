@@ -1,4 +1,4 @@
-//! For each number from 1 to 15 a generated input that is refused by it, and the
+//! For each number from 1 to 15, 24 and 25 a generated input that is refused by it, and the
 //! nearest one that is not.
 
 use crate::folders::Folder;
@@ -24,6 +24,20 @@ pub fn folders() -> Vec<Folder> {
         let register = registers::file(&mut random, Sizes { records, ..sizes });
         let inputs = [(&register, &pair.refused), (&register, &pair.accepted)];
         folders.extend(neighbouring(number, pair.line, inputs));
+    }
+    if cfg!(feature = "m105") {
+        for number in [24, 25] {
+            let (sizes, pair) = neighbours::expression_pair(&mut random, number);
+            let register = registers::file(
+                &mut random,
+                Sizes {
+                    records: 2,
+                    ..sizes
+                },
+            );
+            let inputs = [(&register, &pair.refused), (&register, &pair.accepted)];
+            folders.extend(neighbouring(number, pair.line, inputs));
+        }
     }
     folders
 }

@@ -76,6 +76,9 @@ fn program_prints_what_the_reference_does() {
         .map(|number| format!("refused {number}"))
         .collect();
     tally.require(1, &refusals);
+    if cfg!(feature = "m105") {
+        tally.require(1, &["refused 24", "refused 25"]);
+    }
     tally.require(1, &["a listing", "too large"]);
     fs::remove_dir_all(&place).expect("the folders can be removed");
 }

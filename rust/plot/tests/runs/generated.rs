@@ -128,6 +128,7 @@ fn buffers_of_other_lengths_are_refused() {
 }
 
 #[test]
+#[cfg_attr(not(feature = "m105"), ignore = "M-105 not in the library yet")]
 fn damaged_registers_and_texts_come_first() {
     let title = "runs of damaged registers and texts";
     let tally = tallied(title, 42, 8_000, trials::damaged);

@@ -176,6 +176,7 @@ fn inspections_of_large_registers_agree() {
 }
 
 #[test]
+#[cfg_attr(not(feature = "m105"), ignore = "M-105 not in the library yet")]
 fn damaged_registers_and_texts_come_first() {
     let mut random = Random::new(46);
     let mut tally = Tally::default();

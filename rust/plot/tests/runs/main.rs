@@ -4,6 +4,8 @@ mod bindings;
 #[path = "../common/mod.rs"]
 mod common;
 mod compare;
+#[cfg(feature = "m105")]
+mod expressions;
 mod generated;
 mod inspections;
 mod marks;

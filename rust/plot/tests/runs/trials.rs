@@ -98,6 +98,21 @@ pub fn out_of_range(random: &mut Random) -> Trial {
     Trial::new(random, case, 40)
 }
 
+/// The same with expressions, in any spacing.
+#[cfg(feature = "m105")]
+pub fn with_expressions(random: &mut Random) -> Trial {
+    let case = Case::with_expressions(random);
+    let budget = budget(random);
+    Trial::new(random, case, budget)
+}
+
+/// One step whose sums are mostly out of range.
+#[cfg(feature = "m105")]
+pub fn near_the_range(random: &mut Random) -> Trial {
+    let case = Case::near_the_range(random);
+    Trial::new(random, case, 1)
+}
+
 /// The same with as many records as may be, and a small budget.
 pub fn large(random: &mut Random) -> Trial {
     let sizes = registers::large_sizes(random);

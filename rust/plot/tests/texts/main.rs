@@ -5,6 +5,8 @@ mod bindings;
 mod common;
 mod compare;
 mod edges;
+#[cfg(feature = "m105")]
+mod expressions;
 mod forms;
 mod generated;
 mod metres;
