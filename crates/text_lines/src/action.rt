@@ -58,9 +58,15 @@ fn read_local(
     let Place::At(start) = word::assigned(line, at) else {
         return ActionRead::NoForm;
     };
-    let ExpressionRead::Parts(seen, end, to) =
-        expression::read(line, start, sizes, kinds, numbers, chains, count)
-    else {
+    let ExpressionRead::Parts(seen, end, to) = expression::read(
+        line,
+        start,
+        sizes,
+        kinds,
+        numbers,
+        chains,
+        count,
+    ) else {
         return ActionRead::NoForm;
     };
     if !word::ends(line, end) {
@@ -122,9 +128,15 @@ fn read_sent(
     let WriteRead::Write(sort, start) = word::write(line, at) else {
         return ActionRead::NoForm;
     };
-    let SideRead::Side(seen, term, end, codes) =
-        side::read(line, start, sizes, kinds, numbers, chains, count)
-    else {
+    let SideRead::Side(seen, term, end, codes) = side::read(
+        line,
+        start,
+        sizes,
+        kinds,
+        numbers,
+        chains,
+        count,
+    ) else {
         return ActionRead::NoForm;
     };
     if !word::ends(line, end) {
@@ -158,11 +170,26 @@ pub fn read(
     let token = first.token;
     match token {
         Token::Letter(letter) => read_local(
-            line, first.end, letter, sizes, kinds, numbers, chains, count,
+            line,
+            first.end,
+            letter,
+            sizes,
+            kinds,
+            numbers,
+            chains,
+            count,
         ),
         Token::Remote => match read_target(line, first.end, sizes) {
             TargetRead::Target(letter, parts, end) => read_sent(
-                line, end, letter, parts, sizes, kinds, numbers, chains, count,
+                line,
+                end,
+                letter,
+                parts,
+                sizes,
+                kinds,
+                numbers,
+                chains,
+                count,
             ),
             TargetRead::NoForm => ActionRead::NoForm,
         },

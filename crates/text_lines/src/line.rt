@@ -78,7 +78,11 @@ fn read_loop(line: &[u8], at: usize, sizes: Sizes) -> LineRead
         return LineRead::NoForm;
     };
     let field = letters::field_of(letter);
-    word_line(line, end, LineRead::Loop(field, letters::names_field(sizes, letter)))
+    word_line(
+        line,
+        end,
+        LineRead::Loop(field, letters::names_field(sizes, letter)),
+    )
 }
 
 // The rule at `at`, behind its test.
@@ -99,9 +103,15 @@ fn read_ruled(
         (arrays (now (kinds .entry)) (now (numbers .entry)) (now (chains .entry)))
         (arrays (now (kinds .exit)) (now (numbers .exit)) (now (chains .exit))) count r ⌝ }
 {
-    let ActionRead::Action(rule, asked, codes) =
-        action::read(line, at, sizes, kinds, numbers, chains, count)
-    else {
+    let ActionRead::Action(rule, asked, codes) = action::read(
+        line,
+        at,
+        sizes,
+        kinds,
+        numbers,
+        chains,
+        count,
+    ) else {
         return no_form(count);
     };
     let own = test.test;
@@ -145,9 +155,15 @@ fn read_compared(
         (arrays (now (kinds .entry)) (now (numbers .entry)) (now (chains .entry)))
         (arrays (now (kinds .exit)) (now (numbers .exit)) (now (chains .exit))) count r ⌝ }
 {
-    let SideRead::Side(seen, term, end, codes) =
-        side::read(line, at, sizes, kinds, numbers, chains, count)
-    else {
+    let SideRead::Side(seen, term, end, codes) = side::read(
+        line,
+        at,
+        sizes,
+        kinds,
+        numbers,
+        chains,
+        count,
+    ) else {
         return no_form(count);
     };
     let Place::At(start) = word::colon(line, end) else {
@@ -174,9 +190,15 @@ fn read_tested(
         (arrays (now (kinds .entry)) (now (numbers .entry)) (now (chains .entry)))
         (arrays (now (kinds .exit)) (now (numbers .exit)) (now (chains .exit))) count count r ⌝ }
 {
-    let SideRead::Side(seen, term, end, codes) =
-        side::read(line, at, sizes, kinds, numbers, chains, count)
-    else {
+    let SideRead::Side(seen, term, end, codes) = side::read(
+        line,
+        at,
+        sizes,
+        kinds,
+        numbers,
+        chains,
+        count,
+    ) else {
         return no_form(count);
     };
     let ComparisonRead::Compared(comparison, start) = word::comparison(line, end) else {

@@ -110,9 +110,15 @@ pub fn read(
         (arrays (now (kinds .entry)) (now (numbers .entry)) (now (chains .entry)))
         (arrays (now (kinds .exit)) (now (numbers .exit)) (now (chains .exit))) count r ⌝ }
 {
-    let ExpressionRead::Parts(seen, end, to) =
-        expression::read(line, at, sizes, kinds, numbers, chains, count)
-    else {
+    let ExpressionRead::Parts(seen, end, to) = expression::read(
+        line,
+        at,
+        sizes,
+        kinds,
+        numbers,
+        chains,
+        count,
+    ) else {
         return SideRead::NoForm;
     };
     let term = term_in(kinds, numbers, chains, count, to);

@@ -20,8 +20,7 @@ returns c =
     let l = c .before .before in
     let s = l .before in
     let k = s .pre .0 in
-    let lines = facts-length (now (s .args .keys)) (s .args .count) (omega (arith, k .taken≤, k .places)) in
-    (
+    let lines = facts-length (now (s .args .keys)) (s .args .count) (omega (arith, k .taken≤, k .places)) in (
       rw (c .mark-line .ensures) (line-found _ _ _ _ (l .locate-chain .ensures)),
       rw (l .locate-chain .ensures) (chain-placeable _ _ (omega (arith, lines, k .taken≤))),
       rw (c .mark-line .ensures) (line-marked _ _),

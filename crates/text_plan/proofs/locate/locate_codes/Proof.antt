@@ -28,8 +28,7 @@ locate-code-requires c κs =
     let i = c .before .before in
     let l = i .before in
     let p = l .before .before .before .before .pre in
-    let v = l .loop .inv in
-    (
+    let v = l .loop .inv in (
       (p .0 .0, v .0 .more .marked .same ∙ p .0 .1, short-at _ _ _ _ _ (v .1) (i .loop-test .taken) (p .0 .2)),
       (omega (arith, i .loop-test .taken, p .1 .0), omega (arith, i .loop-test .taken, p .1 .1), omega (arith, i .loop-test .taken, p .1 .2, v .0 .more .sized)),
     )

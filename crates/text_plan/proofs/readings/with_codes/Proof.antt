@@ -24,8 +24,7 @@ with-code-requires : tie.Need-with-code-requires Inv-loop μ-loop
 with-code-requires c κs =
     let i = c .before .before .before .before in
     let l = i .before in
-    let p = l .before .before .before .pre in
-    (
+    let p = l .before .before .before .pre in (
       l .loop .inv .0 .growing,
       short-at _ _ _ _ _ (l .loop .inv .1) (i .loop-test .taken) (p .1),
       omega (arith, i .loop-test .taken, p .2),

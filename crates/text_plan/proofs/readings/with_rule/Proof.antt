@@ -37,8 +37,7 @@ with-term-requires-2 c κs =
     let ks = now (s .args .kinds) in
     let cs = now (s .args .chains) in
     let e = t .rule2 .given .1 in
-    let g = t .rule2 .given .0 in
-    (
+    let g = t .rule2 .given .0 in (
       s .pre .0,
       each-front _ (termWords ks cs (g .1 .1 .0)) (termWords ks cs (g .1 .1 .1 .0)) (rule-short ks cs e (s .pre .1)),
       subst (RuleTerms (TermInside (length ks))) e (s .pre .2) .0,
@@ -54,8 +53,7 @@ with-term-requires-3 c κs =
     let ks = now (s .args .kinds) in
     let cs = now (s .args .chains) in
     let e = t .rule2 .given .1 in
-    let g = t .rule2 .given .0 in
-    (
+    let g = t .rule2 .given .0 in (
       f .with-term2 .ensures .growing,
       each-back _ (termWords ks cs (g .1 .1 .0)) (termWords ks cs (g .1 .1 .1 .0)) (rule-short ks cs e (s .pre .1)),
       subst (RuleTerms (TermInside (length ks))) e (s .pre .2) .1,
@@ -82,8 +80,7 @@ with-term-requires-4 c κs =
     let s = t .before .before .before .before in
     let ks = now (s .args .kinds) in
     let cs = now (s .args .chains) in
-    let e = t .rule3 .given .1 in
-    (
+    let e = t .rule3 .given .1 in (
       f .with-reading .ensures .growing,
       rule-short ks cs e (s .pre .1) .1,
       subst (RuleTerms (TermInside (length ks))) e (s .pre .2),

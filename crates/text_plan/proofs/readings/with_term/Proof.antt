@@ -31,8 +31,7 @@ unfolding termWords
 with-codes-requires c κs =
     let t = c .before .before .before .before .before in
     let s = t .before .before .before .before in
-    let e = t .term2 .given .1 in
-    (
+    let e = t .term2 .given .1 in (
       s .pre .0,
       term-short (now (s .args .kinds)) (now (s .args .chains)) e (s .pre .1),
       subst (TermInside (length (now (s .args .kinds)))) e (s .pre .2),

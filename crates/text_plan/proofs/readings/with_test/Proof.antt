@@ -25,8 +25,7 @@ with-term-requires c κs =
     let ks = now (s .args .kinds) in
     let cs = now (s .args .chains) in
     let e = t .test .given .1 in
-    let g = t .test .given .0 in
-    (
+    let g = t .test .given .0 in (
       s .pre .0,
       each-front _ (termWords ks cs (g .0)) (termWords ks cs (g .1 .1 .0)) (test-short ks cs e (s .pre .1)),
       subst (TestTerms (TermInside (length ks))) e (s .pre .2) .0,
@@ -42,8 +41,7 @@ with-term-requires-2 c κs =
     let ks = now (s .args .kinds) in
     let cs = now (s .args .chains) in
     let e = t .test .given .1 in
-    let g = t .test .given .0 in
-    (
+    let g = t .test .given .0 in (
       f .with-term .ensures .growing,
       each-back _ (termWords ks cs (g .0)) (termWords ks cs (g .1 .1 .0)) (test-short ks cs e (s .pre .1)),
       subst (TestTerms (TermInside (length ks))) e (s .pre .2) .1,
