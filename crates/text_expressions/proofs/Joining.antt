@@ -10,8 +10,10 @@ use lib.ListN.{length}
 use Rattle.register.specs.declared.Sizes.{Sizes}
 use Rattle.text_syntax.specs.Token as S
 use Rattle.program.specs.Code as P
-use Rattle.program.specs.Code.{Code}
-use Rattle.text_syntax.specs.Token.{Sign, plus, minus, smaller, operator, openRound, closeRound}
+use Rattle.program.specs.Code.{Code, operatorOf}
+use Rattle.program.specs.declared.rule.Operator.{Operator}
+use Rattle.program.specs.declared.rule.Operator.the-variants.{Plus, Minus, Smaller}
+use Rattle.text_syntax.specs.Token.{operator, openRound, closeRound}
 use Rattle.text_syntax.specs.Kind.{kind, operatorIn, fixedIn, same, is}
 use Rattle.text_syntax.specs.Form.{Form, formed, unformed, held, oneOf, past, then}
 use Rattle.text_syntax.specs.Written.{Expression, term, group, operation}
@@ -37,16 +39,16 @@ use Rattle.text_expressions.specs.Reading.{Unranked, AllDeep, ReadAs, Un
 use Rattle.text_expressions.specs.Join.{Continues, ReadyFor, PutNext, JoinedBy}
 use Rattle.text_expressions.proofs.Places.{past-absent}
 use Rattle.text_expressions.proofs.ChainForms.{behind-behind}
-use Rattle.text_expressions.specs.Codes.{Arrays, arrays, termCode, codesOf, signKind, signOperator, signCodes, signSize, Wrote, WroteSign, Roomy}
+use Rattle.text_expressions.specs.Codes.{Arrays, arrays, termCode, codesOf, signKind, signCodes, signSize, Wrote, WroteSign, Roomy}
 use Rattle.text_expressions.proofs.Coding.{wrote-none, wrote-then}
 use Rattle.text_expressions.proofs.Turning.{term-summary, term-few, operator-few}
 
 -- operators by their rank
-pub ranked-none : (rank : Sign → Bool) {line : List ℕ} {at : ℕ} → NoOperator line at → Unranked rank line at
+pub ranked-none : (rank : Operator → Bool) {line : List ℕ} {at : ℕ} → NoOperator line at → Unranked rank line at
 unfolding operatorForm then
 ranked-none rank w = record { none = rw (w .none) }
 
-pub ranked-other : (rank : Sign → Bool) {o : Sign} {line : List ℕ} {at end : ℕ} → Passing false true (operator o) line at end → rank o ≡ false → Unranked
+pub ranked-other : (rank : Operator → Bool) {o : Operator} {line : List ℕ} {at end : ℕ} → Passing false true (operator o) line at end → rank o ≡ false → Unranked
     rank line at
 unfolding operatorForm then oneOf held operatorIn kind
 ranked-other rank {o} {line} {at} {end} w h = record {
@@ -54,11 +56,11 @@ ranked-other rank {o} {line} {at} {end} w h = record {
 }
 
 -- the kinds of operators
-sign-codes : (o : Sign) {k : ℕ} → k ≡ signKind o → signCodes k ≡ P.operator (signOperator o) ∷ []
-unfolding signCodes signKind
-sign-codes plus e = rw e
-sign-codes minus e = rw e
-sign-codes smaller e = rw e
+sign-codes : (o : Operator) {k : ℕ} → k ≡ signKind o → signCodes k ≡ P.operator o ∷ []
+unfolding signCodes signKind operatorOf
+sign-codes Plus e = rw e
+sign-codes Minus e = rw e
+sign-codes Smaller e = rw e
 
 sign-size : (k : ℕ) → signSize k ≤ 1
 unfolding signSize
@@ -68,11 +70,11 @@ sign-size k = go (eqb k 0)
     go true = omega arith
     go false = omega arith
 
-sign-number : (o : Sign) → signKind o ≢ 1
+sign-number : (o : Operator) → signKind o ≢ 1
 unfolding signKind
-sign-number plus e = omega (arith, e)
-sign-number minus e = omega (arith, e)
-sign-number smaller e = omega (arith, e)
+sign-number Plus e = omega (arith, e)
+sign-number Minus e = omega (arith, e)
+sign-number Smaller e = omega (arith, e)
 
 -- both ways to say that all is deep
 to-deep : (k : ℕ) (f : Form Expression) → AllDeep k f → Deep k f
@@ -84,10 +86,10 @@ all-deep k unformed h = h
 all-deep k (formed e r) h = h
 
 -- a reader of elements that are joined by operators of a rank
-pub record Joins (rank : Sign → Bool) (element : List S.Token → Form Expression) (from : Expression → List S.Token → Form Expression)
+pub record Joins (rank : Operator → Bool) (element : List S.Token → Form Expression) (from : Expression → List S.Token → Form Expression)
     (reader : List S.Token → Form Expression) : Type 0 where
   pub first : (ts : List S.Token) → reader ts ≡ then (element ts) from
-  pub more : (o : Sign) (x : Expression) (r : List S.Token) → rank o ≡ true → from x (operator o ∷ r) ≡ then (element r) (λ y. from (operation o x y))
+  pub more : (o : Operator) (x : Expression) (r : List S.Token) → rank o ≡ true → from x (operator o ∷ r) ≡ then (element r) (λ y. from (operation o x y))
   pub end : (x : Expression) (r : List S.Token) → operatorForm rank r ≡ unformed → from x r ≡ formed x r
   pub grows : (x : Expression) (ts : List S.Token) → All (λ e r. Grows x e) (from x ts)
 
@@ -124,7 +126,7 @@ roomy-on r w h = record {
   chains = omega (arith, r .chains, w .chains-length, h);
 }
 
-module _ {rank : Sign → Bool} {element : List S.Token → Form Expression} {from : Expression → List S.Token → Form Expression}
+module _ {rank : Operator → Bool} {element : List S.Token → Form Expression} {from : Expression → List S.Token → Form Expression}
     {reader : List S.Token → Form Expression} (j : Joins rank element from reader) where
   pub joined-start : (s : Sizes) (room : ℕ) (before : Summary) {line : List ℕ} {at : ℕ} (a : Arrays) (count : ℕ) → at ≤ length line → before .operators ≤
       at

@@ -16,7 +16,7 @@ use Rattle.text_syntax.specs.Written.{Term, chain, number, Expression, term, gr
 use Rattle.text_syntax.specs.Parts.{everyTerm, termNamed, termKinded, termShort, termInRange}
 use Rattle.text_syntax.specs.Tree.{termTree, treeOf}
 use Rattle.text_expressions.specs.Term.{kindOf, numberOf, packedOf}
-use Rattle.text_expressions.specs.Codes.{signOperator, codesOf}
+use Rattle.text_expressions.specs.Codes.{codesOf}
 
 module _ (s : Sizes) (l : Limits s) where
   term-postfix : (x : Term) → termNamed s x ≡ true → termKinded x ≡ true → termShort x ≡ true → termInRange x ≡ true
@@ -27,7 +27,7 @@ module _ (s : Sizes) (l : Limits s) where
   term-postfix (number negative x) n k h r = rw r
 
   pub codes-postfix : (e : Expression) → everyTerm (termNamed s) e ≡ true → everyTerm termKinded e ≡ true → everyTerm termShort e ≡ true
-      → everyTerm termInRange e ≡ true → codesOf e ≡ postfix (treeOf signOperator e)
+      → everyTerm termInRange e ≡ true → codesOf e ≡ postfix (treeOf e)
   unfolding codesOf everyTerm treeOf postfix
   codes-postfix (term x) n k h r = term-postfix x n k h r
   codes-postfix (group e) n k h r = codes-postfix e n k h r
@@ -36,5 +36,5 @@ module _ (s : Sizes) (l : Limits s) where
       let ks = and-both (everyTerm termKinded x) (everyTerm termKinded y) k in
       let hs = and-both (everyTerm termShort x) (everyTerm termShort y) h in
       let rs = and-both (everyTerm termInRange x) (everyTerm termInRange y) r in
-      ap₂ (λ (cs ds : List Code). cs ++ (ds ++ (P.operator (signOperator o) ∷ [])))
+      ap₂ (λ (cs ds : List Code). cs ++ (ds ++ (P.operator o ∷ [])))
       (codes-postfix x (ns .0) (ks .0) (hs .0) (rs .0)) (codes-postfix y (ns .1) (ks .1) (hs .1) (rs .1))

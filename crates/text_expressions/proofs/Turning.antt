@@ -8,7 +8,8 @@ use native.Mathlib.Omega.{arith}
 use lib.ListN.{length}
 use Rattle.register.specs.declared.Sizes.{Sizes}
 use Rattle.text_syntax.specs.Token as S
-use Rattle.text_syntax.specs.Token.{Sign, operator, openRound, closeRound}
+use Rattle.program.specs.declared.rule.Operator.{Operator}
+use Rattle.text_syntax.specs.Token.{operator, openRound, closeRound}
 use Rattle.text_syntax.specs.Kind.{kind, fixedIn, same, is}
 use Rattle.text_syntax.specs.Form.{Form, formed, unformed, past, then, thenOr}
 use Rattle.text_syntax.specs.Written.{Term, Expression, term}
@@ -36,7 +37,7 @@ pub term-few : (d : ℕ) (g : Summary) {h : Summary} (p : TermParts) → summary
 unfolding merged
 term-few d g p e = ap (λ (f : F.Summary). f .operators) e ∙ omega arith
 
-pub operator-few : (o : Sign) (g : Summary) {h : Summary} → summaryOf h ≡ withOperator o (summaryOf g) → h .operators ≡ g .operators + 1
+pub operator-few : (o : Operator) (g : Summary) {h : Summary} → summaryOf h ≡ withOperator o (summaryOf g) → h .operators ≡ g .operators + 1
 unfolding withOperator
 operator-few o g e = ap (λ (f : F.Summary). f .operators) e
 
@@ -94,7 +95,7 @@ module _ (s : Sizes) {line : List ℕ} (x : State) (w : StateAt line x) where
         ∙ past-absent openRound _ (scanFrom s true (suc d) g) (p .absent);
   }
 
-  pub turn-operator : x .due ≡ false → {o : Sign} {end : ℕ} → Passing false true (operator o) line (x .at) end → {h : Summary}
+  pub turn-operator : x .due ≡ false → {o : Operator} {end : ℕ} → Passing false true (operator o) line (x .at) end → {h : Summary}
       → summaryOf h ≡ withOperator o g → Turns s line x (record { at = end; due = true; deep = d; seen = h })
   turn-operator e {o} {end} p q = record {
     same =

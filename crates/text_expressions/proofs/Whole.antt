@@ -15,7 +15,7 @@ use Rattle.text_syntax.specs.Flat.{empty, summary, merged}
 use Rattle.text_syntax.proofs.Scans.{merged-empty}
 use Rattle.text_expressions.specs.declared.summary.Summary.{Summary}
 use Rattle.text_expressions.specs.Summary.{summaryOf}
-use Rattle.text_expressions.specs.Codes.{Arrays, codesBetween, signOperator, Roomy}
+use Rattle.text_expressions.specs.Codes.{Arrays, codesBetween, Roomy}
 use Rattle.text_expressions.specs.Scan.{ScanFormed, NoExpression}
 use Rattle.text_expressions.specs.Reading.{AllDeep, ReadAs, Unread, TooDeep, ExpressionFormed}
 use Rattle.text_expressions.proofs.Postfix.{codes-postfix}
@@ -64,7 +64,7 @@ whole-none w = record { none = w .none }
 -- an expression that passes 9, 11, 12 and 24, and whose chains go over references: its codes are those of its tree
 pub whole-postfix : {s : Sizes} {line : List ℕ} {at : ℕ} {a b : Arrays} {count : ℕ} {g : Summary} {end to : ℕ} → Limits s
     → (w : ExpressionFormed s line at a b count g end to) → g .named ≡ true → g .kinded ≡ true → g .short ≡ true → g .ranged ≡ true → g .depth ≤ 8
-    → codesBetween b count to ≡ postfix (treeOf signOperator (w .written))
+    → codesBetween b count to ≡ postfix (treeOf (w .written))
 unfolding summary
 whole-postfix {s} l w n k h r d =
     let e = w .summary-is in

@@ -8,7 +8,7 @@ use lib.IntN.{ℤ}
 use lib.ListN.{length}
 use Rattle.program.specs.declared.rule.Operator.{Operator}
 use Rattle.program.specs.Code.{Code, operator, operatorOf, codeOf, codeAt, codesIn}
-use Rattle.text_syntax.specs.Token.{Sign, plus, minus, smaller}
+use Rattle.program.specs.declared.rule.Operator.the-variants.{Plus, Minus, Smaller}
 use Rattle.text_syntax.specs.Written.{Expression, term, group, operation}
 use Rattle.text_expressions.specs.declared.term.TermParts.{TermParts}
 use Rattle.text_expressions.specs.Term.{kindOf, numberOf, packedOf}
@@ -28,14 +28,11 @@ codeIn a i = codeAt (a .kinds) (a .numbers) (a .chains) i
 abbrev pub codesBetween : Arrays → ℕ → ℕ → List Code
 codesBetween a from to = codesIn (a .kinds) (a .numbers) (a .chains) from to
 
--- the kind of an operator's code, and the operator
-unfoldable pub signKind : Sign → ℕ
-signKind plus = 2
-signKind minus = 3
-signKind smaller = 4
-
-abbrev pub signOperator : Sign → Operator
-signOperator o = operatorOf (signKind o)
+-- the kind of an operator's code
+unfoldable pub signKind : Operator → ℕ
+signKind Plus = 2
+signKind Minus = 3
+signKind Smaller = 4
 
 -- the code of a term
 abbrev pub termCode : TermParts → List Code
@@ -45,7 +42,7 @@ termCode p = codeOf (p .kind) (p .number) (p .packed) ∷ []
 unfoldable pub codesOf : Expression → List Code
 codesOf (term x) = codeOf (kindOf x) (numberOf x) (packedOf x) ∷ []
 codesOf (group e) = codesOf e
-codesOf (operation o x y) = codesOf x ++ (codesOf y ++ (operator (signOperator o) ∷ []))
+codesOf (operation o x y) = codesOf x ++ (codesOf y ++ (operator o ∷ []))
 
 -- the code of an operator of a kind, if there is one: 0 is none
 unfoldable pub signCodes : ℕ → List Code

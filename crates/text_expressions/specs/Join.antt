@@ -4,7 +4,7 @@ use mathlib.Core.Path.{_≡_}
 use mathlib.Core.Bool.{Bool, true, false}
 use mathlib.Core.List.{List}
 use lib.ListN.{length}
-use Rattle.text_syntax.specs.Token.{Sign}
+use Rattle.program.specs.declared.rule.Operator.{Operator}
 use Rattle.text_syntax.specs.Grammar.{isSum, isSmaller}
 use Rattle.text_syntax.specs.Flat.{withOperator}
 use Rattle.text_expressions.specs.declared.summary.Summary.{Summary}
@@ -18,27 +18,27 @@ use Rattle.text_expressions.specs.Codes.{signKind, WroteSign}
 use Rattle.text_expressions.specs.Reading.{Ranked, Unranked}
 
 -- the two ranks
-abbrev pub rankOf : Bool → Sign → Bool
+abbrev pub rankOf : Bool → Operator → Bool
 rankOf true = isSum
 rankOf false = isSmaller
 
 -- another operator follows
-pub record Continues (rank : Sign → Bool) (line : List ℕ) (g : Summary) (end codes : ℕ) (x : Pending) : Type 0 where
-  pub sign : Sign
+pub record Continues (rank : Operator → Bool) (line : List ℕ) (g : Summary) (end codes : ℕ) (x : Pending) : Type 0 where
+  pub sign : Operator
   pub ranked : Ranked rank sign line end (x .at)
   pub gathered : summaryOf (x .seen) ≡ withOperator sign (summaryOf g)
   pub codes-are : x .codes ≡ codes
   pub kind-is : x .kind ≡ signKind sign
 
 -- none does
-pub record Finishes (rank : Sign → Bool) (line : List ℕ) (g : Summary) (end codes : ℕ) (h : Summary) (last n : ℕ) : Type 0 where
+pub record Finishes (rank : Operator → Bool) (line : List ℕ) (g : Summary) (end codes : ℕ) (h : Summary) (last n : ℕ) : Type 0 where
   pub none : Unranked rank line end
   pub gathered : h ≡ g
   pub end-is : last ≡ end
   pub codes-are : n ≡ codes
 
 -- behind an element that ends at a place
-abbrev pub NextAt : (Sign → Bool) → List ℕ → Summary → ℕ → ℕ → Joining → Type 0
+abbrev pub NextAt : (Operator → Bool) → List ℕ → Summary → ℕ → ℕ → Joining → Type 0
 NextAt rank line g end codes (Next x) = Continues rank line g end codes x
 NextAt rank line g end codes (Done (Read h last n)) = Finishes rank line g end codes h last n
 NextAt rank line g end codes (Done NoForm) = ⊥
@@ -51,12 +51,12 @@ ReadyFor line kinds NoForm = Unit {0}
 ReadyFor line kinds Deep = Unit {0}
 
 -- the operator's code was written, and then one of these
-pub record PutNext (rank : Sign → Bool) (line kinds kinds′ : List ℕ) (kind : ℕ) (g : Summary) (end to : ℕ) (x : Joining) : Type 0 where
+pub record PutNext (rank : Operator → Bool) (line kinds kinds′ : List ℕ) (kind : ℕ) (g : Summary) (end to : ℕ) (x : Joining) : Type 0 where
   pub codes : ℕ
   pub put : WroteSign kinds kinds′ to codes kind
   pub next : NextAt rank line g end codes x
 
-abbrev pub JoinedBy : (Sign → Bool) → List ℕ → List ℕ → List ℕ → ℕ → Reading → Joining → Type 0
+abbrev pub JoinedBy : (Operator → Bool) → List ℕ → List ℕ → List ℕ → ℕ → Reading → Joining → Type 0
 JoinedBy rank line kinds kinds′ kind (Read g end to) x = PutNext rank line kinds kinds′ kind g end to x
 JoinedBy rank line kinds kinds′ kind NoForm x = x ≡ Done NoForm
 JoinedBy rank line kinds kinds′ kind Deep x = x ≡ Done Deep

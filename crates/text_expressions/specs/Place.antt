@@ -8,7 +8,6 @@ use Rattle.text_syntax.specs.Token.{Token, operator}
 use Rattle.text_syntax.specs.Kind.{is, operatorIn}
 use Rattle.text_syntax.specs.Lexing.{tokensAt}
 use Rattle.text_syntax.specs.Form.{unformed, oneOf}
-use Rattle.text_lexer.specs.Lexeme.{signOf}
 use Rattle.text_tokens.specs.declared.token.Place.{Place}
 use Rattle.text_tokens.specs.declared.token.Place.the-variants.{At, Nothing}
 use Rattle.text_expressions.specs.declared.place.OperatorRead.{OperatorRead}
@@ -46,5 +45,5 @@ pub record NoOperator (line : List ℕ) (at : ℕ) : Type 0 where
   pub none : oneOf operatorIn (tokensFrom false line at) ≡ unformed
 
 abbrev pub PassesOperator : List ℕ → ℕ → OperatorRead → Type 0
-PassesOperator line at (Operator o end) = Passing false true (operator (signOf o)) line at end
+PassesOperator line at (Operator o end) = Passing false true (operator o) line at end
 PassesOperator line at NoSign = NoOperator line at

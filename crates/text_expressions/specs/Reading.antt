@@ -5,15 +5,15 @@ use mathlib.Core.Bool.{Bool, true, false}
 use mathlib.Core.List.{List}
 use lib.ListN.{length}
 use Rattle.register.specs.declared.Sizes.{Sizes}
-use Rattle.text_syntax.specs.Token.{Token, Sign, operator, closeRound}
+use Rattle.program.specs.declared.rule.Operator.{Operator}
+use Rattle.text_syntax.specs.Token.{Token, operator, closeRound}
 use Rattle.text_syntax.specs.Form.{Form, formed, unformed}
 use Rattle.text_syntax.specs.Written.{Expression}
 use Rattle.text_syntax.specs.Grammar.{operatorForm, expression}
 use Rattle.text_syntax.specs.Parts.{depth}
 use Rattle.text_syntax.specs.Flat.{summary, merged}
-use Rattle.text_lexer.specs.Lexeme.{signOf}
 use Rattle.text_expressions.specs.declared.place.OperatorRead.{OperatorRead}
-use Rattle.text_expressions.specs.declared.place.OperatorRead.the-variants.{Operator, Nothing}
+use Rattle.text_expressions.specs.declared.place.OperatorRead.the-variants as O
 use Rattle.text_expressions.specs.declared.summary.Summary.{Summary}
 use Rattle.text_expressions.specs.declared.join.Reading.{Reading}
 use Rattle.text_expressions.specs.declared.join.Reading.the-variants.{Read, NoForm, Deep}
@@ -24,16 +24,16 @@ use Rattle.text_expressions.specs.Summary.{summaryOf}
 use Rattle.text_expressions.specs.Codes.{Arrays, codesOf, Wrote, Roomy}
 
 -- an operator of a rank stands at a place, or none
-pub record Ranked (rank : Sign → Bool) (o : Sign) (line : List ℕ) (at end : ℕ) : Type 0 where
+pub record Ranked (rank : Operator → Bool) (o : Operator) (line : List ℕ) (at end : ℕ) : Type 0 where
   pub passing : Passing false true (operator o) line at end
   pub of-rank : rank o ≡ true
 
-pub record Unranked (rank : Sign → Bool) (line : List ℕ) (at : ℕ) : Type 0 where
+pub record Unranked (rank : Operator → Bool) (line : List ℕ) (at : ℕ) : Type 0 where
   pub none : operatorForm rank (tokensFrom false line at) ≡ unformed
 
-abbrev pub RankedAt : (Sign → Bool) → List ℕ → ℕ → OperatorRead → Type 0
-RankedAt rank line at (Operator o end) = Ranked rank (signOf o) line at end
-RankedAt rank line at Nothing = Unranked rank line at
+abbrev pub RankedAt : (Operator → Bool) → List ℕ → ℕ → OperatorRead → Type 0
+RankedAt rank line at (O.Operator o end) = Ranked rank o line at end
+RankedAt rank line at O.Nothing = Unranked rank line at
 
 -- whatever is read here is more than k groups deep
 abbrev pub AllDeep : ℕ → Form Expression → Type 0

@@ -3,10 +3,9 @@ ghost use mathlib.Core.Path.{_≡_};
 ghost use mathlib.Core.Logic.{_≢_};
 ghost use Prim.Native.Nat.{_+_, _<_};
 ghost use lib.ListN.{length};
-ghost use Rattle.text_lexer.specs.Lexeme.{signOf};
 ghost use Rattle.text_expressions.specs.Codes.{arrays, termCode, signKind, Wrote, WroteSign};
 use crate::term::TermParts;
-use text_lexer::token::Sign;
+use program::rule::Operator;
 
 // The code of a term, at place `at`.
 pub fn put_term(
@@ -29,13 +28,13 @@ pub fn put_term(
 }
 
 // The kind of an operator's code.
-pub fn kind_of(sign: Sign) -> u8
-    ensures { λ r. ⌜ r ≡ signKind (signOf sign) ⌝ }
+pub fn kind_of(sign: Operator) -> u8
+    ensures { λ r. ⌜ r ≡ signKind sign ⌝ }
 {
     match sign {
-        Sign::Plus => 2,
-        Sign::Minus => 3,
-        Sign::Smaller => 4,
+        Operator::Plus => 2,
+        Operator::Minus => 3,
+        Operator::Smaller => 4,
     }
 }
 

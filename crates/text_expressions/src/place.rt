@@ -4,8 +4,8 @@ ghost use Prim.Native.Nat.{_≤_};
 ghost use lib.ListN.{length};
 ghost use Rattle.text_syntax.specs.Token.{openSquare, closeSquare, openRound, closeRound};
 ghost use Rattle.text_expressions.specs.Place.{Passes, PassesOperator};
+use program::rule::Operator;
 use text_lexer::lexer;
-use text_lexer::token::Sign;
 use text_lexer::token::Token;
 use text_tokens::token::Place;
 
@@ -59,7 +59,7 @@ pub fn close_round(line: &[u8], at: usize) -> Place
 
 // An operator and the place behind it; or none stands there.
 pub enum OperatorRead {
-    Operator(Sign, usize),
+    Operator(Operator, usize),
     Nothing,
 }
 

@@ -3,10 +3,9 @@ ghost use mathlib.Core.Path.{_≡_};
 ghost use Prim.Native.Nat.{_<_, max};
 ghost use Rattle.text_syntax.specs.Flat.{empty, merged, withOperator};
 ghost use Rattle.text_syntax.specs.Grammar.{isSum};
-ghost use Rattle.text_lexer.specs.Lexeme.{signOf};
 ghost use Rattle.text_expressions.specs.Summary.{summaryOf, termSummary};
 use crate::term::TermParts;
-use text_lexer::token::Sign;
+use program::rule::Operator;
 
 // Whether all letters name fields, chains go over references, a reference or a measure is held, chains are short, numbers
 // are in range; the groups around groups, and the operators.
@@ -60,20 +59,20 @@ pub fn with_term(deep: usize, seen: Summary, parts: TermParts) -> Summary
 }
 
 // `+`, `-`: "`+`, `-` and `+=` take measures only".
-pub fn is_sum(sign: Sign) -> bool
-    ensures { λ r. ⌜ r ≡ isSum (signOf sign) ⌝ }
+pub fn is_sum(sign: Operator) -> bool
+    ensures { λ r. ⌜ r ≡ isSum sign ⌝ }
 {
     match sign {
-        Sign::Plus => true,
-        Sign::Minus => true,
-        Sign::Smaller => false,
+        Operator::Plus => true,
+        Operator::Minus => true,
+        Operator::Smaller => false,
     }
 }
 
 // With an operator.
-pub fn with_operator(sign: Sign, seen: Summary) -> Summary
+pub fn with_operator(sign: Operator, seen: Summary) -> Summary
     requires { ⌜ seen .operators < 18446744073709551615 ⌝ }
-    ensures { λ r. ⌜ summaryOf r ≡ withOperator (signOf sign) (summaryOf seen) ⌝ }
+    ensures { λ r. ⌜ summaryOf r ≡ withOperator sign (summaryOf seen) ⌝ }
 {
     Summary {
         named: seen.named,

@@ -9,11 +9,12 @@ use native.Mathlib.Decide.{decLt}
 use lib.ListN.{length, drop, length-append, length-drop, drop-of-length-le}
 use lib.Seq.{drop-drop, drop-append-seam}
 use Rattle.text_syntax.specs.Token as S
-use Rattle.text_syntax.specs.Token.{stepWord, endWord, doneWord, loopWord, ifWord, remoteWord, own, letter, number, becomes, colon, write, operator, comparison, openSquare, closeSquare, openRound, closeRound, unknown, plus, minus, smaller}
+use Rattle.program.specs.declared.rule.Operator.the-variants.{Plus, Minus, Smaller}
+use Rattle.text_syntax.specs.Token.{stepWord, endWord, doneWord, loopWord, ifWord, remoteWord, own, letter, number, becomes, colon, write, operator, comparison, openSquare, closeSquare, openRound, closeRound, unknown}
 use Rattle.text_syntax.specs.Lexing.{spelled, First, first, none, firstToken, operandBehind, skipped, tokensAt}
 use Rattle.text_syntax.specs.Spelling.{Known, spaces}
 use Rattle.text_syntax.proofs.Lexing.{first-began, first-known, skipped-text, tokens-first, tokens-none, tokens-empty}
-use Rattle.text_lexer.specs.Lexeme.{tokenCode, signCode, sizedFirst, nextPlace, placed, lexeme, firstCode, Reads, Lexed}
+use Rattle.text_lexer.specs.Lexeme.{tokenCode, sizedFirst, nextPlace, placed, lexeme, firstCode, Reads, Lexed}
 use Rattle.text_lexer.specs.declared.token.Token.{Token}
 use Rattle.text_lexer.specs.declared.token.Token.the-variants.{Unknown, LineEnd}
 use Rattle.text_lexer.specs.declared.token.SizedToken.{SizedToken}
@@ -104,7 +105,7 @@ place-rest t at =
 
 -- a token before others, as its code says it
 coded-reads : (k : S.Token) → Known k → (rest : Bool → List S.Token) → Reads (tokenCode k) (k ∷ rest (operandBehind k)) rest
-unfolding tokenCode signCode operandBehind
+unfolding tokenCode operandBehind
 coded-reads stepWord h rest = refl
 coded-reads endWord h rest = refl
 coded-reads doneWord h rest = refl
@@ -117,9 +118,9 @@ coded-reads (number negative x) h rest = record { negative = negative; numeral =
 coded-reads becomes h rest = refl
 coded-reads colon h rest = refl
 coded-reads (write k) h rest = refl
-coded-reads (operator plus) h rest = refl
-coded-reads (operator minus) h rest = refl
-coded-reads (operator smaller) h rest = refl
+coded-reads (operator Plus) h rest = refl
+coded-reads (operator Minus) h rest = refl
+coded-reads (operator Smaller) h rest = refl
 coded-reads (comparison c) h rest = refl
 coded-reads openSquare h rest = refl
 coded-reads closeSquare h rest = refl

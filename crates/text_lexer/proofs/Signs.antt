@@ -26,8 +26,8 @@ use Rattle.text_tokens.proofs.Numbers.{and-one}
 use Rattle.text_syntax.specs.Token as S
 use Rattle.text_syntax.specs.Lexing.{spelled, words, signs, First, first, none, fixedToken, numberToken, firstToken}
 use Rattle.text_syntax.proofs.Spellings.{letter-read, less-read}
-use Rattle.text_lexer.specs.Lexeme.{tokenCode, signCode, sizedToken, noToken, sizedFirst}
-use Rattle.text_lexer.specs.declared.token.Sign.the-variants.{Smaller}
+use Rattle.text_lexer.specs.Lexeme.{tokenCode, sizedToken, noToken, sizedFirst}
+use Rattle.program.specs.declared.rule.Operator.the-variants.{Smaller}
 use Rattle.text_lexer.specs.declared.token.Token.the-variants as Token
 use Rattle.text_lexer.specs.declared.token.Token.the-variants.{Letter, Write, Operator, Compared}
 use Rattle.text_lexer.specs.declared.token.SizedToken.{SizedToken}
@@ -72,13 +72,13 @@ less-alone r h = sym (ap sizedFirst (less-read r h))
 
 less-question : (t : List ℕ) (at : ℕ) → startsWith 63 (drop at t) ≡ true
     → cond (startsWith 61 (drop (at + 1) t)) (sizedToken (Write Least) 3) (sizedToken (Operator Smaller) 2) ≡ sizedFirst (fixedToken signs (60 ∷ drop at t))
-unfolding fixedToken signs spelled opensWith startsWith sizedFirst tokenCode signCode
+unfolding fixedToken signs spelled opensWith startsWith sizedFirst tokenCode
 less-question t at h = ap (λ (r : List ℕ). cond (startsWith 61 r) (sizedToken (Write Least) 3) (sizedToken (Operator Smaller) 2)) (sym (drop-drop 1 at t)) ∙ go (drop at t) h
   where
     go : (r : List ℕ) → startsWith 63 r ≡ true
         → cond (startsWith 61 (drop 1 r)) (sizedToken (Write Least) 3) (sizedToken (Operator Smaller) 2) ≡ sizedFirst (fixedToken signs (60 ∷ r))
     go [] h = true-false h refl
-    go (c ∷ r) h = rw h (longer-is r (first (S.write Least) (drop 1 r)) (first (S.operator S.smaller) r) refl refl)
+    go (c ∷ r) h = rw h (longer-is r (first (S.write Least) (drop 1 r)) (first (S.operator Smaller) r) refl refl)
 
 module _ (t : List ℕ) (at : ℕ) (question : startsWith 63 (drop at t) ≡ true) where
   pub less-least : startsWith 61 (drop (at + 1) t) ≡ true → sizedToken (Write Least) 3 ≡ sizedFirst (fixedToken signs (60 ∷ drop at t))

@@ -8,26 +8,12 @@ use lib.IntN.{ℤ}
 use lib.ListN.{length, drop}
 use Rattle.text_forms.specs.Numeral.{Numeral, cappedValue}
 use Rattle.text_syntax.specs.Token as S
-use Rattle.text_syntax.specs.Token.{stepWord, endWord, doneWord, loopWord, ifWord, remoteWord, own, letter, number, becomes, colon, write, operator, comparison, openSquare, closeSquare, openRound, closeRound, unknown, plus, minus, smaller}
+use Rattle.text_syntax.specs.Token.{stepWord, endWord, doneWord, loopWord, ifWord, remoteWord, own, letter, number, becomes, colon, write, operator, comparison, openSquare, closeSquare, openRound, closeRound, unknown}
 use Rattle.text_syntax.specs.Lexing.{spelled, First, first, none, firstToken, skipped, tokensAt}
-use Rattle.text_lexer.specs.declared.token.Sign.{Sign}
-use Rattle.text_lexer.specs.declared.token.Sign.the-variants.{Plus, Minus, Smaller}
 use Rattle.text_lexer.specs.declared.token.Token.{Token}
 use Rattle.text_lexer.specs.declared.token.Token.the-variants.{Step, End, Done, Loop, If, Remote, Own, Letter, Number, Becomes, Colon, Write, Operator, Compared, OpenSquare, CloseSquare, OpenRound, CloseRound, Unknown, LineEnd}
 use Rattle.text_lexer.specs.declared.token.SizedToken.{SizedToken}
 use Rattle.text_lexer.specs.declared.token.Lexeme.{Lexeme}
-
--- an operator as the code has it
-unfoldable pub signCode : S.Sign → Sign
-signCode plus = Plus
-signCode minus = Minus
-signCode smaller = Smaller
-
--- and the other way round
-abbrev pub signOf : Sign → S.Sign
-signOf Plus = plus
-signOf Minus = minus
-signOf Smaller = smaller
 
 -- a token as the code has it
 unfoldable pub tokenCode : S.Token → Token
@@ -43,7 +29,7 @@ tokenCode (number negative x) = Number (cappedValue negative x)
 tokenCode becomes = Becomes
 tokenCode colon = Colon
 tokenCode (write k) = Write k
-tokenCode (operator s) = Operator (signCode s)
+tokenCode (operator s) = Operator s
 tokenCode (comparison c) = Compared c
 tokenCode openSquare = OpenSquare
 tokenCode closeSquare = CloseSquare
@@ -102,7 +88,7 @@ Reads (Number v) ts rest = NumberFirst v ts (rest false)
 Reads Becomes ts rest = ts ≡ becomes ∷ rest true
 Reads Colon ts rest = ts ≡ colon ∷ rest false
 Reads (Write k) ts rest = ts ≡ write k ∷ rest true
-Reads (Operator s) ts rest = ts ≡ operator (signOf s) ∷ rest true
+Reads (Operator s) ts rest = ts ≡ operator s ∷ rest true
 Reads (Compared c) ts rest = ts ≡ comparison c ∷ rest true
 Reads OpenSquare ts rest = ts ≡ openSquare ∷ rest false
 Reads CloseSquare ts rest = ts ≡ closeSquare ∷ rest false

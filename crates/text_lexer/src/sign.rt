@@ -8,11 +8,11 @@ ghost use Rattle.chain_text.specs.Scan.{startsWith};
 ghost use Rattle.text_forms.specs.Token.{opensWith};
 ghost use Rattle.text_syntax.specs.Lexing.{words, signs, fixedToken};
 ghost use Rattle.text_lexer.specs.Lexeme.{sizedToken, noToken, sizedFirst};
-use crate::token::Sign;
 use crate::token::SizedToken;
 use crate::token::Token;
 use chain_text::text;
 use program::rule::Comparison;
+use program::rule::Operator;
 use program::rule::Sort;
 use text_tokens::token;
 use text_tokens::token::Place;
@@ -44,7 +44,7 @@ fn less_at(line: &[u8], at: usize) -> SizedToken
     if text::starts_with(line, at + 1, b'=') {
         return sized(Token::Write(Sort::Least), 3);
     }
-    sized(Token::Operator(Sign::Smaller), 2)
+    sized(Token::Operator(Operator::Smaller), 2)
 }
 
 // A word that stands at `at`.
@@ -87,13 +87,13 @@ pub fn sign_at(line: &[u8], at: usize) -> SizedToken
         b']' => sized(Token::CloseSquare, 1),
         b'(' => sized(Token::OpenRound, 1),
         b')' => sized(Token::CloseRound, 1),
-        b'-' => sized(Token::Operator(Sign::Minus), 1),
+        b'-' => sized(Token::Operator(Operator::Minus), 1),
         b':' => longer(line, at + 1, Token::Becomes, sized(Token::Colon, 1)),
         b'+' => longer(
             line,
             at + 1,
             Token::Write(Sort::Total),
-            sized(Token::Operator(Sign::Plus), 1),
+            sized(Token::Operator(Operator::Plus), 1),
         ),
         b'=' => longer(
             line,

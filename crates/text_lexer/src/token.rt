@@ -1,13 +1,7 @@
 // Tokens as the reader answers them.
 use program::rule::Comparison;
+use program::rule::Operator;
 use program::rule::Sort;
-
-// `+`, `-`, `<?`
-pub enum Sign {
-    Plus,
-    Minus,
-    Smaller,
-}
 
 // A word; `u`; a capital; a number, capped as its digits are; `:=`, `:`; `<?=` or `+=`; an operator; `<`, `==` or `!=`;
 // brackets; what is no token; and the end of the line.
@@ -24,7 +18,7 @@ pub enum Token {
     Becomes,
     Colon,
     Write(Sort),
-    Operator(Sign),
+    Operator(Operator),
     Compared(Comparison),
     OpenSquare,
     CloseSquare,

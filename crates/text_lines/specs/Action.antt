@@ -16,7 +16,6 @@ use Rattle.text_syntax.specs.Written.{Action, chain}
 use Rattle.text_syntax.specs.Grammar.{chainForm, localForm, sentForm, remoteForm}
 use Rattle.text_syntax.specs.Tree.{targetOf, sourceOf}
 use Rattle.text_rules.specs.declared.line.Checks.{Checks}
-use Rattle.text_rules.specs.Text.{writtenOperator}
 use Rattle.text_rules.specs.LineRead.{allPass}
 use Rattle.text_expressions.specs.declared.term.TermParts.{TermParts}
 use Rattle.text_expressions.specs.Place.{tokensFrom, Behind}
@@ -35,8 +34,8 @@ actionForm ts = or (remoteForm ts) (localForm ts)
 
 -- a rule in the array is the written one; the codes of its terms stand from..to, and those before are as they were
 pub record ActionHeld (a b : Arrays) (from to : ℕ) (x : Action) (r : Rule) : Type 0 where
-  pub target-is : targetIn r ≡ targetOf writtenOperator x
-  pub expression-is : expressionIn (codesFor b) r ≡ sourceOf writtenOperator x
+  pub target-is : targetIn r ≡ targetOf x
+  pub expression-is : expressionIn (codesFor b) r ≡ sourceOf x
   pub formed : RuleTerms (TermFormed (codesFor b)) r
   pub behind : RuleTerms (TermFrom from) r
   pub inside : RuleTerms (TermInside to) r

@@ -23,7 +23,6 @@ use Rattle.text_syntax.specs.Flat as F
 use Rattle.text_rules.specs.declared.line.Checks.{Checks}
 use Rattle.text_rules.specs.declared.line.LineRead.{LineRead}
 use Rattle.text_rules.specs.declared.line.LineRead.the-variants.{Step, End, Done, Loop, Rule, NoForm}
-use Rattle.text_rules.specs.Text.{writtenOperator}
 use Rattle.text_rules.specs.LineRead.{allPass, Reads}
 use Rattle.text_expressions.specs.declared.summary.Summary.{Summary}
 use Rattle.text_expressions.specs.Place.{tokensFrom}
@@ -63,7 +62,7 @@ alwaysParts = record { test = Always; checks = allTrue }
 
 -- a test in the array is the written one; the codes of its terms stand from..to
 pub record TestHeld (b : Arrays) (from to : ℕ) (c : Condition) (t : Test) : Type 0 where
-  pub test-is : testIn (codesFor b) t ≡ testOf writtenOperator c
+  pub test-is : testIn (codesFor b) t ≡ testOf c
   pub formed : TestTerms (TermFormed (codesFor b)) t
   pub behind : TestTerms (TermFrom from) t
   pub inside : TestTerms (TermInside to) t

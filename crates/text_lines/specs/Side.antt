@@ -19,7 +19,6 @@ use Rattle.text_syntax.specs.Written.{Expression}
 use Rattle.text_syntax.specs.Grammar.{expression}
 use Rattle.text_syntax.specs.Tree.{treeOf}
 use Rattle.text_syntax.specs.Flat as F
-use Rattle.text_rules.specs.Text.{writtenOperator}
 use Rattle.text_rules.specs.LineRead.{allPass}
 use Rattle.text_expressions.specs.declared.summary.Summary.{Summary}
 use Rattle.text_expressions.specs.Place.{tokensFrom}
@@ -58,7 +57,7 @@ codesLeft from to size = cond (eqb to (from + size)) from to
 
 -- a term in the array is a written expression; its codes, if it has any, stand from..to
 pub record Holds (b : Arrays) (from to : ℕ) (e : Expression) (x : Term) : Type 0 where
-  pub term-is : termIn (codesFor b) x ≡ treeOf writtenOperator e
+  pub term-is : termIn (codesFor b) x ≡ treeOf e
   pub formed : TermFormed (codesFor b) x
   pub behind : TermFrom from x
   pub inside : TermInside to x

@@ -24,7 +24,7 @@ use Rattle.program.specs.Stored.{targetIn, ruleIn}
 use Rattle.text_rules.specs.declared.line.Checks.{Checks}
 use Rattle.text_rules.specs.declared.line.LineRead.{LineRead}
 use Rattle.text_rules.specs.LineRead.{lineChecks, allPass, RuleRead, Reads, no-form, step-line, end-line, done-line, loop-line, rule-line}
-use Rattle.text_rules.specs.Text.{writtenOperator, writtenRule}
+use Rattle.text_rules.specs.Text.{writtenRule}
 use Rattle.program.specs.declared.rule.Sort.the-variants.{Least, Total}
 use Rattle.program.specs.Program.{Rule, stepPlan}
 use Rattle.text_rules.specs.Check.{State, isOutside, isOpen, openRules, inPlace, hasRoom, oneSort, sortsAgree, planFits, lineRefusal}
@@ -54,12 +54,12 @@ not-not true = refl
 not-not false = refl
 
 -- where a rule that is read writes
-read-target : {k : Codes} {c : W.Condition} {a : W.Action} {y : Slot} → RuleRead k c a y → targetIn (y .rule) ≡ targetOf writtenOperator a
+read-target : {k : Codes} {c : W.Condition} {a : W.Action} {y : Slot} → RuleRead k c a y → targetIn (y .rule) ≡ targetOf a
 unfolding ruleIn writtenRule ruleOf
 read-target w = ap (λ (r : Rule). r .target) (w .rule-is)
 
 -- whether its field has taken the other sort, by where it writes
-target-sort : (x : Tally) (rs : List Rule) (r : C.Rule) → Counts x rs → (a : W.Action) → targetIn r ≡ targetOf writtenOperator a → otherSort x r ≡ not (oneSort rs a)
+target-sort : (x : Tally) (rs : List Rule) (r : C.Rule) → Counts x rs → (a : W.Action) → targetIn r ≡ targetOf a → otherSort x r ≡ not (oneSort rs a)
 unfolding otherSort oneSort targetIn targetOf
 target-sort x rs (Set f y) h (W.set g e) q = refl
 target-sort x rs (Combine f op y z) h (W.set g e) q = refl

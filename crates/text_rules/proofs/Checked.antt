@@ -16,7 +16,8 @@ use Rattle.chain.specs.Word.{isReference, hasField, Passes}
 use Rattle.laws.specs.Lists.{every, Each}
 use Rattle.chain_text.specs.Text.{names, letterField, isReferenceLetter, wordOf}
 use Rattle.chain_text.proofs.Passing.{letters-pass, refused-none, reference-field, measure-field, named-field}
-use Rattle.text_syntax.specs.Token.{Sign, plus, minus, smaller}
+use Rattle.program.specs.declared.rule.Operator.{Operator}
+use Rattle.program.specs.declared.rule.Operator.the-variants.{Plus, Minus, Smaller}
 use Rattle.text_syntax.specs.Written as W
 use Rattle.text_syntax.specs.Written.{chain, number, Expression, term, group, operation, Line, rule}
 use Rattle.text_syntax.specs.Grammar.{isSum}
@@ -27,7 +28,7 @@ use Rattle.program.specs.declared.rule.Sort.{Sort}
 use Rattle.program.specs.declared.rule.Sort.the-variants.{Least, Total}
 use Rattle.program.specs.Program as P
 use Rattle.text_rules.specs.Check.{State, inPlace, hasRoom, sortsAgree, planFits, lineRefusal}
-use Rattle.text_rules.specs.Text.{writtenOperator, writtenRule}
+use Rattle.text_rules.specs.Text.{writtenRule}
 use Rattle.program.specs.Passed.{isReferenceWord, takesReferences, isReferenceExpression, ExpressionPasses, TestPasses, RemotePasses, TargetPasses, RulePasses}
 use Rattle.laws.proofs.Lists.{each-front, each-back}
 
@@ -197,18 +198,18 @@ kind-of e h = record { references = refl; measures = go (K.isReference e) (isMea
     go false m s h = s refl
 
 -- both operands have the kind of the whole, which is not that of references where a sum stands
-record OneKinds (o : Sign) (x y : Expression) (reference : Bool) : Type 0 where
+record OneKinds (o : Operator) (x y : Expression) (reference : Bool) : Type 0 where
   first : OneKind x reference
   second : OneKind y reference
-  whole : takesReferences (writtenOperator o) && reference ≡ reference
+  whole : takesReferences o && reference ≡ reference
 
-takes-sums : (o : Sign) → isSum o ≡ false → takesReferences (writtenOperator o) ≡ true
-unfolding isSum takesReferences writtenOperator
-takes-sums plus h = true-false refl h
-takes-sums minus h = true-false refl h
-takes-sums smaller h = refl
+takes-sums : (o : Operator) → isSum o ≡ false → takesReferences o ≡ true
+unfolding isSum takesReferences
+takes-sums Plus h = true-false refl h
+takes-sums Minus h = true-false refl h
+takes-sums Smaller h = refl
 
-kinds-of : (o : Sign) (x y : Expression) (reference : Bool) → OneKind (operation o x y) reference → OneKinds o x y reference
+kinds-of : (o : Operator) (x y : Expression) (reference : Bool) → OneKind (operation o x y) reference → OneKinds o x y reference
 unfolding K.isReference isMeasure
 kinds-of o x y true w =
     let m = or-neither (isMeasure x) (isSum o || isMeasure y) (w .measures) in
@@ -226,18 +227,18 @@ kinds-of o x y false w =
     record {
       first = record { references = r .0; measures = some-kind x (r .0) };
       second = record { references = r .1; measures = some-kind y (r .1) };
-      whole = and-false (takesReferences (writtenOperator o));
+      whole = and-false (takesReferences o);
     }
 
 -- an expression as the program has it
 abbrev tree : Expression → P.Expression
-tree e = treeOf writtenOperator e
+tree e = treeOf e
 
 -- what an action adds to its test: the fields of a rule that passes
 record ActionPasses (s : Sizes) (a : W.Action) : Type 0 where
-  target : TargetPasses s (targetOf writtenOperator a)
-  expression : ExpressionPasses s (sourceOf writtenOperator a)
-  alike : isReference (P.targetField (targetOf writtenOperator a)) ≡ isReferenceExpression (sourceOf writtenOperator a)
+  target : TargetPasses s (targetOf a)
+  expression : ExpressionPasses s (sourceOf a)
+  alike : isReference (P.targetField (targetOf a)) ≡ isReferenceExpression (sourceOf a)
 
 -- an expression that passes has the kind of what it holds
 record Treed (s : Sizes) (e : Expression) (reference : Bool) : Type 0 where
@@ -265,13 +266,13 @@ module _ (s : Sizes) (lim : Limits s) where
       let ks = kinds-of o x y reference k in
       let a = treed x reference (w .0) (ks .first) in
       let b = treed y reference (w .1) (ks .second) in
-      let whole : takesReferences (writtenOperator o) && isReferenceExpression (tree x) ≡ reference = rw (a .kind-is) (ks .whole) in
+      let whole : takesReferences o && isReferenceExpression (tree x) ≡ reference = rw (a .kind-is) (ks .whole) in
       record { passes = ((a .passes, a .kind-is ∙ sym whole), (b .passes, b .kind-is ∙ sym whole)); kind-is = whole }
 
   fine-treed : (e : Expression) → Fine s e → Treed s e (K.isReference e)
   fine-treed e w = treed e (K.isReference e) (terms-fine s e (w .is-named) (w .is-kinded) (w .is-short) (w .in-range)) (kind-of e (w .one-kind))
 
-  test-passes : (c : W.Condition) → Each (Fine s) (conditionExpressions c) → conditionKinds c ≡ true → TestPasses s (testOf writtenOperator c)
+  test-passes : (c : W.Condition) → Each (Fine s) (conditionExpressions c) → conditionKinds c ≡ true → TestPasses s (testOf c)
   unfolding conditionExpressions conditionKinds testOf
   test-passes W.always w h = tt
   test-passes (W.when x c y) w h =
@@ -311,7 +312,7 @@ module _ (s : Sizes) (lim : Limits s) where
         alike = field ∙ sym (t .kind-is ∙ not-true _ (measures .1));
       }
 
-  target-field : (a : W.Action) → P.targetField (targetOf writtenOperator a) ≡ letterField (target a)
+  target-field : (a : W.Action) → P.targetField (targetOf a) ≡ letterField (target a)
   unfolding target targetOf P.targetField
   target-field (W.set f e) = refl
   target-field (W.remote k f c e) = refl

@@ -12,7 +12,7 @@ use Rattle.text_syntax.specs.Tree.{targetOf, ruleOf}
 use Rattle.program.specs.declared.rule.Sort.the-variants.{Least, Total}
 use Rattle.program.specs.Program.{Rule, isLeast, isTotal, someTarget}
 use Rattle.text_rules.specs.Check.{oneSort}
-use Rattle.text_rules.specs.Text.{writtenOperator, writtenRule}
+use Rattle.text_rules.specs.Text.{writtenRule}
 use Rattle.program.proofs.Rules.{some-append}
 
 -- a written rule behind the rules so far
@@ -21,7 +21,7 @@ more rs c a = rs ++ (writtenRule c a ∷ [])
 
 module _ (rs : List Rule) (t : W.Condition) (old : (f : ℕ) → someTarget (isLeast f) rs ≡ true → someTarget (isTotal f) rs ≡ false) where
   -- a local rule is neither
-  local-sort : (a : W.Action) (f : ℕ) → isLeast f (targetOf writtenOperator a) ≡ false → isTotal f (targetOf writtenOperator a) ≡ false
+  local-sort : (a : W.Action) (f : ℕ) → isLeast f (targetOf a) ≡ false → isTotal f (targetOf a) ≡ false
       → someTarget (isLeast f) (more rs t a) ≡ true → someTarget (isTotal f) (more rs t a) ≡ false
   unfolding writtenRule ruleOf
   local-sort a f l r h =

@@ -14,7 +14,8 @@ use Rattle.program.specs.declared.rule.Comparison.the-variants.{Less, Equal, Un
 use Rattle.program.specs.declared.rule.Sort.the-variants.{Least, Total}
 use Rattle.text_forms.specs.Numeral.{isDigit, Numeral, whole, metres, printedNumeral, allDigits, signedText, printedNumber}
 use Rattle.text_forms.proofs.Spans.{every-parts}
-use Rattle.text_syntax.specs.Token.{Token, stepWord, endWord, doneWord, loopWord, ifWord, remoteWord, own, letter, number, becomes, colon, write, operator, comparison, openSquare, closeSquare, openRound, closeRound, unknown, plus, minus, smaller}
+use Rattle.program.specs.declared.rule.Operator.the-variants.{Plus, Minus, Smaller}
+use Rattle.text_syntax.specs.Token.{Token, stepWord, endWord, doneWord, loopWord, ifWord, remoteWord, own, letter, number, becomes, colon, write, operator, comparison, openSquare, closeSquare, openRound, closeRound, unknown}
 use Rattle.text_syntax.specs.Lexing.{spelled}
 use Rattle.text_syntax.specs.Spelling.{Stands, spaces, Spells, empty, last, spaced}
 use Rattle.text_syntax.specs.Written.{Line}
@@ -84,9 +85,9 @@ token-within operand becomes r h = refl
 token-within operand colon r h = refl
 token-within operand (write Least) r h = refl
 token-within operand (write Total) r h = refl
-token-within operand (operator plus) r h = refl
-token-within operand (operator minus) r h = refl
-token-within operand (operator smaller) r h = refl
+token-within operand (operator Plus) r h = refl
+token-within operand (operator Minus) r h = refl
+token-within operand (operator Smaller) r h = refl
 token-within operand (comparison Less) r h = refl
 token-within operand (comparison Equal) r h = refl
 token-within operand (comparison Unequal) r h = refl

@@ -11,7 +11,6 @@ use Rattle.register.specs.Load.{load}
 use Rattle.register.specs.declared.Sizes.{Sizes}
 use Rattle.chain_text.specs.Text.{letterField}
 use Rattle.plan_theory.specs.Plan.{Fact, result}
-use Rattle.text_syntax.specs.Token.{Sign, plus, minus, smaller}
 use Rattle.text_syntax.specs.Written.{Condition, Action, Line, step, end, done, loop, rule}
 use Rattle.text_syntax.specs.Lexing.{tokens}
 use Rattle.text_syntax.specs.Grammar.{lineForm}
@@ -20,8 +19,6 @@ use Rattle.text_rules.specs.declared.around.Around.{Around}
 use Rattle.text_rules.specs.declared.around.Around.the-variants.{Outside, Unused, Used}
 use Rattle.program.specs.declared.setting.Setting.{Setting}
 use Rattle.program.specs.declared.setting.Setting.the-variants.{Single, Looped}
-use Rattle.program.specs.declared.rule.Operator.{Operator}
-use Rattle.program.specs.declared.rule.Operator.the-variants.{Plus, Minus, Smaller}
 use Rattle.program.specs.Program.{Rule, Step, Program, readings, hasRemote}
 use Rattle.text_rules.specs.Check.{State, isOutside, isOpen, openRules, lineRefusal}
 
@@ -49,15 +46,9 @@ unfoldable pub pieceForm : Piece → Option Line
 pieceForm (ended t) = lineForm (tokens t)
 pieceForm (cut t) = none
 
--- a written operator as one of the program
-unfoldable pub writtenOperator : Sign → Operator
-writtenOperator plus = Plus
-writtenOperator minus = Minus
-writtenOperator smaller = Smaller
-
 -- a written rule as a rule of the program
 unfoldable pub writtenRule : Condition → Action → Rule
-writtenRule c a = ruleOf writtenOperator c a
+writtenRule c a = ruleOf c a
 
 -- where the next step stands, whether or not it will be the last of its loop
 unfoldable pub settingIn : Around → Setting

@@ -5,7 +5,8 @@ use mathlib.Core.Bool.{Bool, true}
 use mathlib.Core.List.{List, _∷_}
 use native.Mathlib.Omega.{arith}
 use lib.ListN.{length}
-use Rattle.text_syntax.specs.Token.{Token, Sign, operator, openRound, closeRound}
+use Rattle.program.specs.declared.rule.Operator.{Operator}
+use Rattle.text_syntax.specs.Token.{Token, operator, openRound, closeRound}
 use Rattle.text_syntax.specs.Form.{Form, formed, unformed, then, thenOr}
 use Rattle.text_syntax.specs.Written.{Expression, operation}
 use Rattle.text_syntax.specs.Grammar.{isSum, isSmaller, operatorForm, joinedTo, expression, operand, minimum, minimumFrom, expressionFrom}
@@ -18,17 +19,17 @@ pub record Grows (x e : Expression) : Type 0 where
   pub deep : depth x ≤ depth e
   pub long : operators x ≤ operators e
 
-grows-on : (o : Sign) (x y e : Expression) → Grows (operation o x y) e → Grows x e
+grows-on : (o : Operator) (x y e : Expression) → Grows (operation o x y) e → Grows x e
 unfolding depth operators
 grows-on o x y e w = record { deep = omega (arith, w .deep); long = omega (arith, w .long) }
 
-joined-grows : (rank : Sign → Bool) (element : List Token → Form Expression) (n : ℕ) (x : Expression) (ts : List Token)
+joined-grows : (rank : Operator → Bool) (element : List Token → Form Expression) (n : ℕ) (x : Expression) (ts : List Token)
     → All (λ e r. Grows x e) (joinedTo n rank element x ts)
 unfolding joinedTo thenOr
 joined-grows rank element zero x ts = tt
 joined-grows rank element (suc n) x ts = go (joined-grows rank element n) (operatorForm rank ts)
   where
-    go : ((x : Expression) (ts : List Token) → All (λ e r. Grows x e) (joinedTo n rank element x ts)) → (f : Form Sign)
+    go : ((x : Expression) (ts : List Token) → All (λ e r. Grows x e) (joinedTo n rank element x ts)) → (f : Form Operator)
         → All (λ e r. Grows x e) (thenOr f (λ o r. then (element r) (λ y. joinedTo n rank element (operation o x y))) (formed x ts))
     go ih unformed = record { deep = omega arith; long = omega arith }
     go ih (formed o r) = then-all (λ e s. Grows x e) (element r) _ (λ y s q.
@@ -59,21 +60,21 @@ module _ (k : ℕ) (element : Form Expression) (from : Expression → List Token
   deep-first : Deep k element → Deep k (then element from)
   deep-first h = deep-then (λ y. y) (λ y. omega arith) h
 
-  deep-joined : (o : Sign) (x : Expression) → Deep k element → Deep k (then element (λ y. from (operation o x y)))
+  deep-joined : (o : Operator) (x : Expression) → Deep k element → Deep k (then element (λ y. from (operation o x y)))
   unfolding depth
   deep-joined o x h = deep-then (operation o x) (λ y. omega arith) h
 
 pub minimum-deep : (k : ℕ) (ts : List Token) → Deep k (operand ts) → Deep k (minimum ts)
 minimum-deep k ts h = rw (minimum-joined ts) (deep-first k (operand ts) minimumFrom minimum-grows h)
 
-pub minimum-deep-more : (k : ℕ) (o : Sign) (x : Expression) (r : List Token) → isSmaller o ≡ true → Deep k (operand r)
+pub minimum-deep-more : (k : ℕ) (o : Operator) (x : Expression) (r : List Token) → isSmaller o ≡ true → Deep k (operand r)
     → Deep k (minimumFrom x (operator o ∷ r))
 minimum-deep-more k o x r s h = rw (minimum-more o x r s) (deep-joined k (operand r) minimumFrom minimum-grows o x h)
 
 pub expression-deep : (k : ℕ) (ts : List Token) → Deep k (minimum ts) → Deep k (expression ts)
 expression-deep k ts h = rw (expression-joined ts) (deep-first k (minimum ts) expressionFrom expression-grows h)
 
-pub expression-deep-more : (k : ℕ) (o : Sign) (x : Expression) (r : List Token) → isSum o ≡ true → Deep k (minimum r)
+pub expression-deep-more : (k : ℕ) (o : Operator) (x : Expression) (r : List Token) → isSum o ≡ true → Deep k (minimum r)
     → Deep k (expressionFrom x (operator o ∷ r))
 expression-deep-more k o x r s h = rw (expression-more o x r s) (deep-joined k (minimum r) expressionFrom expression-grows o x h)
 

@@ -7,7 +7,9 @@ use native.Mathlib.Omega.{arith}
 use native.Mathlib.Decide.{decLt}
 use lib.ListN.{length, length-append}
 use Rattle.laws.proofs.Bools.{true-false}
-use Rattle.text_syntax.specs.Token.{Token, Sign, plus, minus, smaller, operator, openRound, closeRound}
+use Rattle.program.specs.declared.rule.Operator.{Operator}
+use Rattle.program.specs.declared.rule.Operator.the-variants.{Plus, Minus, Smaller}
+use Rattle.text_syntax.specs.Token.{Token, operator, openRound, closeRound}
 use Rattle.text_syntax.specs.Kind.{kind, operatorIn, fixedIn, same, is}
 use Rattle.text_syntax.specs.Form.{Form, formed, unformed, held, oneOf, past, then, thenOr, or}
 use Rattle.text_syntax.specs.Written.{chain, number, Expression, term, group, operation}
@@ -19,27 +21,27 @@ use Rattle.text_syntax.proofs.Readers.{All, behind-all, or-all, past-al
 use Rattle.text_syntax.proofs.Chains.{TermSpelled, term-all, term-read, round-term}
 
 -- no operator of a rank stands first; none at all does
-abbrev pub Ends : (Sign → Bool) → List Token → Type 0
+abbrev pub Ends : (Operator → Bool) → List Token → Type 0
 Ends rank r = operatorForm rank r ≡ unformed
 
 abbrev pub NoOperator : List Token → Type 0
 NoOperator r = oneOf operatorIn r ≡ unformed
 
 -- an operator of a rank stands first
-abbrev pub Begins : (Sign → Bool) → List Token → Sign → List Token → Type 0
+abbrev pub Begins : (Operator → Bool) → List Token → Operator → List Token → Type 0
 Begins rank ts o r = (ts ≡ operator o ∷ r) × (rank o ≡ true)
 
-pub operator-all : (rank : Sign → Bool) (ts : List Token) → All (Begins rank ts) (operatorForm rank ts)
+pub operator-all : (rank : Operator → Bool) (ts : List Token) → All (Begins rank ts) (operatorForm rank ts)
 unfolding operatorForm
 operator-all rank ts =
-    behind-all (λ (o : Sign) r. ts ≡ operator o ∷ r) (Begins rank ts) _ _ (one-all _ operatorIn operator operator-token ts (λ o r e. e))
+    behind-all (λ (o : Operator) r. ts ≡ operator o ∷ r) (Begins rank ts) _ _ (one-all _ operatorIn operator operator-token ts (λ o r e. e))
     (λ o r e. go o r e (rank o) refl)
   where
-    go : (o : Sign) (r : List Token) → ts ≡ operator o ∷ r → (x : Bool) → rank o ≡ x → All (Begins rank ts) (cond x (formed o r) unformed)
+    go : (o : Operator) (r : List Token) → ts ≡ operator o ∷ r → (x : Bool) → rank o ≡ x → All (Begins rank ts) (cond x (formed o r) unformed)
     go o r e true h = (e, h)
     go o r e false h = tt
 
-pub operator-read : (rank : Sign → Bool) (o : Sign) (r : List Token) → rank o ≡ true → operatorForm rank (operator o ∷ r) ≡ formed o r
+pub operator-read : (rank : Operator → Bool) (o : Operator) (r : List Token) → rank o ≡ true → operatorForm rank (operator o ∷ r) ≡ formed o r
 unfolding operatorForm then oneOf held operatorIn kind
 operator-read rank o r h = rw h
 
@@ -53,9 +55,9 @@ pub record Spelled (k : ℕ) (ts : List Token) (e : Expression) (r : List Token)
 abbrev pub Reads : ℕ → (List Token → Type 0) → List Token → Expression → List Token → Type 0
 Reads k E ts e r = Spelled k ts e r × E r
 
-module _ (k : ℕ) (rank : Sign → Bool) (element : List Token → Form Expression) (E E′ : List Token → Type 0)
-    (binds : (o : Sign) → rank o ≡ true → tightness o ≡ k) (ends : (r : List Token) → Ends rank r → E r → E′ r) where
-  extended : (ts : List Token) (o : Sign) (x y : Expression) (r r₁ r₂ : List Token) → Spelled k ts x r → Begins rank r o r₁ → Spelled (suc k) r₁ y r₂
+module _ (k : ℕ) (rank : Operator → Bool) (element : List Token → Form Expression) (E E′ : List Token → Type 0)
+    (binds : (o : Operator) → rank o ≡ true → tightness o ≡ k) (ends : (r : List Token) → Ends rank r → E r → E′ r) where
+  extended : (ts : List Token) (o : Operator) (x y : Expression) (r r₁ r₂ : List Token) → Spelled k ts x r → Begins rank r o r₁ → Spelled (suc k) r₁ y r₂
       → Spelled k ts (operation o x y) r₂
   unfolding printedExpression bound
   extended ts o x y r r₁ r₂ w b v =
@@ -71,7 +73,7 @@ module _ (k : ℕ) (rank : Sign → Bool) (element : List Token → Form Express
   more-all each zero ts x r w h = tt
   more-all each (suc n) ts x r w h = go (more-all each n ts) (operatorForm rank r) refl (operator-all rank r)
     where
-      go : ((x : Expression) (r : List Token) → Spelled k ts x r → E r → All (Reads k E′ ts) (joinedTo n rank element x r)) → (f : Form Sign)
+      go : ((x : Expression) (r : List Token) → Spelled k ts x r → E r → All (Reads k E′ ts) (joinedTo n rank element x r)) → (f : Form Operator)
           → operatorForm rank r ≡ f → All (Begins rank r) f
           → All (Reads k E′ ts) (thenOr f (λ o r. then (element r) (λ y. joinedTo n rank element (operation o x y))) (formed x r))
       go ih unformed e b = (w, ends r e h)
@@ -84,17 +86,17 @@ module _ (k : ℕ) (rank : Sign → Bool) (element : List Token → Form Express
       behind-all (Reads (suc k) E ts) (Reads k E′ ts) _ _ (each ts)
       (λ x r v. more-all each n ts x r (record { text = v .0 .text; proper = v .0 .proper; tight = omega (arith, v .0 .tight) }) (v .1))
 
-binds-sum : (o : Sign) → isSum o ≡ true → tightness o ≡ 0
+binds-sum : (o : Operator) → isSum o ≡ true → tightness o ≡ 0
 unfolding isSum tightness
-binds-sum plus h = refl
-binds-sum minus h = refl
-binds-sum smaller h = true-false h refl
+binds-sum Plus h = refl
+binds-sum Minus h = refl
+binds-sum Smaller h = true-false h refl
 
-binds-smaller : (o : Sign) → isSmaller o ≡ true → tightness o ≡ 1
+binds-smaller : (o : Operator) → isSmaller o ≡ true → tightness o ≡ 1
 unfolding isSmaller isSum tightness
-binds-smaller plus h = true-false h refl
-binds-smaller minus h = true-false h refl
-binds-smaller smaller h = refl
+binds-smaller Plus h = true-false h refl
+binds-smaller Minus h = true-false h refl
+binds-smaller Smaller h = refl
 
 -- operands: terms and groups
 abbrev pub Anything : List Token → Type 0
@@ -121,7 +123,7 @@ no-operator : (r : List Token) → Ends isSum r → Ends isSmaller r → NoOpera
 unfolding operatorForm then isSmaller
 no-operator r h k = go (oneOf operatorIn r) refl
   where
-    go : (f : Form Sign) → oneOf operatorIn r ≡ f → f ≡ unformed
+    go : (f : Form Operator) → oneOf operatorIn r ≡ f → f ≡ unformed
     go unformed e = refl
     go (formed o r₁) e = last (isSum o) refl
       where
@@ -162,9 +164,9 @@ rest-long {k} {ts} {e} {r} w = omega (arith, expression-long e, ap length (w .te
 pub rest-shorter : {k : ℕ} {ts : List Token} {e : Expression} {r : List Token} → Spelled k ts e r → length r < length ts
 rest-shorter w = omega (arith, rest-long w)
 
-module _ (rank : Sign → Bool) (element : List Token → Form Expression) where
+module _ (rank : Operator → Bool) (element : List Token → Form Expression) where
   -- one turn: an operator of this rank and an element
-  pub joined-more : (n : ℕ) (o : Sign) (x : Expression) (r : List Token) → rank o ≡ true
+  pub joined-more : (n : ℕ) (o : Operator) (x : Expression) (r : List Token) → rank o ≡ true
       → joinedTo (suc n) rank element x (operator o ∷ r) ≡ then (element r) (λ y. joinedTo n rank element (operation o x y))
   unfolding joinedTo thenOr
   joined-more n o x r h = rw (operator-read rank o r h)
@@ -175,8 +177,8 @@ module _ (rank : Sign → Bool) (element : List Token → Form Expression) where
   joined-end n x r h = rw h
 
 -- and the tokens of a proper expression are read: elements are, where they have at most N tokens with what stands behind them
-module _ (k : ℕ) (rank : Sign → Bool) (element : List Token → Form Expression) (E : List Token → Type 0) (N : ℕ)
-    (binds : (o : Sign) → tightness o ≡ k → rank o ≡ true) (low : k < 2) (goes : (o : Sign) (r : List Token) → rank o ≡ true → E (operator o ∷ r))
+module _ (k : ℕ) (rank : Operator → Bool) (element : List Token → Form Expression) (E : List Token → Type 0) (N : ℕ)
+    (binds : (o : Operator) → tightness o ≡ k → rank o ≡ true) (low : k < 2) (goes : (o : Operator) (r : List Token) → rank o ≡ true → E (operator o ∷ r))
     (each : (e : Expression) (r : List Token) → suc k ≤ bound e → ProperExpression e → E r → length (printedExpression e ++ r) ≤ N
     → element (printedExpression e ++ r) ≡ formed e r) where
   -- from its beginning on, what is joined before r is e
@@ -187,7 +189,7 @@ module _ (k : ℕ) (rank : Sign → Bool) (element : List Token → Form Express
   unfolding joined then
   first e r b p h f = (N, omega (arith, expression-long e, length-append (printedExpression e) r), rw (each e r b p h f))
 
-  turn : (o : Sign) (x y : Expression) (r : List Token) → rank o ≡ true → suc k ≤ bound y → ProperExpression y → E r → length (printedExpression y ++ r) ≤ N
+  turn : (o : Operator) (x y : Expression) (r : List Token) → rank o ≡ true → suc k ≤ bound y → ProperExpression y → E r → length (printedExpression y ++ r) ≤ N
       → (n : ℕ) → suc (length (printedExpression y ++ r)) < n
       → joined N rank element (printedExpression x ++ (operator o ∷ (printedExpression y ++ r)))
       ≡ joinedTo n rank element x (operator o ∷ (printedExpression y ++ r))
@@ -230,24 +232,24 @@ module _ (k : ℕ) (rank : Sign → Bool) (element : List Token → Form Express
       go zero l q = absurd (omega arith)
       go (suc n) l q = q ∙ joined-end rank element n e r d
 
-sum-binds : (o : Sign) → tightness o ≡ 0 → isSum o ≡ true
+sum-binds : (o : Operator) → tightness o ≡ 0 → isSum o ≡ true
 unfolding isSum tightness
-sum-binds plus h = refl
-sum-binds minus h = refl
-sum-binds smaller h = absurd (omega arith)
+sum-binds Plus h = refl
+sum-binds Minus h = refl
+sum-binds Smaller h = absurd (omega arith)
 
-smaller-binds : (o : Sign) → tightness o ≡ 1 → isSmaller o ≡ true
+smaller-binds : (o : Operator) → tightness o ≡ 1 → isSmaller o ≡ true
 unfolding isSmaller isSum tightness
-smaller-binds plus h = absurd (omega arith)
-smaller-binds minus h = absurd (omega arith)
-smaller-binds smaller h = refl
+smaller-binds Plus h = absurd (omega arith)
+smaller-binds Minus h = absurd (omega arith)
+smaller-binds Smaller h = refl
 
 -- behind an element of a sum stands no `<?`
-sum-goes : (o : Sign) (r : List Token) → isSum o ≡ true → Ends isSmaller (operator o ∷ r)
+sum-goes : (o : Operator) (r : List Token) → isSum o ≡ true → Ends isSmaller (operator o ∷ r)
 unfolding operatorForm then oneOf held operatorIn kind isSmaller
 sum-goes o r h = rw h
 
-pub ends-all : (rank : Sign → Bool) (r : List Token) → NoOperator r → Ends rank r
+pub ends-all : (rank : Operator → Bool) (r : List Token) → NoOperator r → Ends rank r
 unfolding operatorForm then
 ends-all rank r h = rw h
 
@@ -264,10 +266,10 @@ operand-read n inner reads (group e) r b p f =
     rw (round-term ((printedExpression e ++ (closeRound ∷ [])) ++ r), same, reads e (closeRound ∷ r) p refl (omega (arith, ap length same)))
 operand-read n inner reads (operation o x y) r b p f = absurd (not-operand o b)
   where
-    not-operand : (o : Sign) → 2 ≤ tightness o → ⊥
-    not-operand plus h = omega arith
-    not-operand minus h = omega arith
-    not-operand smaller h = omega arith
+    not-operand : (o : Operator) → 2 ≤ tightness o → ⊥
+    not-operand Plus h = omega arith
+    not-operand Minus h = omega arith
+    not-operand Smaller h = omega arith
 
 -- so is a proper expression behind which no operator stands
 pub expression-read : (n : ℕ) (e : Expression) (r : List Token) → ProperExpression e → NoOperator r → length (printedExpression e ++ r) ≤ n

@@ -23,7 +23,8 @@ use Rattle.text_forms.specs.Token.{opensWith}
 use Rattle.text_forms.proofs.Spans.{span-text, span-every, span-behind}
 use Rattle.text_forms.proofs.Tokens.{all-some, word-all, word-begins}
 use Rattle.text_forms.proofs.Numerals.{numeral-text, numeral-digits, whole-bound}
-use Rattle.text_syntax.specs.Token.{Token, stepWord, endWord, doneWord, loopWord, ifWord, remoteWord, own, letter, number, becomes, colon, write, operator, comparison, openSquare, closeSquare, openRound, closeRound, unknown, plus, smaller}
+use Rattle.program.specs.declared.rule.Operator.the-variants.{Plus, Smaller}
+use Rattle.text_syntax.specs.Token.{Token, stepWord, endWord, doneWord, loopWord, ifWord, remoteWord, own, letter, number, becomes, colon, write, operator, comparison, openSquare, closeSquare, openRound, closeRound, unknown}
 use Rattle.text_syntax.specs.Lexing.{spelled, words, signs, First, first, none, fixedToken, numberToken, firstToken, operandBehind, isSpace, unlessEmpty, skipped, followed, tokensFrom, tokensAt}
 use Rattle.text_syntax.specs.Spelling.{Stands, spaces, Known}
 
@@ -131,14 +132,14 @@ no-equals {long} {short} (c ∷ r) d f = go (eqb c 61) f
 
 no-question : (r : List ℕ)
     → cond (opensWith (63 ∷ 61 ∷ []) r) (first (write Least) (drop 2 r))
-    (cond (opensWith (63 ∷ []) r) (first (operator smaller) (drop 1 r)) (first (comparison Less) r)) ≡ first (comparison Less) r
+    (cond (opensWith (63 ∷ []) r) (first (operator Smaller) (drop 1 r)) (first (comparison Less) r)) ≡ first (comparison Less) r
     → startsWith 63 r ≡ false
 unfolding opensWith startsWith
 no-question [] f = refl
 no-question (c ∷ r) f = go (eqb c 63) (opensWith (61 ∷ []) r) f
   where
     go : (x y : Bool)
-        → cond (x && y) (first (write Least) (drop 1 r)) (cond (x && true) (first (operator smaller) r) (first (comparison Less) (c ∷ r)))
+        → cond (x && y) (first (write Least) (drop 1 r)) (cond (x && true) (first (operator Smaller) r) (first (comparison Less) (c ∷ r)))
         ≡ first (comparison Less) (c ∷ r)
         → x ≡ false
     go true true f = absurd (let z : _≡_ {A = ℕ} 0 1 = cc in omega arith)
@@ -189,12 +190,12 @@ table-began operand b t m {k} {r} e =
         ▹ plain becomes (omega arith) (λ r. tt)
         ▹ short colon (omega arith) (λ r. no-equals r (λ q. let z : _≡_ {A = ℕ} 0 1 = cc in omega arith))
         ▹ plain (write Least) (omega arith) (λ r. tt)
-        ▹ short (operator smaller) (omega arith) (λ r. no-equals r (λ q. let z : _≡_ {A = ℕ} 0 1 = cc in omega arith))
+        ▹ short (operator Smaller) (omega arith) (λ r. no-equals r (λ q. let z : _≡_ {A = ℕ} 0 1 = cc in omega arith))
         ▹ short (comparison Less) (omega arith) no-question
         ▹ plain (comparison Equal) (omega arith) (λ r. tt)
         ▹ plain (comparison Unequal) (omega arith) (λ r. tt)
         ▹ plain (write Total) (omega arith) (λ r. tt)
-        ▹ short (operator plus) (omega arith) (λ r. no-equals r (λ q. let z : _≡_ {A = ℕ} 0 1 = cc in omega arith))
+        ▹ short (operator Plus) (omega arith) (λ r. no-equals r (λ q. let z : _≡_ {A = ℕ} 0 1 = cc in omega arith))
         ▹ (λ r e. (omega arith, λ f. at-operand r e))
         ▹ tt
 

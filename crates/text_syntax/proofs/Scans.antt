@@ -6,7 +6,8 @@ use mathlib.Core.List.{List, [], _∷_, _++_, append-assoc, append-nil}
 use native.Mathlib.Omega.{arith}
 use lib.ListN.{length, length-append}
 use Rattle.register.specs.declared.Sizes.{Sizes}
-use Rattle.text_syntax.specs.Token.{Token, Sign, own, letter, operator, openSquare, closeSquare, openRound, closeRound}
+use Rattle.program.specs.declared.rule.Operator.{Operator}
+use Rattle.text_syntax.specs.Token.{Token, own, letter, operator, openSquare, closeSquare, openRound, closeRound}
 use Rattle.text_syntax.specs.Kind.{kind, operatorIn, fixedIn, same, is}
 use Rattle.text_syntax.specs.Form.{Form, formed, unformed, held, oneOf, past, then, thenOr, or}
 use Rattle.text_syntax.specs.Written.{Term, Expression, term, group, operation}
@@ -49,7 +50,7 @@ chain-within ls r = rw (chain-own r, append-nil)
 
 -- summaries merge from left to right
 module _ (s : Sizes) (d : ℕ) (g : Summary) where
-  pub merged-operation : (o : Sign) (x y : Expression)
+  pub merged-operation : (o : Operator) (x y : Expression)
       → merged d (withOperator o (merged d g (summary s x))) (summary s y) ≡ merged d g (summary s (operation o x y))
   unfolding merged withOperator summary everyTerm isReference isMeasure depth operators
   merged-operation o x y =
@@ -74,7 +75,7 @@ unfolding printedExpression
 term-shorter ts = all-map (TermSpelled ts) (λ x r. length r < length ts) (termForm ts)
     (λ x r e. rest-shorter {k = 0} {e = term x} (record { text = e; proper = tt; tight = omega arith })) (term-all ts)
 
-operator-shorter : (ts : List Token) → All (λ (o : Sign) r. length r < length ts) (oneOf operatorIn ts)
+operator-shorter : (ts : List Token) → All (λ (o : Operator) r. length r < length ts) (oneOf operatorIn ts)
 operator-shorter ts = one-all _ operatorIn operator operator-token ts (λ o r e. omega (arith, ap length e))
 
 -- the number of the scan changes nothing
@@ -134,7 +135,7 @@ module _ (s : Sizes) where
   unfolding thenOr past is same fixedIn kind
   scan-open d g r = scan-due d g (openRound ∷ r) ∙ rw (round-term r)
 
-  pub scan-operator : (d : ℕ) (g : Summary) (o : Sign) (r : List Token) → scanFrom s false d g (operator o ∷ r) ≡ scanFrom s true d (withOperator o g) r
+  pub scan-operator : (d : ℕ) (g : Summary) (o : Operator) (r : List Token) → scanFrom s false d g (operator o ∷ r) ≡ scanFrom s true d (withOperator o g) r
   unfolding thenOr oneOf held operatorIn kind
   scan-operator zero g o r = scan-outside g (operator o ∷ r)
   scan-operator (suc d) g o r = scan-inside d g (operator o ∷ r)
@@ -151,12 +152,12 @@ module _ (s : Sizes) where
   behind : ℕ → Summary → Expression → List Token → Form Summary
   behind d g e r = scanFrom s false d (merged d g (summary s e)) r
 
-  behind-operator : (d : ℕ) (g : Summary) (o : Sign) (x : Expression) (r : List Token)
+  behind-operator : (d : ℕ) (g : Summary) (o : Operator) (x : Expression) (r : List Token)
       → behind d g x (operator o ∷ r) ≡ scanFrom s true d (withOperator o (merged d g (summary s x))) r
   unfolding behind
   behind-operator d g o x r = scan-operator d (merged d g (summary s x)) o r
 
-  behind-operation : (d : ℕ) (g : Summary) (o : Sign) (x y : Expression) (r : List Token)
+  behind-operation : (d : ℕ) (g : Summary) (o : Operator) (x y : Expression) (r : List Token)
       → behind d (withOperator o (merged d g (summary s x))) y r ≡ behind d g (operation o x y) r
   unfolding behind
   behind-operation d g o x y r = rw (merged-operation s d g o x y)
@@ -165,7 +166,7 @@ module _ (s : Sizes) where
   abbrev Scans : ℕ → (List Token → Form Expression) → Type 0
   Scans n element = (d : ℕ) (g : Summary) (ts : List Token) → length ts < n → scanFrom s true d g ts ≡ then (element ts) (behind d g)
 
-  module _ (N : ℕ) (rank : Sign → Bool) (element : List Token → Form Expression) (short : Shortens element) (each : Scans N element) where
+  module _ (N : ℕ) (rank : Operator → Bool) (element : List Token → Form Expression) (short : Shortens element) (each : Scans N element) where
     more-scan : (n d : ℕ) (g : Summary) (x : Expression) (ts : List Token) → length ts < n → length ts < N
         → behind d g x ts ≡ then (joinedTo n rank element x ts) (behind d g)
     unfolding joinedTo thenOr then
@@ -173,7 +174,7 @@ module _ (s : Sizes) where
     more-scan (suc n) d g x ts l b = go (more-scan n d g) (operatorForm rank ts) (operator-all rank ts)
       where
         go : ((x : Expression) (ts : List Token) → length ts < n → length ts < N → behind d g x ts ≡ then (joinedTo n rank element x ts) (behind d g))
-            → (f : Form Sign) → All (Begins rank ts) f
+            → (f : Form Operator) → All (Begins rank ts) f
             → behind d g x ts ≡ then (thenOr f (λ o r. then (element r) (λ y. joinedTo n rank element (operation o x y))) (formed x ts)) (behind d g)
         go ih unformed h = refl
         go ih (formed o r) h =

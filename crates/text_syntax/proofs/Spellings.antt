@@ -23,7 +23,8 @@ use Rattle.text_forms.specs.Token.{opensWith}
 use Rattle.text_forms.proofs.Spans.{span-append, span-none}
 use Rattle.text_forms.proofs.Digits.{digit-low}
 use Rattle.text_forms.proofs.Numerals.{numeral-read}
-use Rattle.text_syntax.specs.Token.{Token, stepWord, endWord, doneWord, loopWord, ifWord, remoteWord, own, letter, number, becomes, colon, write, operator, comparison, openSquare, closeSquare, openRound, closeRound, unknown, plus, minus, smaller}
+use Rattle.program.specs.declared.rule.Operator.the-variants.{Plus, Minus, Smaller}
+use Rattle.text_syntax.specs.Token.{Token, stepWord, endWord, doneWord, loopWord, ifWord, remoteWord, own, letter, number, becomes, colon, write, operator, comparison, openSquare, closeSquare, openRound, closeRound, unknown}
 use Rattle.text_syntax.specs.Lexing.{spelled, words, signs, First, first, none, fixedToken, numberToken, firstToken, operandBehind, isSpace, unlessEmpty, skipped, tokensAt, tokens}
 use Rattle.text_syntax.specs.Spelling.{NumberStands, Stands, spaces, Spells, empty, last, spaced, Known}
 use Rattle.text_syntax.proofs.Lexing.{not-first, first-began, first-shorter, skipped-text, tokens-first, tokens-none, tokens-empty}
@@ -60,7 +61,7 @@ short-read long short [] h = refl
 short-read long short (c ∷ r) h = rw h
 
 pub less-read : (r : List ℕ) → startsWith 63 r ≡ false
-    → cond (opensWith (63 ∷ 61 ∷ []) r) (first (write Least) (drop 2 r)) (cond (opensWith (63 ∷ []) r) (first (operator smaller) (drop 1 r)) (first (comparison Less) r))
+    → cond (opensWith (63 ∷ 61 ∷ []) r) (first (write Least) (drop 2 r)) (cond (opensWith (63 ∷ []) r) (first (operator Smaller) (drop 1 r)) (first (comparison Less) r))
     ≡ first (comparison Less) r
 unfolding opensWith startsWith
 less-read [] h = refl
@@ -82,9 +83,9 @@ stands-first operand becomes r h = refl
 stands-first operand colon r h = short-read becomes colon r h
 stands-first operand (write Least) r h = refl
 stands-first operand (write Total) r h = refl
-stands-first operand (operator plus) r h = short-read (write Total) (operator plus) r h
-stands-first operand (operator minus) r h = rw h
-stands-first operand (operator smaller) r h = short-read (write Least) (operator smaller) r h
+stands-first operand (operator Plus) r h = short-read (write Total) (operator Plus) r h
+stands-first operand (operator Minus) r h = rw h
+stands-first operand (operator Smaller) r h = short-read (write Least) (operator Smaller) r h
 stands-first operand (comparison Less) r h = less-read r h
 stands-first operand (comparison Equal) r h = refl
 stands-first operand (comparison Unequal) r h = refl

@@ -9,7 +9,8 @@ use Rattle.chain_text.specs.Scan.{startsWith}
 use Rattle.text_forms.specs.Numeral.{isDigit, digits, decimal, whole, allDigits, centimetres, wholeDigits, printedNumeral, noLeadingZero, twoDecimals, isNumeral, withDecimals, numeral, signedForm}
 use Rattle.text_forms.specs.Span.{span}
 use Rattle.text_forms.specs.Token.{opensWith}
-use Rattle.text_syntax.specs.Token.{Token, stepWord, ifWord, own, letter, number, operator, openSquare, closeSquare, openRound, closeRound, unknown, minus}
+use Rattle.program.specs.declared.rule.Operator.the-variants.{Minus}
+use Rattle.text_syntax.specs.Token.{Token, stepWord, ifWord, own, letter, number, operator, openSquare, closeSquare, openRound, closeRound, unknown}
 use Rattle.text_syntax.specs.Lexing.{spelled, words, signs, fixedToken, numberToken, firstToken, operandBehind, isSpace, unlessEmpty, skipped, followed, tokensFrom, tokensAt}
 
 -- the tokens of a text, where an operand must begin or not
@@ -24,7 +25,7 @@ abbrev negative : Token
 negative = number true (whole (bytes "1"))
 
 abbrev difference : List Token
-difference = one ∷ operator minus ∷ negative ∷ []
+difference = one ∷ operator Minus ∷ negative ∷ []
 
 -- `1--1` is a difference, spaced or not, of which the second number has a minus
 tight : tokensOf true "1--1" ≡ difference
@@ -40,7 +41,7 @@ in-brackets : tokensOf true "(-1)" ≡ openRound ∷ negative ∷ closeRound ∷
 unfolding tokensOf
 in-brackets = refl
 
-behind-operand : tokensOf true "1-1" ≡ one ∷ operator minus ∷ one ∷ []
+behind-operand : tokensOf true "1-1" ≡ one ∷ operator Minus ∷ one ∷ []
 unfolding tokensOf
 behind-operand = refl
 
@@ -57,7 +58,7 @@ minus-bracket : tokensOf true "-(1)" ≡ unknown ∷ []
 unfolding tokensOf
 minus-bracket = refl
 
-minus-zero : tokensOf true "1 - -0" ≡ one ∷ operator minus ∷ unknown ∷ []
+minus-zero : tokensOf true "1 - -0" ≡ one ∷ operator Minus ∷ unknown ∷ []
 unfolding tokensOf
 minus-zero = refl
 

@@ -10,7 +10,8 @@ use Rattle.laws.proofs.Bools.{true-false}
 use Rattle.program.specs.declared.rule.Comparison.{Comparison}
 use Rattle.program.specs.declared.rule.Sort.{Sort}
 use Rattle.text_syntax.specs.Token as T
-use Rattle.text_syntax.specs.Token.{Token, Sign}
+use Rattle.program.specs.declared.rule.Operator.{Operator}
+use Rattle.text_syntax.specs.Token.{Token}
 use Rattle.text_syntax.specs.Kind.{Kind, fixed, letter, number, write, operator, comparison, kind, fixedIn, letterIn, writeIn, operatorIn, comparisonIn, same, is}
 
 -- the tokens that stand for themselves, by their numbers
@@ -89,7 +90,7 @@ write-token (write k) w e = cc
 write-token (operator o) w e = cc
 write-token (comparison c) w e = cc
 
-pub operator-token : (k : Kind) (o : Sign) → operatorIn k ≡ some o → tokenOf k ≡ T.operator o
+pub operator-token : (k : Kind) (o : Operator) → operatorIn k ≡ some o → tokenOf k ≡ T.operator o
 unfolding operatorIn tokenOf
 operator-token (fixed n) o e = cc
 operator-token (letter l) o e = cc

@@ -5,7 +5,7 @@ use native.Mathlib.Omega.{arith}
 use Rattle.program.specs.declared.rule.Operator.{Operator}
 use Rattle.program.specs.Program as P
 use Rattle.text_forms.specs.Numeral.{whole, metres, allDigits, centimetres, numberValue}
-use Rattle.text_syntax.specs.Token.{Sign, plus, minus, smaller}
+use Rattle.program.specs.declared.rule.Operator.the-variants.{Plus, Minus, Smaller}
 use Rattle.text_syntax.specs.Written.{Term, chain, number, Expression, term, group, operation, Condition, always, when, Action, set, remote}
 use Rattle.text_syntax.specs.Printed.{tightness, bound, ProperExpression}
 use Rattle.text_syntax.specs.Tree.{termTree, treeOf, testOf, targetOf, sourceOf, ruleOf, inCentimetres, plainTerm, plain, plainCondition, plainAction}
@@ -16,27 +16,26 @@ term-plain (chain ls) = refl
 term-plain (number negative (whole ds)) = refl
 term-plain (number negative (metres ds cs)) = refl
 
-module _ (operatorOf : Sign → Operator) where
-  pub tree-plain : (e : Expression) → treeOf operatorOf (plain e) ≡ treeOf operatorOf e
-  unfolding treeOf plain
-  tree-plain (term x) = term-plain x
-  tree-plain (group e) = tree-plain e
-  tree-plain (operation o x y) = ap₂ (P.operation (operatorOf o)) (tree-plain x) (tree-plain y)
+pub tree-plain : (e : Expression) → treeOf (plain e) ≡ treeOf e
+unfolding treeOf plain
+tree-plain (term x) = term-plain x
+tree-plain (group e) = tree-plain e
+tree-plain (operation o x y) = ap₂ (P.operation o) (tree-plain x) (tree-plain y)
 
-  test-plain : (c : Condition) → testOf operatorOf (plainCondition c) ≡ testOf operatorOf c
-  unfolding testOf plainCondition
-  test-plain always = refl
-  test-plain (when x c y) = rw (tree-plain x, tree-plain y)
+test-plain : (c : Condition) → testOf (plainCondition c) ≡ testOf c
+unfolding testOf plainCondition
+test-plain always = refl
+test-plain (when x c y) = rw (tree-plain x, tree-plain y)
 
-  rule-plain : (c : Condition) (a : Action) → ruleOf operatorOf (plainCondition c) (plainAction a) ≡ ruleOf operatorOf c a
-  unfolding ruleOf targetOf sourceOf plainAction
-  rule-plain c (set f e) = rw (test-plain c, tree-plain e)
-  rule-plain c (remote k f w e) = rw (test-plain c, tree-plain e)
+rule-plain : (c : Condition) (a : Action) → ruleOf (plainCondition c) (plainAction a) ≡ ruleOf c a
+unfolding ruleOf targetOf sourceOf plainAction
+rule-plain c (set f e) = rw (test-plain c, tree-plain e)
+rule-plain c (remote k f w e) = rw (test-plain c, tree-plain e)
 
-  -- two rules that are the same without groups and in centimetres are one rule of the program
-  pub rule-same : (c c′ : Condition) (a a′ : Action) → plainCondition c ≡ plainCondition c′ → plainAction a ≡ plainAction a′
-      → ruleOf operatorOf c a ≡ ruleOf operatorOf c′ a′
-  rule-same c c′ a a′ h k = sym (rule-plain c a) ∙ ap₂ (ruleOf operatorOf) h k ∙ rule-plain c′ a′
+-- two rules that are the same without groups and in centimetres are one rule of the program
+pub rule-same : (c c′ : Condition) (a a′ : Action) → plainCondition c ≡ plainCondition c′ → plainAction a ≡ plainAction a′
+    → ruleOf c a ≡ ruleOf c′ a′
+rule-same c c′ a a′ h k = sym (rule-plain c a) ∙ ap₂ ruleOf h k ∙ rule-plain c′ a′
 
 -- every tree is written: with a group around each operand, if need be
 bracketed : Expression → Expression
@@ -44,11 +43,11 @@ bracketed (term x) = term x
 bracketed (group e) = group (bracketed e)
 bracketed (operation o x y) = operation o (group (bracketed x)) (group (bracketed y))
 
-loose : (o : Sign) → tightness o < 2
+loose : (o : Operator) → tightness o < 2
 unfolding tightness
-loose plus = omega arith
-loose minus = omega arith
-loose smaller = omega arith
+loose Plus = omega arith
+loose Minus = omega arith
+loose Smaller = omega arith
 
 bracketed-proper : (e : Expression) → ProperExpression (bracketed e)
 unfolding bracketed bound

@@ -5,7 +5,8 @@ use mathlib.Core.Bool.{Bool, true}
 use mathlib.Core.List.{List, [], _∷_}
 use native.Mathlib.Omega.{arith}
 use lib.ListN.{length}
-use Rattle.text_syntax.specs.Token.{Token, Sign, operator, openRound, closeRound}
+use Rattle.program.specs.declared.rule.Operator.{Operator}
+use Rattle.text_syntax.specs.Token.{Token, operator, openRound, closeRound}
 use Rattle.text_syntax.specs.Kind.{kind, fixedIn, same, is}
 use Rattle.text_syntax.specs.Form.{Form, formed, unformed, oneOf, past, then, thenOr, or}
 use Rattle.text_syntax.specs.Written.{Term, Expression, term, group, operation}
@@ -22,7 +23,7 @@ Shortens element = (ts : List Token) → All (λ e r. length r < length ts) (ele
 abbrev Agree : ℕ → (List Token → Form Expression) → (List Token → Form Expression) → Type 0
 Agree n f h = (ts : List Token) → length ts < n → f ts ≡ h ts
 
-module _ (rank : Sign → Bool) (element element′ : List Token → Form Expression) (short : Shortens element) where
+module _ (rank : Operator → Bool) (element element′ : List Token → Form Expression) (short : Shortens element) where
   more-same : (n m : ℕ) (x : Expression) (ts : List Token) → length ts < n → length ts < m → Agree (length ts) element element′
       → joinedTo n rank element x ts ≡ joinedTo m rank element′ x ts
   unfolding joinedTo thenOr
@@ -32,7 +33,7 @@ module _ (rank : Sign → Bool) (element element′ : List Token → Form Expres
     where
       go : ((x : Expression) (ts : List Token) → length ts < n → length ts < m → Agree (length ts) element element′
           → joinedTo n rank element x ts ≡ joinedTo m rank element′ x ts)
-          → (f : Form Sign) → All (Begins rank ts) f
+          → (f : Form Operator) → All (Begins rank ts) f
           → thenOr f (λ o r. then (element r) (λ y. joinedTo n rank element (operation o x y))) (formed x ts)
           ≡ thenOr f (λ o r. then (element′ r) (λ y. joinedTo m rank element′ (operation o x y))) (formed x ts)
       go ih unformed b = refl
@@ -107,7 +108,7 @@ pub minimum-shorter : Shortens minimum
 minimum-shorter = shortens 1 (Ends isSmaller) minimum minimum-reads
 
 -- the first element, and what is joined to it
-module _ (rank : Sign → Bool) (element : List Token → Form Expression) (short : Shortens element) where
+module _ (rank : Operator → Bool) (element : List Token → Form Expression) (short : Shortens element) where
   from : Expression → List Token → Form Expression
   from x ts = joinedTo (suc (length ts)) rank element x ts
 
@@ -116,7 +117,7 @@ module _ (rank : Sign → Bool) (element : List Token → Form Expression) (shor
   joined-from ts = then-same (element ts) _ _
       (all-map _ _ (element ts) (λ x r d. more-same rank element element short (length ts) (suc (length r)) x r d (omega arith) (λ s e. refl)) (short ts))
 
-  from-more : (o : Sign) (x : Expression) (r : List Token) → rank o ≡ true → from x (operator o ∷ r) ≡ then (element r) (λ y. from (operation o x y))
+  from-more : (o : Operator) (x : Expression) (r : List Token) → rank o ≡ true → from x (operator o ∷ r) ≡ then (element r) (λ y. from (operation o x y))
   unfolding from
   from-more o x r h =
       joined-more rank element (suc (length r)) o x r h
@@ -130,7 +131,7 @@ pub minimum-joined : (ts : List Token) → minimum ts ≡ then (operand ts) mini
 unfolding minimum minimumFrom from
 minimum-joined ts = joined-from isSmaller operand operand-shorter ts
 
-pub minimum-more : (o : Sign) (x : Expression) (r : List Token) → isSmaller o ≡ true
+pub minimum-more : (o : Operator) (x : Expression) (r : List Token) → isSmaller o ≡ true
     → minimumFrom x (operator o ∷ r) ≡ then (operand r) (λ y. minimumFrom (operation o x y))
 unfolding minimumFrom from
 minimum-more o x r h = from-more isSmaller operand operand-shorter o x r h
@@ -153,7 +154,7 @@ pub expression-joined : (ts : List Token) → expression ts ≡ then (minimum ts
 unfolding expressionFrom from
 expression-joined ts = expression-joins ts ∙ joined-from isSum minimum minimum-shorter ts
 
-pub expression-more : (o : Sign) (x : Expression) (r : List Token) → isSum o ≡ true
+pub expression-more : (o : Operator) (x : Expression) (r : List Token) → isSum o ≡ true
     → expressionFrom x (operator o ∷ r) ≡ then (minimum r) (λ y. expressionFrom (operation o x y))
 unfolding expressionFrom from
 expression-more o x r h = from-more isSum minimum minimum-shorter o x r h

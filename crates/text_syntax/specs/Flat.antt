@@ -5,7 +5,8 @@ use mathlib.Core.Bool.{Bool, true, false, _&&_, _||_}
 use mathlib.Core.List.{List, _++_}
 use lib.ListN.{length}
 use Rattle.register.specs.declared.Sizes.{Sizes}
-use Rattle.text_syntax.specs.Token.{Token, Sign, closeSquare, openRound, closeRound}
+use Rattle.program.specs.declared.rule.Operator.{Operator}
+use Rattle.text_syntax.specs.Token.{Token, closeSquare, openRound, closeRound}
 use Rattle.text_syntax.specs.Kind.{operatorIn}
 use Rattle.text_syntax.specs.Form.{Form, formed, unformed, oneOf, past, then, thenOr}
 use Rattle.text_syntax.specs.Written.{Expression, term}
@@ -64,7 +65,7 @@ merged d g h = record {
 }
 
 -- and of an operator behind it
-unfoldable pub withOperator : Sign → Summary → Summary
+unfoldable pub withOperator : Operator → Summary → Summary
 withOperator o g = record {
   named = g .named;
   kinded = g .kinded;

@@ -5,7 +5,9 @@ use mathlib.Core.List.{List, [], _∷_}
 use mathlib.Core.Option.{Option, none, some}
 use lib.ListN.{length}
 use Rattle.program.specs.declared.rule.Comparison.{Comparison}
-use Rattle.text_syntax.specs.Token.{Token, Sign, plus, minus, smaller, stepWord, endWord, doneWord, loopWord, ifWord, remoteWord, own, becomes, colon, openSquare, closeSquare, openRound, closeRound}
+use Rattle.program.specs.declared.rule.Operator.{Operator}
+use Rattle.program.specs.declared.rule.Operator.the-variants.{Plus, Minus, Smaller}
+use Rattle.text_syntax.specs.Token.{Token, stepWord, endWord, doneWord, loopWord, ifWord, remoteWord, own, becomes, colon, openSquare, closeSquare, openRound, closeRound}
 use Rattle.text_syntax.specs.Kind as K
 use Rattle.text_syntax.specs.Kind.{Kind, letterIn, writeIn, operatorIn, comparisonIn}
 use Rattle.text_syntax.specs.Form.{Form, formed, unformed, oneOf, past, then, thenOr, or, whole}
@@ -43,27 +45,27 @@ unfoldable pub operandForm : (List Token → Form Expression) → List Token →
 operandForm inner ts = or (then (termForm ts) (λ x. formed (term x))) (groupForm inner ts)
 
 -- "`<?` (the smaller; both kinds) binds tighter than `+` and `-`": the two ranks of operators
-unfoldable pub isSum : Sign → Bool
-isSum plus = true
-isSum minus = true
-isSum smaller = false
+unfoldable pub isSum : Operator → Bool
+isSum Plus = true
+isSum Minus = true
+isSum Smaller = false
 
-unfoldable pub isSmaller : Sign → Bool
+unfoldable pub isSmaller : Operator → Bool
 isSmaller o = not (isSum o)
 
 -- an operator of this rank
-unfoldable pub operatorForm : (Sign → Bool) → List Token → Form Sign
+unfoldable pub operatorForm : (Operator → Bool) → List Token → Form Operator
 operatorForm rank ts = then (oneOf operatorIn ts) (λ o r. cond (rank o) (formed o r) unformed)
 
 -- "equal ranks go from left to right": behind x, as long as an operator of this rank follows, the operator and an element are joined to
 -- all that stands before them; the number is any above that of the tokens
-unfoldable pub joinedTo : ℕ → (Sign → Bool) → (List Token → Form Expression) → Expression → List Token → Form Expression
+unfoldable pub joinedTo : ℕ → (Operator → Bool) → (List Token → Form Expression) → Expression → List Token → Form Expression
 joinedTo zero rank element x ts = unformed
 joinedTo (suc n) rank element x ts =
     thenOr (operatorForm rank ts) (λ o r. then (element r) (λ y. joinedTo n rank element (operation o x y))) (formed x ts)
 
 -- elements "joined by operators" of this rank
-unfoldable pub joined : ℕ → (Sign → Bool) → (List Token → Form Expression) → List Token → Form Expression
+unfoldable pub joined : ℕ → (Operator → Bool) → (List Token → Form Expression) → List Token → Form Expression
 joined n rank element ts = then (element ts) (joinedTo n rank element)
 
 -- sums of what is joined by `<?`, whose operands hold groups; the number is any not below that of the tokens

@@ -7,7 +7,8 @@ use Rattle.program.specs.declared.rule.Comparison.{Comparison}
 use Rattle.program.specs.declared.rule.Sort.{Sort}
 use Rattle.text_forms.specs.Numeral.{Numeral}
 use Rattle.text_syntax.specs.Token as T
-use Rattle.text_syntax.specs.Token.{Token, Sign}
+use Rattle.program.specs.declared.rule.Operator.{Operator}
+use Rattle.text_syntax.specs.Token.{Token}
 
 -- a token that stands for itself, by a number of its own; a letter, a number, a sort of remote write, an operator, a comparison
 pub data Kind : Type 0 where
@@ -15,7 +16,7 @@ pub data Kind : Type 0 where
   letter : ℕ → Kind
   number : Bool → Numeral → Kind
   write : Sort → Kind
-  operator : Sign → Kind
+  operator : Operator → Kind
   comparison : Comparison → Kind
 
 unfoldable pub kind : Token → Kind
@@ -64,7 +65,7 @@ writeIn (write k) = some k
 writeIn (operator o) = none
 writeIn (comparison c) = none
 
-unfoldable pub operatorIn : Kind → Option Sign
+unfoldable pub operatorIn : Kind → Option Operator
 operatorIn (fixed n) = none
 operatorIn (letter l) = none
 operatorIn (number negative x) = none

@@ -13,7 +13,8 @@ use Rattle.text_forms.specs.Numeral as N
 use Rattle.text_forms.specs.Numeral.{isDigit, NumberForm, signedForm, printedNumber}
 use Rattle.text_forms.specs.Span.{span}
 use Rattle.text_forms.specs.Token.{opensWith}
-use Rattle.text_syntax.specs.Token.{Token, stepWord, endWord, doneWord, loopWord, ifWord, remoteWord, own, letter, number, becomes, colon, write, operator, comparison, openSquare, closeSquare, openRound, closeRound, unknown, plus, minus, smaller}
+use Rattle.program.specs.declared.rule.Operator.the-variants.{Plus, Minus, Smaller}
+use Rattle.text_syntax.specs.Token.{Token, stepWord, endWord, doneWord, loopWord, ifWord, remoteWord, own, letter, number, becomes, colon, write, operator, comparison, openSquare, closeSquare, openRound, closeRound, unknown}
 
 -- the bytes of a token; "`if`, `remote`, `loop` .. keep at least one [space] after them", and this one is theirs
 unfoldable pub spelled : Token → List ℕ
@@ -30,9 +31,9 @@ spelled becomes = bytes ":="
 spelled colon = bytes ":"
 spelled (write Least) = bytes "<?="
 spelled (write Total) = bytes "+="
-spelled (operator plus) = bytes "+"
-spelled (operator minus) = bytes "-"
-spelled (operator smaller) = bytes "<?"
+spelled (operator Plus) = bytes "+"
+spelled (operator Minus) = bytes "-"
+spelled (operator Smaller) = bytes "<?"
 spelled (comparison Less) = bytes "<"
 spelled (comparison Equal) = bytes "=="
 spelled (comparison Unequal) = bytes "!="
@@ -48,8 +49,8 @@ words = stepWord ∷ endWord ∷ doneWord ∷ loopWord ∷ ifWord ∷ remoteWord
 
 unfoldable pub signs : List Token
 signs =
-    own ∷ openSquare ∷ closeSquare ∷ openRound ∷ closeRound ∷ becomes ∷ colon ∷ write Least ∷ operator smaller ∷ comparison Less
-    ∷ comparison Equal ∷ comparison Unequal ∷ write Total ∷ operator plus ∷ operator minus ∷ []
+    own ∷ openSquare ∷ closeSquare ∷ openRound ∷ closeRound ∷ becomes ∷ colon ∷ write Least ∷ operator Smaller ∷ comparison Less
+    ∷ comparison Equal ∷ comparison Unequal ∷ write Total ∷ operator Plus ∷ operator Minus ∷ []
 
 -- A text that begins with a token: the token and what stands behind it; or with none.
 pub data First : Type 0 where

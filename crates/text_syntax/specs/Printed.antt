@@ -2,7 +2,9 @@
 use Prim.Native.Nat.{ℕ, _≤_, _<_}
 use mathlib.Core.List.{List, [], _∷_, _++_}
 use Rattle.text_syntax.specs.Token as T
-use Rattle.text_syntax.specs.Token.{Token, Sign, plus, minus, smaller, stepWord, endWord, doneWord, loopWord, ifWord, remoteWord, own, letter, becomes, colon, write, operator, comparison, openSquare, closeSquare, openRound, closeRound}
+use Rattle.program.specs.declared.rule.Operator.{Operator}
+use Rattle.program.specs.declared.rule.Operator.the-variants.{Plus, Minus, Smaller}
+use Rattle.text_syntax.specs.Token.{Token, stepWord, endWord, doneWord, loopWord, ifWord, remoteWord, own, letter, becomes, colon, write, operator, comparison, openSquare, closeSquare, openRound, closeRound}
 use Rattle.text_syntax.specs.Written.{Term, chain, number, Expression, term, group, operation, Condition, always, when, Action, set, remote, Line, step, end, done, loop, rule}
 
 -- `u`, "or a field letter and a chain in square brackets"
@@ -35,10 +37,10 @@ printedLine (rule always a) = printedAction a
 printedLine (rule (when x c y) a) = ifWord ∷ (printedExpression x ++ (comparison c ∷ (printedExpression y ++ (colon ∷ printedAction a))))
 
 -- how tight an operator binds: "`<?` binds tighter than `+` and `-`"; how tight an expression is bound that has no brackets around it
-unfoldable pub tightness : Sign → ℕ
-tightness plus = 0
-tightness minus = 0
-tightness smaller = 1
+unfoldable pub tightness : Operator → ℕ
+tightness Plus = 0
+tightness Minus = 0
+tightness Smaller = 1
 
 unfoldable pub bound : Expression → ℕ
 bound (term x) = 2

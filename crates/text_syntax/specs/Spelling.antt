@@ -9,7 +9,8 @@ use Rattle.chain_text.specs.Text.{isCapital}
 use Rattle.chain_text.specs.Scan.{startsWith}
 use Rattle.program.specs.declared.rule.Comparison.the-variants.{Less, Equal, Unequal}
 use Rattle.text_forms.specs.Numeral.{isDigit, startsDigit, Numeral, allDigits, isNumeral}
-use Rattle.text_syntax.specs.Token.{Token, stepWord, endWord, doneWord, loopWord, ifWord, remoteWord, own, letter, number, becomes, colon, write, operator, comparison, openSquare, closeSquare, openRound, closeRound, unknown, plus, minus, smaller}
+use Rattle.program.specs.declared.rule.Operator.the-variants.{Plus, Minus, Smaller}
+use Rattle.text_syntax.specs.Token.{Token, stepWord, endWord, doneWord, loopWord, ifWord, remoteWord, own, letter, number, becomes, colon, write, operator, comparison, openSquare, closeSquare, openRound, closeRound, unknown}
 use Rattle.text_syntax.specs.Lexing.{spelled, operandBehind}
 
 -- a number with its minus only where an operand must begin, and with neither a digit nor a point behind it
@@ -35,9 +36,9 @@ Stands operand (number negative x) r = NumberStands operand negative x r
 Stands operand becomes r = Unit {0}
 Stands operand colon r = startsWith 61 r ≡ false
 Stands operand (write k) r = Unit {0}
-Stands operand (operator plus) r = startsWith 61 r ≡ false
-Stands operand (operator minus) r = operand ≡ false
-Stands operand (operator smaller) r = startsWith 61 r ≡ false
+Stands operand (operator Plus) r = startsWith 61 r ≡ false
+Stands operand (operator Minus) r = operand ≡ false
+Stands operand (operator Smaller) r = startsWith 61 r ≡ false
 Stands operand (comparison Less) r = startsWith 63 r ≡ false
 Stands operand (comparison Equal) r = Unit {0}
 Stands operand (comparison Unequal) r = Unit {0}

@@ -2,12 +2,9 @@
 use Prim.Native.Nat.{ℕ}
 use mathlib.Core.Bool.{Bool}
 use Rattle.program.specs.declared.rule.Comparison.{Comparison}
+use Rattle.program.specs.declared.rule.Operator.{Operator}
 use Rattle.program.specs.declared.rule.Sort.{Sort}
 use Rattle.text_forms.specs.Numeral.{Numeral}
-
--- `+`, `-`, `<?`
-pub data Sign : Type 0 where
-  plus minus smaller : Sign
 
 -- a word; `u`; a capital; a number with its minus, where it has one; `:=`, `:`; `<?=` or `+=`; an operator; `<`, `==` or `!=`; brackets; and
 -- what is no token
@@ -17,6 +14,6 @@ pub data Token : Type 0 where
   number : Bool → Numeral → Token
   becomes colon : Token
   write : Sort → Token
-  operator : Sign → Token
+  operator : Operator → Token
   comparison : Comparison → Token
   openSquare closeSquare openRound closeRound unknown : Token

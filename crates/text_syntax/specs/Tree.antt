@@ -1,10 +1,8 @@
 -- The rule of the program that a written rule describes: a tree without groups, its numbers in centimetres.
 use mathlib.Core.List.{_++_}
 use Rattle.chain_text.specs.Text.{letterField, wordOf}
-use Rattle.program.specs.declared.rule.Operator.{Operator}
 use Rattle.program.specs.Program as P
 use Rattle.text_forms.specs.Numeral.{Numeral, whole, metres, numberValue}
-use Rattle.text_syntax.specs.Token.{Sign}
 use Rattle.text_syntax.specs.Written.{Term, chain, number, Expression, term, group, operation, Condition, always, when, Action, set, remote}
 
 -- a chain by its hop word, a number by its value: "`1.80` means 180 centimetres"
@@ -12,31 +10,29 @@ unfoldable pub termTree : Term → P.Expression
 termTree (chain ls) = P.reading (wordOf ls)
 termTree (number negative x) = P.constant (numberValue negative x)
 
--- over the program's operators
-module _ (operatorOf : Sign → Operator) where
-  -- "terms or groups joined by operators", of which groups leave no trace but the tree
-  unfoldable pub treeOf : Expression → P.Expression
-  treeOf (term x) = termTree x
-  treeOf (group e) = treeOf e
-  treeOf (operation o x y) = P.operation (operatorOf o) (treeOf x) (treeOf y)
+-- "terms or groups joined by operators", of which groups leave no trace but the tree
+unfoldable pub treeOf : Expression → P.Expression
+treeOf (term x) = termTree x
+treeOf (group e) = treeOf e
+treeOf (operation o x y) = P.operation o (treeOf x) (treeOf y)
 
-  -- "Before any of them may stand `if X < Y: `"
-  unfoldable pub testOf : Condition → P.Test
-  testOf always = P.always
-  testOf (when x c y) = P.when (treeOf x) c (treeOf y)
+-- "Before any of them may stand `if X < Y: `"
+unfoldable pub testOf : Condition → P.Test
+testOf always = P.always
+testOf (when x c y) = P.when (treeOf x) c (treeOf y)
 
-  -- F, of the own record or of the record at C
-  unfoldable pub targetOf : Action → P.Target
-  targetOf (set f e) = P.own (letterField f)
-  targetOf (remote k f c e) = P.remote k (letterField f) (wordOf c)
+-- F, of the own record or of the record at C
+unfoldable pub targetOf : Action → P.Target
+targetOf (set f e) = P.own (letterField f)
+targetOf (remote k f c e) = P.remote k (letterField f) (wordOf c)
 
-  -- X
-  unfoldable pub sourceOf : Action → P.Expression
-  sourceOf (set f e) = treeOf e
-  sourceOf (remote k f c e) = treeOf e
+-- X
+unfoldable pub sourceOf : Action → P.Expression
+sourceOf (set f e) = treeOf e
+sourceOf (remote k f c e) = treeOf e
 
-  unfoldable pub ruleOf : Condition → Action → P.Rule
-  ruleOf c a = record { test = testOf c; target = targetOf a; expression = sourceOf a }
+unfoldable pub ruleOf : Condition → Action → P.Rule
+ruleOf c a = record { test = testOf c; target = targetOf a; expression = sourceOf a }
 
 -- a written rule without its groups, and with its numbers in centimetres
 unfoldable pub inCentimetres : Numeral → Numeral

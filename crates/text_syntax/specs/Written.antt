@@ -5,7 +5,7 @@ use mathlib.Core.List.{List}
 use Rattle.program.specs.declared.rule.Comparison.{Comparison}
 use Rattle.program.specs.declared.rule.Sort.{Sort}
 use Rattle.text_forms.specs.Numeral.{Numeral}
-use Rattle.text_syntax.specs.Token.{Sign}
+use Rattle.program.specs.declared.rule.Operator.{Operator}
 
 -- "A term X or Y is a chain or a number": a chain by its letters from the outside in, a number by its minus and numeral
 pub data Term : Type 0 where
@@ -16,7 +16,7 @@ pub data Term : Type 0 where
 pub data Expression : Type 0 where
   term : Term → Expression
   group : Expression → Expression
-  operation : Sign → Expression → Expression → Expression
+  operation : Operator → Expression → Expression → Expression
 
 -- "Before any of them may stand `if X < Y: `"
 pub data Condition : Type 0 where

@@ -6,9 +6,10 @@ use borrow.Author.Needs.{needs}
 use Rattle.program.specs.declared.rule.Comparison.the-variants.{Equal, Unequal}
 use Rattle.program.specs.declared.rule.Sort.the-variants.{Total}
 use Rattle.text_forms.specs.Token.{opensWith}
-use Rattle.text_syntax.specs.Token.{becomes, colon, write, operator, comparison, plus}
+use Rattle.program.specs.declared.rule.Operator.the-variants.{Plus}
+use Rattle.text_syntax.specs.Token.{becomes, colon, write, operator, comparison}
 use Rattle.text_syntax.specs.Lexing.{spelled, words, signs, first, none, fixedToken}
-use Rattle.text_lexer.specs.Lexeme.{tokenCode, signCode, sizedFirst}
+use Rattle.text_lexer.specs.Lexeme.{tokenCode, sizedFirst}
 use Rattle.text_lexer.proofs.Signs.{table-at, longer-is, only-word}
 use Rattle.text_lexer.proofs.sign.sign_at.Statement.{statement}
 use Rattle.text_lexer.proofs.sign.sign_at.Tie as tie
@@ -80,47 +81,47 @@ word-at-requires : tie.Need-word-at-requires
 word-at-requires c κs = search needs
 
 returns : tie.Need-returns
-unfolding fixedToken words signs spelled opensWith sizedFirst tokenCode signCode
+unfolding fixedToken words signs spelled opensWith sizedFirst tokenCode
 returns c = table-at _ _ 117 (c .before .before .before .before .pre) (c .before .match .keys1) (words ++ signs) (c .sized .ensures)
 
 returns-2 : tie.Need-returns-2
-unfolding fixedToken words signs spelled opensWith sizedFirst tokenCode signCode
+unfolding fixedToken words signs spelled opensWith sizedFirst tokenCode
 returns-2 c = table-at _ _ 91 (c .before .before .before .before .pre) (c .before .match .keys2) (words ++ signs) (c .sized2 .ensures)
 
 returns-3 : tie.Need-returns-3
-unfolding fixedToken words signs spelled opensWith sizedFirst tokenCode signCode
+unfolding fixedToken words signs spelled opensWith sizedFirst tokenCode
 returns-3 c = table-at _ _ 93 (c .before .before .before .before .pre) (c .before .match .keys3) (words ++ signs) (c .sized3 .ensures)
 
 returns-4 : tie.Need-returns-4
-unfolding fixedToken words signs spelled opensWith sizedFirst tokenCode signCode
+unfolding fixedToken words signs spelled opensWith sizedFirst tokenCode
 returns-4 c = table-at _ _ 40 (c .before .before .before .before .pre) (c .before .match .keys4) (words ++ signs) (c .sized4 .ensures)
 
 returns-5 : tie.Need-returns-5
-unfolding fixedToken words signs spelled opensWith sizedFirst tokenCode signCode
+unfolding fixedToken words signs spelled opensWith sizedFirst tokenCode
 returns-5 c = table-at _ _ 41 (c .before .before .before .before .pre) (c .before .match .keys5) (words ++ signs) (c .sized5 .ensures)
 
 returns-6 : tie.Need-returns-6
-unfolding fixedToken words signs spelled opensWith sizedFirst tokenCode signCode
+unfolding fixedToken words signs spelled opensWith sizedFirst tokenCode
 returns-6 c = table-at _ _ 45 (c .before .before .before .before .pre) (c .before .match .keys6) (words ++ signs) (c .sized6 .ensures)
 
 returns-7 : tie.Need-returns-7
-unfolding fixedToken words signs spelled opensWith sizedFirst tokenCode signCode
+unfolding fixedToken words signs spelled opensWith sizedFirst tokenCode
 returns-7 c = table-at _ _ 58 (c .before .before .before .before .before .pre) (c .before .before .match .keys7) (words ++ signs) (longer-is _ (first becomes _) (first colon _) (c .longer .ensures) (c .before .sized7 .ensures))
 
 returns-8 : tie.Need-returns-8
-unfolding fixedToken words signs spelled opensWith sizedFirst tokenCode signCode
-returns-8 c = table-at _ _ 43 (c .before .before .before .before .before .pre) (c .before .before .match .keys8) (words ++ signs) (longer-is _ (first (write Total) _) (first (operator plus) _) (c .longer2 .ensures) (c .before .sized8 .ensures))
+unfolding fixedToken words signs spelled opensWith sizedFirst tokenCode
+returns-8 c = table-at _ _ 43 (c .before .before .before .before .before .pre) (c .before .before .match .keys8) (words ++ signs) (longer-is _ (first (write Total) _) (first (operator Plus) _) (c .longer2 .ensures) (c .before .sized8 .ensures))
 
 returns-9 : tie.Need-returns-9
-unfolding fixedToken words signs spelled opensWith sizedFirst tokenCode signCode
+unfolding fixedToken words signs spelled opensWith sizedFirst tokenCode
 returns-9 c = table-at _ _ 61 (c .before .before .before .before .before .pre) (c .before .before .match .keys9) (words ++ signs) (longer-is _ (first (comparison Equal) _) none (c .longer3 .ensures) (c .before .sized9 .ensures))
 
 returns-10 : tie.Need-returns-10
-unfolding fixedToken words signs spelled opensWith sizedFirst tokenCode signCode
+unfolding fixedToken words signs spelled opensWith sizedFirst tokenCode
 returns-10 c = table-at _ _ 33 (c .before .before .before .before .before .pre) (c .before .before .match .keys10) (words ++ signs) (longer-is _ (first (comparison Unequal) _) none (c .longer4 .ensures) (c .before .sized10 .ensures))
 
 returns-11 : tie.Need-returns-11
-unfolding fixedToken words signs spelled opensWith sizedFirst tokenCode signCode
+unfolding fixedToken words signs spelled opensWith sizedFirst tokenCode
 returns-11 c = table-at _ _ 60 (c .before .before .before .before .pre) (c .before .match .keys11) (words ++ signs) (c .less-at .ensures)
 
 returns-12 : tie.Need-returns-12
