@@ -1,10 +1,9 @@
 -- How a text falls into tokens: what its first token is, and those behind it.
 use Prim.Native.Nat.{ℕ, zero, suc, _+_, _≤_, _<_}
-use mathlib.Core.Path.{_≡_, refl, sym, ap, subst, _∙_}
+use mathlib.Core.Path.{_≡_, refl, sym, ap, ap₂, subst, _∙_}
 use mathlib.Core.Logic.{_≢_}
 use mathlib.Core.Bool.{Bool, true, false, cond, not, _&&_}
 use mathlib.Core.List.{List, [], _∷_, _++_}
-use mathlib.Core.Option.{some}
 use native.Mathlib.Omega.{arith}
 use borrow.Author.Tests.{eqb-true, eq-eqb}
 use lib.Dec.{eqb}
@@ -21,7 +20,6 @@ use Rattle.text_forms.specs.Numeral.{isDigit, startsDigit, digits, Numeral, who
 use Rattle.text_forms.specs.Span.{span}
 use Rattle.text_forms.specs.Token.{opensWith}
 use Rattle.text_forms.proofs.Spans.{span-text, span-every, span-behind}
-use Rattle.text_forms.proofs.Tokens.{all-some, word-all, word-begins}
 use Rattle.text_forms.proofs.Numerals.{numeral-text, numeral-digits, whole-bound}
 use Rattle.program.specs.declared.rule.Operator.the-variants.{Plus, Smaller}
 use Rattle.text_syntax.specs.Token.{Token, stepWord, endWord, doneWord, loopWord, ifWord, remoteWord, own, letter, number, becomes, colon, write, operator, comparison, openSquare, closeSquare, openRound, closeRound, unknown}
@@ -98,9 +96,11 @@ module _ (operand negative : Bool) (sign : negative && not operand ≡ false) (t
 
 -- a text that begins with a word
 begins-text : (w t : List ℕ) → opensWith w t ≡ true → t ≡ w ++ drop (length w) t
-begins-text w t h =
-    let P : List ℕ → Type 0 = λ r. t ≡ w ++ r in
-    all-some P (word-all P w t (λ r. some r) (λ r e. e)) (word-begins w t (λ r. some r) ∙ rw h)
+unfolding opensWith
+begins-text [] t h = refl
+begins-text (b ∷ w) [] h = true-false h refl
+begins-text (b ∷ w) (d ∷ t) h =
+    let both = and-both (eqb d b) (opensWith w t) h in ap₂ (λ (c : ℕ) (l : List ℕ). c ∷ l) (eqb-true d b (both .0)) (begins-text w t (both .1))
 
 -- a token of a table
 fixed-began : (t : List ℕ) (P : Token → List ℕ → Type 0) (ks : List Token) → Each (λ k. (r : List ℕ) → t ≡ spelled k ++ r → P k r) ks
