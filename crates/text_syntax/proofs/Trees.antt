@@ -27,7 +27,7 @@ unfolding testOf plainCondition
 test-plain always = refl
 test-plain (when x c y) = rw (tree-plain x, tree-plain y)
 
-rule-plain : (c : Condition) (a : Action) → ruleOf (plainCondition c) (plainAction a) ≡ ruleOf c a
+pub rule-plain : (c : Condition) (a : Action) → ruleOf (plainCondition c) (plainAction a) ≡ ruleOf c a
 unfolding ruleOf targetOf sourceOf plainAction
 rule-plain c (set f e) = rw (test-plain c, tree-plain e)
 rule-plain c (remote k f w e) = rw (test-plain c, tree-plain e)

@@ -3,7 +3,7 @@ use mathlib.Core.List.{_++_}
 use Rattle.chain_text.specs.Text.{letterField, wordOf}
 use Rattle.program.specs.Program as P
 use Rattle.text_forms.specs.Numeral.{Numeral, whole, metres, numberValue}
-use Rattle.text_syntax.specs.Written.{Term, chain, number, Expression, term, group, operation, Condition, always, when, Action, set, remote}
+use Rattle.text_syntax.specs.Written.{Term, chain, number, Expression, term, group, operation, Condition, always, when, Action, set, remote, Line, step, end, done, loop, rule}
 
 -- a chain by its hop word, a number by its value: "`1.80` means 180 centimetres"
 unfoldable pub termTree : Term → P.Expression
@@ -34,7 +34,7 @@ sourceOf (remote k f c e) = treeOf e
 unfoldable pub ruleOf : Condition → Action → P.Rule
 ruleOf c a = record { test = testOf c; target = targetOf a; expression = sourceOf a }
 
--- a written rule without its groups, and with its numbers in centimetres
+-- a written line without its groups, and with its numbers in centimetres
 unfoldable pub inCentimetres : Numeral → Numeral
 inCentimetres (whole ds) = whole ds
 inCentimetres (metres ds cs) = whole (ds ++ cs)
@@ -55,3 +55,10 @@ plainCondition (when x c y) = when (plain x) c (plain y)
 unfoldable pub plainAction : Action → Action
 plainAction (set f e) = set f (plain e)
 plainAction (remote k f c e) = remote k f c (plain e)
+
+unfoldable pub plainLine : Line → Line
+plainLine step = step
+plainLine end = end
+plainLine done = done
+plainLine (loop f) = loop f
+plainLine (rule c a) = rule (plainCondition c) (plainAction a)
