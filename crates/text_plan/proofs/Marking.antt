@@ -1,6 +1,6 @@
 -- Marks of the lines that are wanted, and what was found before more of them are.
 use Prim.Native.Nat.{ℕ, suc, _+_, _≤_, _<_}
-use mathlib.Core.Path.{_≡_, refl, sym, ap, subst, _∙_}
+use mathlib.Core.Path.{_≡_, refl, _∙_}
 use mathlib.Core.Bool.{Bool, true, false}
 use mathlib.Core.List.{List}
 use mathlib.Core.Logic.{_≢_, ⊎-elim}
@@ -17,12 +17,13 @@ use Rattle.program.specs.declared.term.Term.{Term}
 use Rattle.program.specs.declared.term.Term.the-variants.{Chain, Number, Tree}
 use Rattle.program.specs.declared.rule.Test.{Test}
 use Rattle.program.specs.declared.rule.Test.the-variants.{Always, When}
+use Rattle.program.specs.declared.rule.Rule.{Rule}
 use Rattle.program.specs.declared.location.Location.{Location}
 use Rattle.program.specs.declared.location.Location.the-variants.{Own, Cell, Line}
 use Rattle.program.specs.declared.location.Places.{Places}
 use Rattle.program.specs.Code.{EachChain, locationAt, placeOf}
 use Rattle.program.specs.Location.{Wants, locationOf}
-use Rattle.program.specs.Terms.{TermFrom, TermPlaced, TestPlaced}
+use Rattle.program.specs.Terms.{TestTerms, RuleTerms, TermFrom, TermPlaced, TestPlaced, RulePlaced}
 use Rattle.text_plan.specs.Listed.{isListed, withLine, Placeable, WordFound, Marked, Below, FoundMore, Finds}
 use Rattle.text_plan.proofs.Listing.{place-told}
 
@@ -159,6 +160,16 @@ module _ (l : List Fact) (kinds chains : List ℕ) where
       → Finds l kinds chains (λ n. TermFrom n x) (λ w z. TermPlaced (WordFound l w) kinds chains z at x) a p b q
   finds-term e at h = rw e h
 
+  pub finds-test : {x y : Test} → x ≡ y → (at : Places) {a b : List Bool} {p q : List ℕ}
+      → Finds l kinds chains (λ n. TestTerms (TermFrom n) y) (λ w z. TestPlaced (WordFound l w) kinds chains z at y) a p b q
+      → Finds l kinds chains (λ n. TestTerms (TermFrom n) x) (λ w z. TestPlaced (WordFound l w) kinds chains z at x) a p b q
+  finds-test e at h = rw e h
+
+  pub finds-rule : {x y : Rule} → x ≡ y → (at : Places) {a b : List Bool} {p q : List ℕ}
+      → Finds l kinds chains (λ n. RuleTerms (TermFrom n) y) (λ w z. RulePlaced (WordFound l w) kinds chains z at y) a p b q
+      → Finds l kinds chains (λ n. RuleTerms (TermFrom n) x) (λ w z. RulePlaced (WordFound l w) kinds chains z at x) a p b q
+  finds-rule e at h = rw e h
+
   pub test-more : {a b : List Bool} {p q : List ℕ} → FoundMore l kinds chains a p b q → (at : Places) (x : Test)
       → TestPlaced (WordFound l a) kinds chains p at x → TestPlaced (WordFound l b) kinds chains q at x
   test-more m at Always h = tt
@@ -172,4 +183,14 @@ module _ (l : List Fact) (kinds chains : List ℕ) where
     more = more-both (h .more) (k .more);
     below = λ n f i j. k .below n (f .1) i j ∙ h .below n (f .0) i j;
     found = (stays (k .more) (h .found), k .found);
+  }
+
+  -- a word, and then another thing
+  pub finds-word : {From : ℕ → Type 0} {P : List Bool → List ℕ → Type 0} {a b c : List Bool} {p q : List ℕ} → Marked a b
+      → (at : Location) (v : List ℕ) → WordFound l b at v → Finds l kinds chains From P b p c q
+      → Finds l kinds chains From (λ w z. WordFound l w at v × P w z) a p c q
+  finds-word m at v h k = record {
+    more = more-both (more-marks _ m) (k .more);
+    below = k .below;
+    found = (word-more l (k .more .marked) at v h, k .found);
   }

@@ -1,10 +1,10 @@
 -- The rules of the open step, located in its plan: where the plan grows by one more rule, they and that rule are located in it.
-use Prim.Native.Nat.{ℕ, _≤_, _<_}
+use Prim.Native.Nat.{ℕ, _≤_}
 use mathlib.Core.Path.{_≡_, refl, sym, _∙_}
 use mathlib.Core.Bool.{Bool, true}
-use mathlib.Core.List.{List, [], _∷_, _++_, List·Memᴰ, List·Memᴰ·head, List·Memᴰ·tail, Memᴰ·append-left, Memᴰ·append-right}
+use mathlib.Core.List.{List, [], _++_, List·Memᴰ, List·Memᴰ·head, List·Memᴰ·tail, Memᴰ·append-left, Memᴰ·append-right}
 use native.Mathlib.Omega.{arith}
-use lib.ListN.{length, getD, length-append}
+use lib.ListN.{length, length-append}
 use Rattle.chain.specs.Word.{unpack}
 use Rattle.plan_theory.specs.Plan.{Fact, plan}
 use Rattle.plan_theory.proofs.Lines.{grows-append, readings-append, readings-grow, readings-had}
@@ -63,27 +63,6 @@ module _ (P Q : Location → List ℕ → Type 0) (kinds chains places : List �
     test-changed (x .slot .test) (λ at w m. f at w (Memᴰ·append-left (ruleWords kinds chains (x .slot .rule)) m)) (x .at .test) (h .0),
     rule-changed (x .slot .rule) (λ at w m. f at w (Memᴰ·append-right (testWords kinds chains (x .slot .test)) m)) (x .at .rule) (h .1),
   )
-
--- arrays that agree below n hold the same of trees below n
-module _ (P : Location → List ℕ → Type 0) (kinds chains places kinds′ chains′ places′ : List ℕ) (n : ℕ)
-    (k : (i : ℕ) → i < n → getD kinds′ i 0 ≡ getD kinds i 0) (c : (i : ℕ) → i < n → getD chains′ i 0 ≡ getD chains i 0)
-    (p : (i : ℕ) → i < n → getD places′ i 0 ≡ getD places i 0) where
-  term-agrees : (x : Term) → TermInside n x → (at : Location) → TermPlaced P kinds chains places at x → TermPlaced P kinds′ chains′ places′ at x
-  term-agrees (Chain w) t at h = h
-  term-agrees (Number z) t at h = tt
-  term-agrees (Tree from to) t at h = λ i a b e. rw (p i (omega arith), c i (omega arith)) (h i a b (sym (k i (omega arith)) ∙ e))
-
-  test-agrees : (x : Test) → TestTerms (TermInside n) x → (at : Places) → TestPlaced P kinds chains places at x → TestPlaced P kinds′ chains′ places′ at x
-  test-agrees Always t at h = tt
-  test-agrees (When x o y) t at h = (term-agrees x (t .0) (at .first) (h .0), term-agrees y (t .1) (at .second) (h .1))
-
-  rule-agrees : (x : Rule) → RuleTerms (TermInside n) x → (at : Places) → RulePlaced P kinds chains places at x → RulePlaced P kinds′ chains′ places′ at x
-  rule-agrees (Set f x) t at h = term-agrees x t (at .first) h
-  rule-agrees (Combine f op x y) t at h = (term-agrees x (t .0) (at .first) (h .0), term-agrees y (t .1) (at .second) (h .1))
-  rule-agrees (Remote sort f w x) t at h = (h .0, term-agrees x t (at .second) (h .1))
-
-  pub slot-agrees : (x : Located) → SlotTerms (TermInside n) (x .slot) → SlotPlaced P kinds chains places x → SlotPlaced P kinds′ chains′ places′ x
-  slot-agrees x t h = (test-agrees (x .slot .test) (t .0) (x .at .test) (h .0), rule-agrees (x .slot .rule) (t .1) (x .at .rule) (h .1))
 
 -- a word located among the lines l, which have its line
 pub record WordPlaced (l : List Fact) (wanted : List Bool) (at : Location) (w : List ℕ) : Type 0 where

@@ -14,7 +14,7 @@ use Rattle.laws.proofs.Bools.{true-false}
 use Rattle.laws.proofs.Lists.{each-of}
 use Rattle.chain.specs.Word.{unpack}
 use Rattle.plan_theory.specs.Plan.{read, add, plan}
-use Rattle.plan_theory.proofs.Lines.{plan-more, plan-length}
+use Rattle.plan_theory.proofs.Lines.{plan-length}
 use Rattle.plan_lines.specs.Held.{facts, Keyed, Added, Extended, ExtendedTo}
 use Rattle.plan_lines.specs.declared.Plan.{Plan}
 use Rattle.plan_lines.proofs.Adding.{holds-facts, extended-holds, extended-more, extended-plan}

@@ -1,9 +1,8 @@
 -- `text_plan::locate::locate_codes` meets its contract. The loop's invariant: the chains passed are found.
 -- Assumes nothing.
-use Prim.Native.Nat.{suc, _+_, _-_, _≤_}
-use mathlib.Core.Path.{_≡_, _∙_}
+use Prim.Native.Nat.{_-_, _≤_}
+use mathlib.Core.Path.{_∙_}
 use native.Mathlib.Omega.{arith}
-use denote.Ref.{now}
 use Rattle.plan_lines.specs.Held.{factsIn}
 use Rattle.program.specs.Code.{EachChain}
 use Rattle.text_plan.specs.Listed.{WordFound, Finds}
