@@ -1,6 +1,6 @@
 -- Arrays in which more is written behind the codes so far: the rules of these codes stay as they are.
 use Prim.Native.Nat.{ℕ, _-_, _≤_, _<_}
-use mathlib.Core.Path.{_≡_, refl, sym, ap, ap₂, subst, _∙_}
+use mathlib.Core.Path.{_≡_, refl, ap, ap₂, subst, _∙_}
 use mathlib.Core.Bool.{Bool, true, false, cond}
 use mathlib.Core.List.{List, [], _∷_}
 use native.Mathlib.Omega.{arith}
@@ -23,7 +23,7 @@ use Rattle.program.specs.declared.location.Places.{Places}
 use Rattle.program.specs.declared.location.Located.{Located}
 use Rattle.program.specs.declared.frame.Frame.{Frame}
 use Rattle.program.specs.Program as P
-use Rattle.program.specs.Code.{Code, chain, number, operator, decoded, Formed, operatorOf, codeOf, codeAt, Codes, codesOf, treeIn, Arrays}
+use Rattle.program.specs.Code.{chain, number, operator, decoded, Formed, operatorOf, codeOf, codeAt, Codes, codesOf, treeIn, Arrays}
 use Rattle.program.specs.Stored.{termIn, testIn, expressionIn, ruleIn, rulesIn}
 use Rattle.program.specs.Terms.{TestTerms, RuleTerms, SlotTerms, TermInside, TermFormed, TermPlaced, TestPlaced, RulePlaced, SlotPlaced}
 use Rattle.program.specs.Kept.{stepsIn, AllLocated}
@@ -104,7 +104,8 @@ pub record Agree (k : Codes) (places : List ℕ) (k′ : Codes) (places′ : Lis
 
 module _ {k : Codes} {places : List ℕ} {k′ : Codes} {places′ : List ℕ} {n : ℕ} (a : Agree k places k′ places′ n) where
   codes-same : (from to : ℕ) → to ≤ n → codesOf k from to ≡ codesOf k′ from to
-  codes-same from to h = codes-agree (k .kinds) (k′ .kinds) (k .numbers) (k′ .numbers) (k .chains) (k′ .chains) from (to - from) (λ j l b. a .same-codes j (omega arith))
+  codes-same from to h =
+      codes-agree (k .kinds) (k′ .kinds) (k .numbers) (k′ .numbers) (k .chains) (k′ .chains) from (to - from) (λ j l b. a .same-codes j (omega arith))
 
   -- the rules are the same
   term-same : (x : Term) → TermInside n x → termIn k x ≡ termIn k′ x
@@ -154,18 +155,21 @@ module _ {k : Codes} {places : List ℕ} {k′ : Codes} {places′ : List ℕ} {
   chain-same i l h = code-chain (getD (k .kinds) i 0) (getD (k .numbers) i (pos 0)) (getD (k .chains) i 0) _ (a .same-codes i l ∙ chain-at k′ i h)
 
   module _ (Q : Location → List ℕ → Type 0) where
-    term-placed : (x : Term) → TermInside n x → (at : Location) → TermPlaced Q (k .kinds) (k .chains) places at x → TermPlaced Q (k′ .kinds) (k′ .chains) places′ at x
+    term-placed : (x : Term) → TermInside n x → (at : Location)
+        → TermPlaced Q (k .kinds) (k .chains) places at x → TermPlaced Q (k′ .kinds) (k′ .chains) places′ at x
     term-placed (Chain w) t at h = h
     term-placed (Number z) t at h = tt
     term-placed (Tree from to) t at h = λ i f l e.
         let c = chain-same i (omega arith) e in
         rw (a .same-places i (omega arith), ← c .1) (h i f l (c .0))
 
-    test-placed : (x : Test) → TestTerms (TermInside n) x → (at : Places) → TestPlaced Q (k .kinds) (k .chains) places at x → TestPlaced Q (k′ .kinds) (k′ .chains) places′ at x
+    test-placed : (x : Test) → TestTerms (TermInside n) x → (at : Places)
+        → TestPlaced Q (k .kinds) (k .chains) places at x → TestPlaced Q (k′ .kinds) (k′ .chains) places′ at x
     test-placed Always t at h = tt
     test-placed (When x c y) t at h = (term-placed x (t .0) (at .first) (h .0), term-placed y (t .1) (at .second) (h .1))
 
-    rule-placed : (x : Rule) → RuleTerms (TermInside n) x → (at : Places) → RulePlaced Q (k .kinds) (k .chains) places at x → RulePlaced Q (k′ .kinds) (k′ .chains) places′ at x
+    rule-placed : (x : Rule) → RuleTerms (TermInside n) x → (at : Places)
+        → RulePlaced Q (k .kinds) (k .chains) places at x → RulePlaced Q (k′ .kinds) (k′ .chains) places′ at x
     rule-placed (Set f x) t at h = term-placed x t (at .first) h
     rule-placed (Combine f op x y) t at h = (term-placed x (t .0) (at .first) (h .0), term-placed y (t .1) (at .second) (h .1))
     rule-placed (Remote sort f c x) t at h = (h .0, term-placed x t (at .second) (h .1))
@@ -182,7 +186,8 @@ module _ {k : Codes} {places : List ℕ} {k′ : Codes} {places′ : List ℕ} {
   pub all-placed : (slots : List Located) (fs : List Frame) → Each (SlotKept k n) slots → AllPlaced k places slots fs → AllPlaced k′ places′ slots fs
   all-placed slots [] p h = tt
   all-placed slots (f ∷ fs) p h = (
-    each-placed (WordPlaced (facts (f .plan)) (f .wanted)) (take (f .rules) (take 32 slots)) (each-take (SlotKept k n) (f .rules) (take 32 slots) (each-take (SlotKept k n) 32 slots p)) (h .0),
+    each-placed (WordPlaced (facts (f .plan)) (f .wanted)) (take (f .rules) (take 32 slots))
+        (each-take (SlotKept k n) (f .rules) (take 32 slots) (each-take (SlotKept k n) 32 slots p)) (h .0),
     all-placed (drop 32 slots) fs (each-drop (SlotKept k n) 32 slots p) (h .1),
   )
 
@@ -192,6 +197,6 @@ pub all-located : (k : Codes) (places : List ℕ) (n : ℕ) → Arrays (k .kinds
 all-located k places n a slots [] p h = tt
 all-located k places n a slots (f ∷ fs) p h = (
   each-both _ _ _ (λ y q. slot-located (facts (f .plan)) (f .wanted) k places n a y (slot-map (λ t w. w .1) (y .slot) q) (slot-inside k n (y .slot) q))
-  (take (f .rules) (take 32 slots)) (each-take (SlotKept k n) (f .rules) (take 32 slots) (each-take (SlotKept k n) 32 slots p)) (h .0),
+      (take (f .rules) (take 32 slots)) (each-take (SlotKept k n) (f .rules) (take 32 slots) (each-take (SlotKept k n) 32 slots p)) (h .0),
   all-located k places n a (drop 32 slots) fs (each-drop (SlotKept k n) 32 slots p) (h .1),
 )

@@ -9,14 +9,13 @@ use native.Mathlib.Numerals.{add-one}
 use borrow.Author.Tests.{ltb-true, leb-true, le-ltb, not-true}
 use lib.ListN.{length, getD, take, drop, set, length-set}
 use lib.Seq.{length-take-le, take-suc-set}
-use Rattle.register.specs.Shape.{Limits}
 use Rattle.register.specs.declared.Sizes.{Sizes}
 use Rattle.laws.specs.Lists.{Each}
 use Rattle.laws.proofs.Bools.{and-both, true-false}
 use Rattle.plan_lines.specs.Held.{HoldsLines, Added, planOf}
 use Rattle.plan_lines.proofs.Appending.{holds-count}
 use Rattle.text_syntax.specs.Written as W
-use Rattle.text_syntax.specs.Written.{Line, step, end, done, loop, rule}
+use Rattle.text_syntax.specs.Written.{step, end, done, loop, rule}
 use Rattle.program.specs.declared.rule.Rule as C
 use Rattle.program.specs.declared.rule.Rule.the-variants.{Set, Combine, Remote}
 use Rattle.program.specs.declared.rule.Sort.the-variants.{Least, Total}
@@ -183,7 +182,8 @@ module _ (s : Sizes) {k : Codes} {places : List ℕ} {n : ℕ} {slots : List Loc
 
     module _ (z : Slot) (is : ruleIn k z ≡ writtenRule u a) (formed : SlotTerms (TermFormed k) z) (from : SlotTerms (TermFrom n) z)
         {m : ℕ} (l : n ≤ m) (inside : SlotTerms (TermInside m) z)
-        {q : Added} {wanted′ : List Bool} {places′ : List ℕ} {at : Locations} (w : RulePlanned (k .kinds) (k .chains) z p wanted places q wanted′ places′ at) where
+        {q : Added} {wanted′ : List Bool} {places′ : List ℕ} {at : Locations}
+        (w : RulePlanned (k .kinds) (k .chains) z p wanted places q wanted′ places′ at) where
       agree : Agree k places k places′ n
       agree = record { same-codes = λ j e. refl; same-places = w .finds .below n from }
 

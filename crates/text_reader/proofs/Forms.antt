@@ -2,7 +2,6 @@
 use Prim.Native.Nat.{ℕ}
 use mathlib.Core.Path.{_≡_, refl, ap, subst}
 use mathlib.Core.Bool.{Bool}
-use mathlib.Core.List.{List, [], _∷_, _++_}
 use mathlib.Core.Option.{some}
 use native.Mathlib.Omega.{arith}
 use Rattle.register.specs.declared.Sizes.{Sizes}
@@ -34,7 +33,8 @@ module _ (s : Sizes) where
   unfolding expressionReadings
   expression-short (P.reading w) p = (p .short, tt)
   expression-short (P.constant z) p = tt
-  expression-short (P.operation op x y) p = each-append _ (expressionReadings x) (expressionReadings y) (expression-short x (p .0 .0)) (expression-short y (p .1 .0))
+  expression-short (P.operation op x y) p =
+      each-append _ (expressionReadings x) (expressionReadings y) (expression-short x (p .0 .0)) (expression-short y (p .1 .0))
 
   test-short : (t : P.Test) → TestPasses s t → Short (testReadings t)
   unfolding testReadings

@@ -32,7 +32,8 @@ module _ (slots : List Located) (s k : ℕ) (x : Located) (h : k < 32) (b : 32 *
 
 -- the steps that the arrays hold: a rule stored behind them leaves them as they are
 module _ (codes : Codes) where
-  pub store-steps : (slots : List Located) (fs : List Frame) (k : ℕ) (x : Located) → stepsIn codes (set slots (32 * length fs + k) x) fs ≡ stepsIn codes slots fs
+  pub store-steps : (slots : List Located) (fs : List Frame) (k : ℕ) (x : Located)
+      → stepsIn codes (set slots (32 * length fs + k) x) fs ≡ stepsIn codes slots fs
   unfolding stepsIn
   store-steps slots [] k x = refl
   store-steps slots (f ∷ fs) k x =
@@ -44,7 +45,8 @@ module _ (codes : Codes) where
 
   -- and stands behind the rules of the open step
   pub store-rule : (slots : List Located) (s k : ℕ) (x : Located) → k < 32 → 32 * s + 32 ≤ length slots
-      → rulesIn codes (k + 1) (take 32 (drop (32 * s) (set slots (32 * s + k) x))) ≡ rulesIn codes k (take 32 (drop (32 * s) slots)) ++ (ruleIn codes (x .slot) ∷ [])
+      → rulesIn codes (k + 1) (take 32 (drop (32 * s) (set slots (32 * s + k) x)))
+      ≡ rulesIn codes k (take 32 (drop (32 * s) slots)) ++ (ruleIn codes (x .slot) ∷ [])
   unfolding rulesIn
   store-rule slots s k x h b = rw (store-place slots s k x h b, map-append)
 
@@ -74,7 +76,8 @@ module _ (codes : Codes) where
 
   -- the same, with the place counted back from the number of steps
   module _ (slots : List Located) (fs : List Frame) (n : ℕ) (d : Frame) (p : 1 ≤ n) where
-    pub close-frames : n ≤ length fs → stepsIn codes slots (take n (set fs (n - 1) (lastFrame (getD fs (n - 1) d)))) ≡ closeLoop (stepsIn codes slots (take n fs))
+    pub close-frames : n ≤ length fs
+        → stepsIn codes slots (take n (set fs (n - 1) (lastFrame (getD fs (n - 1) d)))) ≡ closeLoop (stepsIn codes slots (take n fs))
     close-frames h =
         let at : n ≡ suc (n - 1) = omega arith in
         subst⁻¹ (λ (m : ℕ). stepsIn codes slots (take m (set fs (n - 1) (lastFrame (getD fs (n - 1) d)))) ≡ closeLoop (stepsIn codes slots (take m fs))) at
@@ -82,7 +85,8 @@ module _ (codes : Codes) where
 
 -- what is placed of their rules, the same way
 module _ (codes : Codes) (places : List ℕ) where
-  pub store-placed : (slots : List Located) (fs : List Frame) (k : ℕ) (x : Located) → AllPlaced codes places slots fs → AllPlaced codes places (set slots (32 * length fs + k) x) fs
+  pub store-placed : (slots : List Located) (fs : List Frame) (k : ℕ) (x : Located) → AllPlaced codes places slots fs
+      → AllPlaced codes places (set slots (32 * length fs + k) x) fs
   store-placed slots [] k x h = tt
   store-placed slots (f ∷ fs) k x h =
       let at : 32 * length (f ∷ fs) + k ≡ 32 + (32 * length fs + k) = omega arith in (

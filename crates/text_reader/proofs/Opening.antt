@@ -19,7 +19,7 @@ use Rattle.program.specs.Program.{Rule, ruleReadings, readings, stepPlan}
 use Rattle.program.specs.Code.{Codes}
 use Rattle.program.specs.Stored.{ruleIn}
 use Rattle.program.specs.Terms.{SlotTerms, TermFormed, SlotPlaced}
-use Rattle.text_plan.specs.Readings.{slotWords, Sound, PlannedWith}
+use Rattle.text_plan.specs.Readings.{slotWords, Sound}
 use Rattle.text_plan.specs.Listed.{RulePlanned}
 use Rattle.text_plan.proofs.Plans.{slot-words}
 use Rattle.text_plan.proofs.Placing.{WordPlaced, placed-old, placed-new}

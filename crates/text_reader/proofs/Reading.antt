@@ -15,11 +15,10 @@ use Rattle.laws.specs.Outcome.{Outcome, refused, unless, after}
 use Rattle.laws.specs.Outcome as O
 use Rattle.register.specs.declared.Sizes.{Sizes}
 use Rattle.plan_lines.specs.Held.{HoldsLines, Added}
-use Rattle.text_syntax.specs.Written.{Line, step, end, done, rule}
+use Rattle.text_syntax.specs.Written.{Line, step, end, done}
 use Rattle.text_syntax.specs.Lexing.{tokens}
 use Rattle.text_syntax.specs.Grammar.{lineForm}
 use Rattle.text_rules.specs.declared.line.Checks.{Checks}
-use Rattle.text_rules.specs.declared.line.LineRead.{LineRead}
 use Rattle.text_rules.specs.declared.line.LineRead.the-variants as L
 use Rattle.text_rules.specs.LineRead.{Reads}
 use Rattle.text_expressions.specs.Codes.{Arrays}
@@ -50,7 +49,7 @@ use Rattle.program.specs.declared.Program as C
 use Rattle.program.specs.declared.frame.Frame.{Frame}
 use Rattle.text_state.specs.declared.state.State as S
 use Rattle.text_reader.proofs.Lists.{each-replicate}
-use Rattle.text_reader.proofs.Agreeing.{slot-map, SlotKept, inside-more, Agree, all-located}
+use Rattle.text_reader.proofs.Agreeing.{slot-map, SlotKept, inside-more, all-located}
 use Rattle.text_reader.proofs.Opening.{open-none}
 use Rattle.text_reader.proofs.Forms.{rule-short, step-form, end-form, done-form, loop-form, no-form, Written, rule-form, codes-kept}
 use Rattle.text_reader.proofs.Arms.{Behind, behind-same, behind-more, at-step, at-loop, at-rule, at-end, at-done, rule-steps, rule-rules, end-steps, end-none, end-count, done-steps}
@@ -262,7 +261,8 @@ module _ {s : Sizes} (lim : Limits s) {t : List ℕ} {plan : Added} {wanted : Li
           (advanceOf x m (r .line)) (advance (q .state) (p .form))
       arm-rule h =
           rw (e, written .line-is)
-          (at-rule s (q .reached) (q .stands) same m (written .clean) y (written .rule-is) (written .formed) (written .behind) (p .more-codes) (written .inside) h ch)
+          (at-rule s (q .reached) (q .stands) same m (written .clean) y (written .rule-is) (written .formed) (written .behind)
+          (p .more-codes) (written .inside) h ch)
 
     -- the count of the open step's plan, which its `end` asks for
     pub end-lines : p .form ≡ end → plan .plan .count ≡ length (stepPlan (openRules (q .state)))
@@ -287,10 +287,10 @@ module _ {s : Sizes} (lim : Limits s) {t : List ℕ} {plan : Added} {wanted : Li
   })
 
 -- the answer with a refusal, and with the program
-pub answer-refused : {o : Outcome Program} (k : Codes) (places : List ℕ) (n i : ℕ) (p : C.Program) → (n ≡ 0 → ⊥) → o ≡ refused n i
+pub answer-refused : {k : Codes} {places : List ℕ} {o : Outcome Program} (n i : ℕ) (p : C.Program) → (n ≡ 0 → ⊥) → o ≡ refused n i
     → Answers k places o (record { refusal = n; line = i; program = p })
 unfolding checkOutcome
-answer-refused k places n i p h e = record { outcome-is = refuse-none n i (O.done (programOf k p)) h ∙ sym e; complete = λ z. absurd (h z) }
+answer-refused {k} n i p h e = record { outcome-is = refuse-none n i (O.done (programOf k p)) h ∙ sym e; complete = λ z. absurd (h z) }
 
 module _ {s : Sizes} {t : List ℕ} {plan : Added} {wanted : List Bool} {a : Arrays} {places : List ℕ} {slots : List Located}
     {frames : List Frame} {x : S.State} {n at i : ℕ} (q : Read s t plan wanted a places slots frames x n at i) where

@@ -55,8 +55,8 @@ behind c = let l = c .read-first .last in arrays (l .1 .1 .1 .1 .0) (l .1 .1 .1 
 
 passed : (c : tie.Else1 Inv-loop μ-loop) → Passes (sizes c) (so-far c .loop .inv .0) (behind (read-at c)) (read-at c .read-first .result)
 passed c =
-    passes (sizes c) (so-far c .loop .inv .0) (read-at c .read-first .result) (line-at c .line-end .ensures) (c .before .before .before .before .before .before .before .before .before .before .before .before .before .loop-test .taken)
-    (read-at c .read-first .ensures) (sym (c .before .before .refusal .ensures) ∙ c .if1 .left)
+    passes (sizes c) (so-far c .loop .inv .0) (read-at c .read-first .result) (line-at c .line-end .ensures)
+    (line-at c .before .loop-test .taken) (read-at c .read-first .ensures) (sym (c .before .before .refusal .ensures) ∙ c .if1 .left)
 
 -- a rule's line, from where its readings are planned
 abbrev rule-line : (c : tie.After-plan-rule-arg10 Inv-loop μ-loop) → tie.After-read Inv-loop μ-loop
@@ -191,8 +191,7 @@ plan-rule-requires c κs =
     let e = rule-line c .read .given .1 in
     let o = so-far d .loop .inv .0 .behind .opened in
     let l = lent-read (read-at d) in
-    let t = entry d .pre .1 in
-    (
+    let t = entry d .pre .1 in (
       (o .sound, arm-short (limits d) (passed d) 0 e, o .marks),
       (
         arm-inside (limits d) (passed d) 0 e t (l .kinds-length),
@@ -277,22 +276,26 @@ loop-again c =
 refusal-or-last-requires : tie.Need-refusal-or-last-requires Inv-loop μ-loop
 refusal-or-last-requires c κs = tt
 
+-- the lent arrays go back as long as they were
+abbrev begins : (c : tie.After-refusal-or-last Inv-loop μ-loop) → tie.Start Inv-loop μ-loop
+begins c = c .before .before .before .before .before .before .before .before .before .before .before
+
 same-length : tie.Need-same-length Inv-loop μ-loop
-same-length c = lent-left (c .before .before) .kinds-length ∙ sym (c .before .before .before .before .before .before .before .before .before .before .before .pre .5 .kinds-length)
+same-length c = lent-left (c .before .before) .kinds-length ∙ sym (begins c .pre .5 .kinds-length)
 
 same-length-2 : tie.Need-same-length-2 Inv-loop μ-loop
-same-length-2 c = lent-left (c .before .before) .numbers-length ∙ sym (c .before .before .before .before .before .before .before .before .before .before .before .pre .5 .numbers-length)
+same-length-2 c = lent-left (c .before .before) .numbers-length ∙ sym (begins c .pre .5 .numbers-length)
 
 same-length-3 : tie.Need-same-length-3 Inv-loop μ-loop
-same-length-3 c = lent-left (c .before .before) .chains-length ∙ sym (c .before .before .before .before .before .before .before .before .before .before .before .pre .5 .chains-length)
+same-length-3 c = lent-left (c .before .before) .chains-length ∙ sym (begins c .pre .5 .chains-length)
 
 same-length-4 : tie.Need-same-length-4 Inv-loop μ-loop
-same-length-4 c = lent-left (c .before .before) .places-length ∙ sym (c .before .before .before .before .before .before .before .before .before .before .before .pre .5 .places-length)
+same-length-4 c = lent-left (c .before .before) .places-length ∙ sym (begins c .pre .5 .places-length)
 
 returns : tie.Need-returns Inv-loop μ-loop
 returns c =
     let l = c .before .before .before in
-    let s = l .before .before .before .before .before .before .before .before in
+    let s = begins c in
     ⊎-elim
     (λ w.
     rw (c .refusal-or-last .ensures, w .1, w .2, w .3, w .4, l .loop .inv .1, or-none 0 _ refl) (answer-read (l .loop .inv .0) (s .pre .1) (w .0 .left)))
@@ -300,7 +303,7 @@ returns c =
     let stop = stopped (s .args .sizes) (l .loop .inv .0) (w .5 .result) (w .1 .ensures) (w .0 .taken) (w .5 .ensures)
     (λ z. w .13 .taken (w .11 .ensures ∙ z)) in
     rw (c .refusal-or-last .ensures, w .17, or-first _ _ (w .13 .taken))
-    (answer-refused _ _ (w .11 .result) _ _ (w .13 .taken) (stop ∙ ap (λ (n : ℕ). refused n _) (sym (w .11 .ensures)))))
+    (answer-refused (w .11 .result) _ _ (w .13 .taken) (stop ∙ ap (λ (n : ℕ). refused n _) (sym (w .11 .ensures)))))
     (c .before .before .loop-test .came)
 
 pub read-program-spec : {M : Type 1} → statement M
