@@ -11,7 +11,7 @@ returns : tie.Need-returns
 returns c =
     let d = c .before .before .before .before in
     let a = d .args in
-    next-none (a .sizes) (now (a .text)) (a .at) (a .end) (a .count) (d .pre .2) (d .pre .3) _ _ (c .if1 .taken)
+    next-none (a .sizes) (now (a .text)) (a .at) (a .end) (a .count) (d .pre .2) (d .pre .3) _ _ (omega (arith, c .if1 .taken))
 
 sub-read-line : tie.Need-sub-read-line
 sub-read-line c = search needs
