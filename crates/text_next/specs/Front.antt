@@ -1,6 +1,5 @@
 -- The first line of a text: what stands before its first byte 10, its form, and what is read of it.
 use Prim.Native.Nat.{ℕ, _≤_}
-use mathlib.Core.Path.{_≡_}
 use mathlib.Core.Bool.{Bool, cond}
 use mathlib.Core.List.{List}
 use mathlib.Core.Option.{Option, none}

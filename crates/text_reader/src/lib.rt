@@ -10,7 +10,7 @@ ghost use Rattle.program.specs.Code.{codesKept};
 ghost use Rattle.register.specs.Shape.{Limits};
 ghost use Rattle.text_rules.specs.Text.{lines, start as startOf, readFrom};
 ghost use Rattle.text_state.specs.State.{frameOf};
-ghost use Rattle.text_reader.specs.Answers.{CodeArrays, Answers};
+ghost use Rattle.text_reader.specs.Answers.{emptySlot, CodeArrays, Answers};
 use plan_lines::Plan;
 use program::Program;
 use program::frame::Frame;
@@ -37,7 +37,9 @@ pub struct Checked {
 }
 
 // A place that holds no rule.
-fn empty_slot() -> Located {
+fn empty_slot() -> Located
+    ensures { λ r. ⌜ r .slot ≡ emptySlot ⌝ }
+{
     let slot = Slot {
         test: Test::Always,
         rule: Rule::Set(0, Term::Number(0)),
