@@ -1,10 +1,9 @@
 -- Rules that were read to the end of the line.
-use Prim.Native.Nat.{ℕ, _+_, _≤_}
-use mathlib.Core.Path.{_≡_, sym, ap, ap₂, subst, _∙_}
-use mathlib.Core.Bool.{Bool, true, false, _&&_}
+use Prim.Native.Nat.{ℕ}
+use mathlib.Core.Path.{_≡_, sym, ap, _∙_}
+use mathlib.Core.Bool.{true, false, _&&_}
 use mathlib.Core.List.{List, _∷_}
 use native.Mathlib.Omega.{arith}
-use lib.ListN.{length}
 use Rattle.register.specs.Shape.{Limits}
 use Rattle.register.specs.declared.Sizes.{Sizes}
 use Rattle.chain_text.specs.Text.{names, letterField, isReferenceLetter}
@@ -26,9 +25,9 @@ use Rattle.text_expressions.specs.Term.{partsOf}
 use Rattle.text_expressions.specs.Codes.{Arrays, Roomy}
 use Rattle.text_expressions.specs.Reading.{ExpressionFormed}
 use Rattle.text_lines.specs.Word.{isEmpty, Assigned}
-use Rattle.text_lines.specs.Checks.{summaryChecks, termChecks, bothChecks, withKinds, sentKinds, actionChecks}
+use Rattle.text_lines.specs.Checks.{summaryChecks, termChecks, bothChecks, withKinds, sentKinds}
 use Rattle.text_lines.specs.Side.{ruleHeld, codesLeft, SideFormed}
-use Rattle.text_lines.specs.Action.{ActionHeld, ActionFormed, ActionAt}
+use Rattle.text_lines.specs.Action.{ActionFormed, ActionAt}
 use Rattle.text_lines.specs.declared.action.ActionRead.{ActionRead}
 use Rattle.text_lines.specs.declared.action.ActionRead.the-variants.{Action as ActionParts, NoForm}
 use Rattle.text_lines.proofs.Passing.{both-pass, kinds-pass, set-checks, remote-checks}

@@ -1,6 +1,6 @@
 -- An expression that was read, as a term.
-use Prim.Native.Nat.{ℕ, _+_, _≤_, _<_}
-use mathlib.Core.Path.{_≡_, ap, _∙_}
+use Prim.Native.Nat.{ℕ, _≤_, _<_}
+use mathlib.Core.Path.{_≡_, ap}
 use mathlib.Core.Bool.{true, not, _&&_}
 use mathlib.Core.List.{List}
 use native.Mathlib.Omega.{arith}
@@ -30,8 +30,7 @@ module _ {s : Sizes} {line : List ℕ} {at : ℕ} {a b : Arrays} {count : ℕ} {
   -- its codes stand in the arrays
   pub codes-inside : length (b .kinds) ≤ 65536 → (count < 65536) × (to < 65536) × InArrays b to
   codes-inside h =
-      let r = w .roomy in
-      (
+      let r = w .roomy in (
         omega (arith, r .kinds, w .inside, w .more-codes),
         omega (arith, r .kinds, w .inside),
         record {

@@ -1,4 +1,4 @@
--- Codes in the arrays are the terms and rules of the expressions that they are written for.
+-- Codes in the arrays are the terms of the expressions that they are written for.
 use Prim.Native.Nat.{ℕ, _+_, _-_, _≤_, _<_}
 use mathlib.Core.Path.{_≡_, refl, sym, ap, subst, _∙_}
 use mathlib.Core.Logic.{_⊎_, inl, inr}
@@ -6,7 +6,7 @@ use mathlib.Core.Bool.{Bool, true, false, cond}
 use mathlib.Core.List.{List, [], _∷_, _++_}
 use native.Mathlib.Omega.{arith}
 use lib.Dec.{eqb}
-use lib.IntN.{ℤ, pos}
+use lib.IntN.{ℤ}
 use lib.ListN.{length, getD, length-append}
 use borrow.Author.Tests.{eqb-true}
 use Rattle.laws.proofs.Bools.{cond-both}
@@ -30,8 +30,7 @@ postfix-some : (e : P.Expression) → 1 ≤ length (postfix e)
 unfolding postfix
 postfix-some (P.reading w) = omega arith
 postfix-some (P.constant z) = omega arith
-postfix-some (P.operation o x y) =
-    omega (arith, postfix-some x, length-append (postfix x) (postfix y ++ (operator o ∷ [])))
+postfix-some (P.operation o x y) = omega (arith, postfix-some x, length-append (postfix x) (postfix y ++ (operator o ∷ [])))
 
 -- one code is that of a reading or a constant
 abbrev CodeOf : Code → P.Expression → Type 0

@@ -9,7 +9,7 @@ use Rattle.laws.proofs.Bools.{and-both}
 use Rattle.chain_text.specs.Text.{names, isReferenceLetter}
 use Rattle.program.specs.declared.rule.Sort.{Sort}
 use Rattle.text_syntax.specs.Written.{Expression, term, chain, set, remote}
-use Rattle.text_syntax.specs.Parts.{everyTerm, isReferenceTerm, isReference, isMeasure, oneKind, sameKind, depth, operators, termNamed, termKinded, termShort, termInRange}
+use Rattle.text_syntax.specs.Parts.{everyTerm, termNamed, termKinded, termShort, termInRange, isReferenceTerm, isReference, isMeasure, oneKind, sameKind, depth, operators}
 use Rattle.text_syntax.specs.Flat as F
 use Rattle.text_syntax.specs.Flat.{summary}
 use Rattle.text_rules.specs.declared.line.Checks.{Checks}
@@ -52,8 +52,7 @@ both-pass a b h =
     let s = and-both (a .short) (b .short) (p .short) in
     let r = and-both (a .ranged) (b .ranged) (p .ranged) in
     let d = and-both (a .shallow) (b .shallow) (p .shallow) in
-    let f = and-both (a .few) (b .few) (p .few) in
-    (
+    let f = and-both (a .few) (b .few) (p .few) in (
       passed-all a (record { named = n .0; kinded = i .0; short = s .0; ranged = r .0; shallow = d .0; few = f .0 }),
       passed-all b (record { named = n .1; kinded = i .1; short = s .1; ranged = r .1; shallow = d .1; few = f .1 }),
     )

@@ -1,5 +1,5 @@
 -- The local rule of codes that are those of an expression, and the remote rule of its term.
-use Prim.Native.Nat.{ℕ, suc, _+_, _-_, _≤_}
+use Prim.Native.Nat.{ℕ, _+_, _-_, _≤_}
 use mathlib.Core.Path.{_≡_, refl, sym, ap, ap₂, subst, _∙_}
 use mathlib.Core.Logic.{_≢_}
 use mathlib.Core.Bool.{Bool, true, false, cond}
@@ -9,7 +9,7 @@ use lib.Dec.{eqb}
 use lib.IntN.{ℤ}
 use lib.ListN.{getD, length}
 use borrow.Author.Tests.{eqb-true, eqb-false, leb-true, le-ltb}
-use Rattle.laws.proofs.Bools.{cond-both, and-both}
+use Rattle.laws.proofs.Bools.{cond-both}
 use Rattle.register.specs.Shape.{Limits}
 use Rattle.register.specs.declared.Sizes.{Sizes}
 use Rattle.chain.specs.Word.{unpack}
@@ -20,11 +20,11 @@ use Rattle.program.specs.declared.rule.Rule.the-variants.{Set, Combine, Remote}
 use Rattle.program.specs.declared.term.Term.{Term}
 use Rattle.program.specs.declared.term.Term.the-variants.{Chain, Number}
 use Rattle.program.specs.Program as P
-use Rattle.program.specs.Code.{Code, postfix, operatorOf, codesFrom}
+use Rattle.program.specs.Code.{postfix, operatorOf, codesFrom}
 use Rattle.program.specs.Stored.{targetIn, expressionIn}
 use Rattle.program.specs.Terms.{TermFormed, TermFrom, TermInside}
-use Rattle.text_syntax.specs.Written.{Expression, chain, term, set, remote}
-use Rattle.text_syntax.specs.Parts.{everyTerm, termNamed, termKinded, termShort}
+use Rattle.text_syntax.specs.Written.{Expression, chain, set, remote}
+use Rattle.text_syntax.specs.Parts.{termNamed, termKinded, termShort}
 use Rattle.text_syntax.specs.Tree.{treeOf, targetOf, sourceOf}
 use Rattle.text_rules.specs.LineRead.{allPass}
 use Rattle.text_expressions.specs.declared.term.TermParts.{TermParts}
@@ -45,10 +45,11 @@ three-between b from to q =
     ap (codesFrom (b .kinds) (b .numbers) (b .chains) from) n
     ∙ ap₂ (λ (i j : ℕ). codeIn b from ∷ codeIn b i ∷ codeIn b j ∷ []) (omega arith) (omega arith)
 
-plain : (b : Arrays) (Q : Term → Type 0) → ((w : ℕ) → Q (Chain w)) → ((z : ℤ) → Q (Number z)) → (i j : ℕ) → Q (singleIn b i) × Q (singleIn b j)
-plain b Q c n i j = (single-plain b Q c n i, single-plain b Q c n j)
+-- two single terms are no trees
+singles-plain : (b : Arrays) (Q : Term → Type 0) → ((w : ℕ) → Q (Chain w)) → ((z : ℤ) → Q (Number z)) → (i j : ℕ) → Q (singleIn b i) × Q (singleIn b j)
+singles-plain b Q c n i j = (single-plain b Q c n i, single-plain b Q c n j)
 
--- where the codes of one term are given back, those of two are not
+-- behind `:=`, the codes of one term or of two are given back
 left-once : (from to : ℕ) → to ≢ from + 3 → codesLeft from to 1 ≡ codesLeft from (codesLeft from to 1) 3
 unfolding codesLeft
 left-once from to n =
@@ -57,7 +58,8 @@ left-once from to n =
 left-pair : (from to : ℕ) → to ≡ from + 3 → from ≡ codesLeft from (codesLeft from to 1) 3
 left-pair from to e = left-same from (codesLeft from to 1) 3 (sym (left-more from to 1 (λ q. omega (arith, e, q))) ∙ e)
 
-module _ {a b : Arrays} {from to : ℕ} (f : ℕ) {e : Expression} (l : from ≤ to) (h : codesBetween b from to ≡ postfix (treeOf e)) (kept : KeptBefore a b from) where
+module _ {a b : Arrays} {from to : ℕ} (f : ℕ) {e : Expression} (l : from ≤ to) (h : codesBetween b from to ≡ postfix (treeOf e))
+    (kept : KeptBefore a b from) where
   pair-held : to ≡ from + 3 → ActionHeld a b from from (set f e)
       (Combine (letterField f) (operatorOf (getD (b .kinds) (from + 2) 0)) (singleIn b from) (singleIn b (from + 1)))
   unfolding targetIn targetOf expressionIn sourceOf
@@ -66,9 +68,9 @@ module _ {a b : Arrays} {from to : ℕ} (f : ℕ) {e : Expression} (l : from ≤
       record {
         target-is = refl;
         expression-is = rw (operator-is b (from + 2) (p .last), single-is b from (p .x) (p .first), single-is b (from + 1) (p .y) (p .second)) (sym (p .is));
-        formed = plain b (TermFormed (codesFor b)) (λ w. tt) (λ z. tt) from (from + 1);
-        behind = plain b (TermFrom from) (λ w. tt) (λ z. tt) from (from + 1);
-        inside = plain b (TermInside from) (λ w. tt) (λ z. tt) from (from + 1);
+        formed = singles-plain b (TermFormed (codesFor b)) (λ w. tt) (λ z. tt) from (from + 1);
+        behind = singles-plain b (TermFrom from) (λ w. tt) (λ z. tt) from (from + 1);
+        inside = singles-plain b (TermInside from) (λ w. tt) (λ z. tt) from (from + 1);
         kept = kept;
       }
 

@@ -37,20 +37,23 @@ enum-told c = search needs
 
 read-target-requires : tie.Need-read-target-requires
 read-target-requires c κs =
-    let w = lexed _ _ _ (c .before .before .before .before .before .before .pre .1) (c .before .before .next-token .ensures) in
-    (c .before .before .before .before .before .before .pre .0, w .inside)
+    let n = c .before .before in
+    let i = n .before .before .before .before in
+    let w = lexed _ _ _ (i .pre .1) (n .next-token .ensures) in
+    (i .pre .0, w .inside)
 
 enum-known-letter : tie.Need-enum-known-letter
 enum-known-letter c = search needs
 
 read-sent-requires : tie.Need-read-sent-requires
 read-sent-requires c κs =
-    let n = c .before .before .before .before .before .before .before .before .before in
+    let l = c .before .before .before .before in
+    let n = l .before .before .before .before .before in
     let i = n .before .before .before .before in
     let p = i .pre in
     let w = lexed _ _ _ (p .1) (n .next-token .ensures) in
-    let t = subst (TargetAt _ _ _) (c .before .before .before .before .letter .given .1) (c .before .before .before .before .before .before .read-target .ensures) in
-    let v = behind-behind (goes-on w _ (c .before .before .before .before .before .before .before .enum-told .given .1) tt) (t .behind) in
+    let t = subst (TargetAt _ _ _) (l .letter .given .1) (l .before .before .read-target .ensures) in
+    let v = behind-behind (goes-on w _ (l .before .before .before .enum-told .given .1) tt) (t .behind) in
     (p .0, t .behind .inside, t .capital, roomy-later v (p .2), p .3)
 
 enum-told-2 : tie.Need-enum-told-2
@@ -71,7 +74,8 @@ returns c =
     let i = n .before .before .before .before in
     let w = lexed _ _ _ (i .pre .1) (n .next-token .ensures) in
     let e = c .before .before .before .before .before .before .before .before .before .before .token .given .1 in
-    action-from _ _ _ _ _ (goes-on w _ e tt) (ap actionForm (passed w e) ∙ action-local _ _) (c .before .before .before .before .before .read-local .result) (c .before .before .before .before .before .read-local .ensures)
+    let r = c .before .before .before .before .before in
+    action-from _ _ _ _ _ (goes-on w _ e tt) (ap actionForm (passed w e) ∙ action-local _ _) (r .read-local .result) (r .read-local .ensures)
 
 same-length-4 : tie.Need-same-length-4
 same-length-4 c = search needs
@@ -84,13 +88,15 @@ same-length-6 c = search needs
 
 returns-2 : tie.Need-returns-2
 returns-2 c =
-    let n = c .before .before .before .before .before .before .before .before .before .before .before .before .before .before .before in
+    let l = c .before .before .before .before .before .before .before .before .before .before in
+    let n = l .before .before .before .before .before in
     let i = n .before .before .before .before in
     let w = lexed _ _ _ (i .pre .1) (n .next-token .ensures) in
-    let e = c .before .before .before .before .before .before .before .before .before .before .before .before .before .enum-told .given .1 in
-    let t = subst (TargetAt _ _ _) (c .before .before .before .before .before .before .before .before .before .before .letter .given .1) (c .before .before .before .before .before .before .before .before .before .before .before .before .read-target .ensures) in
+    let e = l .before .before .before .enum-told .given .1 in
+    let t = subst (TargetAt _ _ _) (l .letter .given .1) (l .before .before .read-target .ensures) in
+    let r = c .before .before .before .before .before in
     action-from _ _ _ _ _ (behind-behind (goes-on w _ e tt) (t .behind))
-    (ap actionForm (passed w e) ∙ action-remote _ ∙ target-then (t .form-is)) (c .before .before .before .before .before .read-sent .result) (c .before .before .before .before .before .read-sent .ensures (t .inner) (t .parts-are))
+    (ap actionForm (passed w e) ∙ action-remote _ ∙ target-then (t .form-is)) (r .read-sent .result) (r .read-sent .ensures (t .inner) (t .parts-are))
 
 returns-3 : tie.Need-returns-3
 returns-3 c =

@@ -31,8 +31,10 @@ returns c =
 
 read-requires : tie.Need-read-requires
 read-requires c κs =
-    let p = c .before .before .before .before .before .before .before .before .before .before .pre in
-    let v = subst (PassesAssigned _ _) (c .before .before .before .before .start .given .1) (c .before .before .before .before .before .before .assigned .ensures) in
+    let s = c .before .before .before .before in
+    let i = s .before .before .before .before .before .before in
+    let p = i .pre in
+    let v = subst (PassesAssigned _ _) (s .start .given .1) (s .before .before .assigned .ensures) in
     (p .0, v .behind .inside, roomy-later (v .behind) (p .3))
 
 enum-known-seen : tie.Need-enum-known-seen
@@ -53,12 +55,14 @@ same-length-3 c = search needs
 returns-2 : tie.Need-returns-2
 returns-2 c =
     let r = c .before .before .before .before .before .before .before in
-    let v = subst (PassesAssigned _ _) (r .before .before .before .before .before .start .given .1) (r .before .before .before .before .before .before .before .assigned .ensures) in
+    let s = r .before .before .before .before .before in
+    let v = subst (PassesAssigned _ _) (s .start .given .1) (s .before .before .assigned .ensures) in
     no-action (local-none _ v (subst (ExpressionAt _ _ _ _ _ _) (c .enum-told2 .given .1) (r .read .ensures)))
 
 ends-requires : tie.Need-ends-requires
 ends-requires c κs =
-    let w = subst (ExpressionAt _ _ _ _ _ _) (c .before .seen .given .1) (c .before .before .before .before .before .before .before .before .read .ensures) in
+    let k = c .before in
+    let w = subst (ExpressionAt _ _ _ _ _ _) (k .seen .given .1) (k .before .before .before .before .before .before .before .read .ensures) in
     w .inside
 
 same-length-4 : tie.Need-same-length-4
@@ -74,12 +78,16 @@ returns-3 : tie.Need-returns-3
 returns-3 c =
     let k = c .before .before .before in
     let r = k .before .before .before .before .before .before .before in
-    let v = subst (PassesAssigned _ _) (r .before .before .before .before .before .start .given .1) (r .before .before .before .before .before .before .before .assigned .ensures) in
+    let s = r .before .before .before .before .before in
+    let v = subst (PassesAssigned _ _) (s .start .given .1) (s .before .before .assigned .ensures) in
     let w = subst (ExpressionAt _ _ _ _ _ _) (k .seen .given .1) (r .read .ensures) in
     record { none = whole-more _ (local-formed _ v (w .form-is)) (sym (c .before .ends .ensures) ∙ not-true _ (c .if1 .taken)) }
 
 field-of-requires : tie.Need-field-of-requires
-field-of-requires c κs = capital-low _ (c .before .before .before .before .before .before .before .before .before .before .before .before .before .before .before .before .before .before .before .before .before .pre .2)
+field-of-requires c κs =
+    let k = c .before .before .before in
+    let i = k .before .before .before .before .before .before .before .before .before .before .before .before .before .before .before .before .before .before in
+    capital-low _ (i .pre .2)
 
 set-in-requires : tie.Need-set-in-requires
 set-in-requires c κs =
@@ -91,8 +99,9 @@ set-in-requires c κs =
 
 names-field-requires : tie.Need-names-field-requires
 names-field-requires c κs =
-    let l = c .before .before .before .before .before .before .before .before .before .before .before .before .before .before .before .before .before .before .before .before .before .before .before .before .before .before .pre .0 in
-    (l .references≤, l .measures≤)
+    let k = c .before .before .before .before .before .before .before .before in
+    let i = k .before .before .before .before .before .before .before .before .before .before .before .before .before .before .before .before .before .before in
+    (i .pre .0 .references≤, i .pre .0 .measures≤)
 
 same-requires : tie.Need-same-requires
 same-requires c κs = search needs
@@ -113,8 +122,8 @@ codes-behind-set-requires c κs =
 
 same-length-7 : tie.Need-same-length-7
 same-length-7 c =
-    let r = c .before .before .before .before .before .before .before .before .before .before .before .before .before .before .before .before .before .before .before .before in
-    r .read .kept .1 .1 .1 .0
+    let k = c .before .before .before .before .before .before .before .before .before .before .before .before .before in
+    k .before .before .before .before .before .before .before .read .kept .1 .1 .1 .0
 
 same-length-8 : tie.Need-same-length-8
 same-length-8 c = search needs
@@ -127,13 +136,16 @@ unfolding isReferenceLetter
 returns-4 c =
     let k = c .before .before .before .before .before .before .before .before .before .before .before .before .before in
     let r = k .before .before .before .before .before .before .before in
-    let i = r .before .before .before .before .before .before .before .before .before .before .before in
-    let v = subst (PassesAssigned _ _) (r .before .before .before .before .before .start .given .1) (r .before .before .before .before .before .before .before .assigned .ensures) in
+    let s = r .before .before .before .before .before in
+    let i = s .before .before .before .before .before .before in
+    let v = subst (PassesAssigned _ _) (s .start .given .1) (s .before .before .assigned .ensures) in
     let w = subst (ExpressionAt _ _ _ _ _ _) (k .seen .given .1) (r .read .ensures) in
-    let f = c .before .before .before .before .before .before .before .before .before in
+    let n = c .before .before .before .before in
+    let f = n .before .before .before .before .before in
     local-read (i .pre .0) _ v w (sym (f .before .before .ends .ensures) ∙ not-false _ (f .before .if1 .left))
     (f .field-of .ensures) (c .before .before .before .before .before .set-in .ensures)
-    (c .before .with-kinds .ensures ∙ with-same (c .before .before .of-expression .ensures) (c .before .before .before .before .names-field .ensures) (c .before .before .before .same .ensures))
+    (c .before .with-kinds .ensures
+    ∙ with-same (c .before .before .of-expression .ensures) (n .names-field .ensures) (c .before .before .before .same .ensures))
     (c .codes-behind-set .ensures)
 
 pub read-local-spec : {M : Type 1} → statement M

@@ -28,8 +28,10 @@ returns c chain e = no-action (not-sent _ chain (subst (PassesWrite _ _) (c .enu
 
 read-requires : tie.Need-read-requires
 read-requires c κs =
-    let p = c .before .before .before .before .before .before .before .before .before .before .pre in
-    let v = subst (PassesWrite _ _) (c .before .before .before .before .sort .given .1) (c .before .before .before .before .before .before .write .ensures) in
+    let s = c .before .before .before .before in
+    let i = s .before .before .before .before .before .before in
+    let p = i .pre in
+    let v = subst (PassesWrite _ _) (s .sort .given .1) (s .before .before .write .ensures) in
     (p .0, v .behind .inside, roomy-later (v .behind) (p .3), p .4)
 
 enum-known-seen : tie.Need-enum-known-seen
@@ -50,12 +52,14 @@ same-length-3 c = search needs
 returns-2 : tie.Need-returns-2
 returns-2 c chain e =
     let r = c .before .before .before .before .before .before .before in
-    let v = subst (PassesWrite _ _) (r .before .before .before .before .before .sort .given .1) (r .before .before .before .before .before .before .before .write .ensures) in
+    let s = r .before .before .before .before .before in
+    let v = subst (PassesWrite _ _) (s .sort .given .1) (s .before .before .write .ensures) in
     no-action (sent-none _ chain v (subst (SideAt _ _ _ _ _ _) (c .enum-told2 .given .1) (r .read .ensures)))
 
 ends-requires : tie.Need-ends-requires
 ends-requires c κs =
-    let w = subst (SideAt _ _ _ _ _ _) (c .before .seen .given .1) (c .before .before .before .before .before .before .before .before .read .ensures) in
+    let k = c .before in
+    let w = subst (SideAt _ _ _ _ _ _) (k .seen .given .1) (k .before .before .before .before .before .before .before .read .ensures) in
     w .inside
 
 same-length-4 : tie.Need-same-length-4
@@ -71,17 +75,22 @@ returns-3 : tie.Need-returns-3
 returns-3 c chain e =
     let k = c .before .before .before in
     let r = k .before .before .before .before .before .before .before in
-    let v = subst (PassesWrite _ _) (r .before .before .before .before .before .sort .given .1) (r .before .before .before .before .before .before .before .write .ensures) in
+    let s = r .before .before .before .before .before in
+    let v = subst (PassesWrite _ _) (s .sort .given .1) (s .before .before .write .ensures) in
     let w = subst (SideAt _ _ _ _ _ _) (k .seen .given .1) (r .read .ensures) in
     record { none = whole-more _ (sent-formed _ chain v (w .form-is)) (sym (c .before .ends .ensures) ∙ not-true _ (c .if1 .taken)) }
 
 field-of-requires : tie.Need-field-of-requires
-field-of-requires c κs = capital-low _ (c .before .before .before .before .before .before .before .before .before .before .before .before .before .before .before .before .before .before .before .before .before .pre .2)
+field-of-requires c κs =
+    let k = c .before .before .before in
+    let i = k .before .before .before .before .before .before .before .before .before .before .before .before .before .before .before .before .before .before in
+    capital-low _ (i .pre .2)
 
 names-field-requires : tie.Need-names-field-requires
 names-field-requires c κs =
-    let l = c .before .before .before .before .before .before .before .before .before .before .before .before .before .before .before .before .before .before .before .before .before .before .pre .0 in
-    (l .references≤, l .measures≤)
+    let k = c .before .before .before .before in
+    let i = k .before .before .before .before .before .before .before .before .before .before .before .before .before .before .before .before .before .before in
+    (i .pre .0 .references≤, i .pre .0 .measures≤)
 
 sent-kinds-requires : tie.Need-sent-kinds-requires
 sent-kinds-requires c κs = search needs
@@ -100,30 +109,34 @@ with-kinds-requires c κs = search needs
 
 same-length-7 : tie.Need-same-length-7
 same-length-7 c =
-    let r = c .before .before .before .before .before .before .before .before .before .before .before .before .before .before .before .before .before .before in
-    r .read .kept .1 .1 .1 .0
+    let k = c .before .before .before .before .before .before .before .before .before .before .before in
+    k .before .before .before .before .before .before .before .read .kept .1 .1 .1 .0
 
 same-length-8 : tie.Need-same-length-8
 same-length-8 c =
-    let r = c .before .before .before .before .before .before .before .before .before .before .before .before .before .before .before .before .before .before in
-    r .read .kept .1 .1 .1 .1 .0
+    let k = c .before .before .before .before .before .before .before .before .before .before .before in
+    k .before .before .before .before .before .before .before .read .kept .1 .1 .1 .1 .0
 
 same-length-9 : tie.Need-same-length-9
 same-length-9 c =
-    let r = c .before .before .before .before .before .before .before .before .before .before .before .before .before .before .before .before .before .before in
-    r .read .kept .1 .1 .1 .1 .1 .0
+    let k = c .before .before .before .before .before .before .before .before .before .before .before in
+    k .before .before .before .before .before .before .before .read .kept .1 .1 .1 .1 .1 .0
 
 returns-4 : tie.Need-returns-4
 unfolding isReferenceLetter
 returns-4 c chain e =
     let k = c .before .before .before .before .before .before .before .before .before .before .before in
     let r = k .before .before .before .before .before .before .before in
-    let i = r .before .before .before .before .before .before .before .before .before .before .before in
-    let v = subst (PassesWrite _ _) (r .before .before .before .before .before .sort .given .1) (r .before .before .before .before .before .before .before .write .ensures) in
+    let s = r .before .before .before .before .before in
+    let i = s .before .before .before .before .before .before in
+    let v = subst (PassesWrite _ _) (s .sort .given .1) (s .before .before .write .ensures) in
     let w = subst (SideAt _ _ _ _ _ _) (k .seen .given .1) (r .read .ensures) in
-    let f = c .before .before .before .before .before .before .before in
+    let n = c .before .before .before .before .before .before in
+    let f = n .before in
     sent-read (i .pre .0) _ chain _ e v w (sym (f .before .before .ends .ensures) ∙ not-false _ (f .before .if1 .left)) (f .field-of .ensures)
-    (c .with-kinds .ensures ∙ with-same (c .before .both .ensures ∙ both-same (c .before .before .before .of-target .ensures) (c .before .before .of-expression .ensures)) (c .before .before .before .before .before .before .names-field .ensures)
+    (c .with-kinds .ensures
+    ∙ with-same (c .before .both .ensures ∙ both-same (c .before .before .before .of-target .ensures) (c .before .before .of-expression .ensures))
+    (n .names-field .ensures)
     (ap (λ (x : Bool). i .args .parts .reference && x) (c .before .before .before .before .before .sent-kinds .ensures)))
 
 pub read-sent-spec : {M : Type 1} → statement M

@@ -37,8 +37,10 @@ enum-told-2 c = search needs
 
 returns-2 : tie.Need-returns-2
 returns-2 c =
-    let l = subst (PassesLetter _ _) (c .before .before .before .before .letter2 .given .1) (c .before .before .before .before .before .before .letter .ensures) in
-    target-unopened (l .passing) (subst (Passes false false openSquare _ _) (c .enum-told2 .given .1) (c .before .before .open-square .ensures))
+    let s = c .before .before .before .before in
+    let l = subst (PassesLetter _ _) (s .letter2 .given .1) (s .before .before .letter .ensures) in
+    target-unopened (l .passing)
+    (subst (Passes false false openSquare _ _) (c .enum-told2 .given .1) (c .before .before .open-square .ensures))
 
 read-chain-requires : tie.Need-read-chain-requires
 read-chain-requires c κs =
@@ -54,7 +56,8 @@ enum-told-3 c = search needs
 returns-3 : tie.Need-returns-3
 returns-3 c =
     let i = c .before .before .before .before in
-    let l = subst (PassesLetter _ _) (i .before .before .before .before .letter2 .given .1) (i .before .before .before .before .before .before .letter .ensures) in
+    let s = i .before .before .before .before in
+    let l = subst (PassesLetter _ _) (s .letter2 .given .1) (s .before .before .letter .ensures) in
     let o = subst (Passes false false openSquare _ _) (i .inner .given .1) (i .before .before .open-square .ensures) in
     target-unread (l .passing) o (subst (ChainPartsAt _ false _ _) (c .enum-told3 .given .1) (c .before .before .read-chain .ensures))
 
@@ -73,17 +76,20 @@ returns-4 : tie.Need-returns-4
 returns-4 c =
     let p = c .before .before .before .before in
     let i = p .before .before .before .before in
-    let l = subst (PassesLetter _ _) (i .before .before .before .before .letter2 .given .1) (i .before .before .before .before .before .before .letter .ensures) in
+    let s = i .before .before .before .before in
+    let l = subst (PassesLetter _ _) (s .letter2 .given .1) (s .before .before .letter .ensures) in
     let o = subst (Passes false false openSquare _ _) (i .inner .given .1) (i .before .before .open-square .ensures) in
     let w = subst (ChainPartsAt _ false _ _) (p .parts .given .1) (p .before .before .read-chain .ensures) in
-    target-unclosed (l .passing) o (w .form-is) (subst (Passes false false closeSquare _ _) (c .enum-told4 .given .1) (c .before .before .close-square .ensures))
+    target-unclosed (l .passing) o (w .form-is)
+    (subst (Passes false false closeSquare _ _) (c .enum-told4 .given .1) (c .before .before .close-square .ensures))
 
 returns-5 : tie.Need-returns-5
 returns-5 c =
     let e = c .before in
     let p = e .before .before .before .before in
     let i = p .before .before .before .before in
-    let l = subst (PassesLetter _ _) (i .before .before .before .before .letter2 .given .1) (i .before .before .before .before .before .before .letter .ensures) in
+    let s = i .before .before .before .before in
+    let l = subst (PassesLetter _ _) (s .letter2 .given .1) (s .before .before .letter .ensures) in
     let o = subst (Passes false false openSquare _ _) (i .inner .given .1) (i .before .before .open-square .ensures) in
     let w = subst (ChainPartsAt _ false _ _) (p .parts .given .1) (p .before .before .read-chain .ensures) in
     let x = subst (Passes false false closeSquare _ _) (e .end .given .1) (e .before .before .close-square .ensures) in
