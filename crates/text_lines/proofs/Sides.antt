@@ -1,10 +1,13 @@
 -- The terms and rules of codes, by their number.
-use Prim.Native.Nat.{ℕ, _+_}
+use Prim.Native.Nat.{ℕ, _+_, _≤_}
 use mathlib.Core.Path.{_≡_, ap, _∙_}
 use mathlib.Core.Logic.{_≢_}
+use native.Mathlib.Omega.{arith}
+use lib.Dec.{eqb}
 use lib.IntN.{pos}
 use lib.ListN.{getD}
 use borrow.Author.Tests.{eq-eqb, ne-eqb}
+use Rattle.laws.proofs.Bools.{cond-both}
 use Rattle.program.specs.declared.term.Term.{Term}
 use Rattle.program.specs.declared.term.Term.the-variants.{Chain, Number, Tree}
 use Rattle.program.specs.declared.rule.Operator.{Operator}
@@ -21,6 +24,15 @@ left-same from to size e = rw (eq-eqb to (from + size) e)
 pub left-more : (from to size : ℕ) → to ≢ from + size → to ≡ codesLeft from to size
 unfolding codesLeft
 left-more from to size e = rw (ne-eqb to (from + size) e)
+
+-- it is between the two
+pub left-least : (from to size : ℕ) → from ≤ to → from ≤ codesLeft from to size
+unfolding codesLeft
+left-least from to size h = cond-both (λ (n : ℕ). from ≤ n) (eqb to (from + size)) from to (omega arith) h
+
+pub left-most : (from to size : ℕ) → from ≤ to → codesLeft from to size ≤ to
+unfolding codesLeft
+left-most from to size h = cond-both (λ (n : ℕ). n ≤ to) (eqb to (from + size)) from to h (omega arith)
 
 pub left-twice : (from to : ℕ) {x r : ℕ} → x ≡ codesLeft from to 1 → r ≡ codesLeft from x 3 → r ≡ codesLeft from (codesLeft from to 1) 3
 left-twice from to e q = q ∙ ap (λ (x : ℕ). codesLeft from x 3) e
