@@ -1,3 +1,5 @@
 -- Laws of the line reader, for the proofs here and in the crates above.
 pub mod Words
 pub mod Sides
+pub mod Tests
+pub mod Lines
