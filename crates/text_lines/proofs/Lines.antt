@@ -17,8 +17,8 @@ use Rattle.program.specs.declared.rule.Rule.the-variants as R
 use Rattle.program.specs.declared.rule.Slot.{Slot}
 use Rattle.program.specs.declared.rule.Comparison.{Comparison}
 use Rattle.program.specs.Program as P
-use Rattle.program.specs.Code.{Code, decoded, Formed, codesOf, treeIn}
-use Rattle.program.specs.Stored.{termIn, testIn, targetIn, expressionIn, ruleIn}
+use Rattle.program.specs.Code.{decoded, Formed, codesOf, treeIn}
+use Rattle.program.specs.Stored.{termIn, testIn, ruleIn}
 use Rattle.program.specs.Terms.{TestTerms, RuleTerms, TermFormed, TermFrom, TermInside}
 use Rattle.program.proofs.Codes.{codes-agree}
 use Rattle.text_syntax.specs.Token.{Token, letter, stepWord, endWord, doneWord, loopWord, ifWord, colon, comparison}
@@ -27,22 +27,20 @@ use Rattle.text_syntax.specs.Kind.{kind, letterIn, comparisonIn, fixedIn, same,
 use Rattle.text_syntax.specs.Form.{Form, formed, unformed, held, oneOf, past, then, or, whole}
 use Rattle.text_syntax.specs.Written.{Expression, Condition, always, when, Action, Line, loop, rule}
 use Rattle.text_syntax.specs.Grammar.{expression, ruleForm, comparedForm, testedForm, anyForm}
-use Rattle.text_syntax.specs.Tree.{treeOf, testOf, ruleOf}
-use Rattle.text_syntax.specs.Flat as F
+use Rattle.text_syntax.specs.Tree.{testOf, ruleOf}
 use Rattle.text_syntax.proofs.Lines.{if-first}
 use Rattle.text_rules.specs.declared.line.Checks.{Checks}
 use Rattle.text_rules.specs.declared.line.LineRead.{LineRead}
-use Rattle.text_rules.specs.declared.line.LineRead.the-variants.{Loop, NoForm}
-use Rattle.text_rules.specs.declared.line.LineRead.the-variants as L
+use Rattle.text_rules.specs.declared.line.LineRead.the-variants.{Loop, NoForm, Rule as RuleLine}
 use Rattle.text_rules.specs.LineRead.{lineChecks, allPass, RuleRead, Reads, no-form, loop-line, rule-line}
 use Rattle.text_rules.specs.Text.{writtenRule}
 use Rattle.text_expressions.specs.declared.summary.Summary.{Summary}
-use Rattle.text_expressions.specs.Place.{tokensFrom, begins, Behind, Passing, Absent}
+use Rattle.text_expressions.specs.Place.{tokensFrom, begins, Passing, Absent}
 use Rattle.text_expressions.specs.Codes.{Arrays, Roomy}
 use Rattle.text_expressions.specs.Reading.{Unread}
 use Rattle.text_expressions.proofs.Places.{past-absent}
 use Rattle.text_lines.specs.Word.{isEmpty, NoComparison}
-use Rattle.text_lines.specs.Checks.{allTrue, summaryChecks, bothChecks, conditionChecks, actionChecks}
+use Rattle.text_lines.specs.Checks.{summaryChecks, bothChecks, conditionChecks}
 use Rattle.text_lines.specs.Side.{codesFor, KeptBefore, Holds, SideFormed}
 use Rattle.text_lines.specs.Action.{actionForm, ActionHeld, ActionFormed, NoAction}
 use Rattle.text_lines.specs.Line.{noParts, wordRead, loopField, loopRead, whenParts, alwaysParts, TestHeld, Leaves, LineAt, RuledBehind, ComparedBehind, testedBehind}
@@ -51,7 +49,7 @@ use Rattle.text_lines.specs.declared.line.TestParts.{TestParts}
 use Rattle.text_lines.specs.declared.line.FirstSide.{FirstSide}
 use Rattle.text_lines.proofs.Tests.{both-pass, when-pass, when-checks, line-checks}
 
--- terms whose codes stand elsewhere
+-- terms whose codes stand behind an earlier place, and before a later one
 term-behind : {m n : ℕ} → m ≤ n → (x : Term) → TermFrom n x → TermFrom m x
 term-behind l (Chain c) h = tt
 term-behind l (Number z) h = tt
@@ -139,7 +137,8 @@ unfolding ruleForm actionForm
 rule-whole c ts e = whole-rule c (actionForm ts) ∙ ap (Option·map (rule c)) e
 
 -- the rule in the array, behind its test whose codes stand before its own
-module _ {c : Condition} {w : Action} {a b : Arrays} {from count to : ℕ} {t : Test} {r : Rule} (x : TestHeld a from count c t) (y : ActionHeld a b count to w r) where
+module _ {c : Condition} {w : Action} {a b : Arrays} {from count to : ℕ} {t : Test} {r : Rule} (x : TestHeld a from count c t)
+    (y : ActionHeld a b count to w r) where
   rule-held : RuleRead (codesFor b) c w (record { test = t; rule = r })
   unfolding ruleIn writtenRule ruleOf
   rule-held = record {
@@ -148,15 +147,16 @@ module _ {c : Condition} {w : Action} {a b : Arrays} {from count to : ℕ} {t : 
   }
 
 module _ (s : Sizes) (line : List ℕ) (at : ℕ) (t : TestParts) (a b : Arrays) (count : ℕ) where
-  pub not-ruled : {r : LineParts} → r ≡ noParts count → at ≤ length line → NoAction (actionForm (tokensFrom false line at)) → RuledBehind s line at t a b count r
+  pub not-ruled : {r : LineParts} → r ≡ noParts count → at ≤ length line → NoAction (actionForm (tokensFrom false line at))
+      → RuledBehind s line at t a b count r
   not-ruled q i h c o from l k w = no-line s line at o b (rule-whole c _ (h .none)) l i q
 
   pub ruled : (r : Rule) (k asked : Checks) (to : ℕ) → asked ≡ bothChecks (t .checks) k
       → ActionFormed s line at (actionForm (tokensFrom false line at)) a b count r k to
-      → RuledBehind s line at t a b count (record { line = L.Rule (record { test = t .test; rule = r }) asked; codes = to })
+      → RuledBehind s line at t a b count (record { line = RuleLine (record { test = t .test; rule = r }) asked; codes = to })
   ruled r k asked to j h c o from l e w = record {
-    reads = subst (λ (f : Option Line). Reads s (codesFor b) f (L.Rule slot asked)) (sym (rule-whole c _ (h .form-is)))
-        (subst (λ (z : Checks). Reads s (codesFor b) (some (rule c (h .written))) (L.Rule slot z)) (sym same-checks)
+    reads = subst (λ (f : Option Line). Reads s (codesFor b) f (RuleLine slot asked)) (sym (rule-whole c _ (h .form-is)))
+        (subst (λ (z : Checks). Reads s (codesFor b) (some (rule c (h .written))) (RuleLine slot z)) (sym same-checks)
         (rule-line c (h .written) slot (λ p. let q = passes (ap allPass same-checks ∙ p) in rule-held (w (q .0) .0) (h .held (q .1)))));
     leaves = λ p.
         let q = passes p in
@@ -184,7 +184,8 @@ always-held : (s : Sizes) (line : List ℕ) (at : ℕ) (a b : Arrays) (count : �
     → RuledBehind s line at t a b count r → LineAt s line at (ruleForm always (tokensFrom false line at)) a b count count r
 unfolding conditionChecks testIn testOf
 always-held s line at a b count r {t} e h =
-    subst (λ (t : TestParts). RuledBehind s line at t a b count r) e h always a count (omega arith) refl (λ p. (record { test-is = refl; formed = tt; behind = tt; inside = tt }, λ i l. refl))
+    subst (λ (t : TestParts). RuledBehind s line at t a b count r) e h always a count (omega arith) refl
+    (λ p. (record { test-is = refl; formed = tt; behind = tt; inside = tt }, λ i l. refl))
 
 -- what stands behind `if X <`, and behind `if`
 compared-at : (x : Expression) (c : Comparison) (ts : List Token) {f : Form Expression} → expression ts ≡ f
@@ -196,7 +197,7 @@ tested-at : (ts : List Token) {f : Form Expression} → expression ts ≡ f → 
 unfolding testedBehind
 tested-at ts h = ap (λ (f : Form Expression). then f (λ x r. then (oneOf comparisonIn r) (comparedForm x))) h
 
--- a test of two sides
+-- the second side of a test and a rule, behind the first
 module _ (s : Sizes) (line : List ℕ) (at : ℕ) (x : FirstSide) (a b : Arrays) (count : ℕ) where
   pub no-second : {r : LineParts} → r ≡ noParts count → at ≤ length line → Unread expression line at → ComparedBehind s line at x a b count r
   unfolding then
@@ -209,8 +210,9 @@ module _ (s : Sizes) (line : List ℕ) (at : ℕ) (x : FirstSide) (a b : Arrays)
         unformed-line s line at o b
         (compared-at e (x .comparison) _ (d .form-is) ∙ past-absent colon _ (ruleForm (when e (x .comparison) (d .written))) (h .absent)) l i q
 
-    test-held : {e : Expression} (o : Arrays) {from : ℕ} → from ≤ count → Holds a from count e (x .term) → KeptBefore o a from → Holds m count to (d .written) y
-        → KeptBefore a m count → TestHeld m from to (when e (x .comparison) (d .written)) (When (x .term) (x .comparison) y) × KeptBefore o m from
+    test-held : {e : Expression} (o : Arrays) {from : ℕ} → from ≤ count → Holds a from count e (x .term) → KeptBefore o a from
+        → Holds m count to (d .written) y → KeptBefore a m count
+        → TestHeld m from to (when e (x .comparison) (d .written)) (When (x .term) (x .comparison) y) × KeptBefore o m from
     unfolding testIn testOf
     test-held o l p k q j = (
       record {
@@ -229,11 +231,13 @@ module _ (s : Sizes) (line : List ℕ) (at : ℕ) (x : FirstSide) (a b : Arrays)
         let c = when e (x .comparison) (d .written) in
         line-from (sym (compared-at e (x .comparison) _ (d .form-is) ∙ ap (λ (ts : List Token). past colon ts (ruleForm c)) (h .text)))
         (omega (arith, d .few-codes, h .behind .onward))
-        (subst (λ (t : TestParts). RuledBehind s line start t m b to r) j z c o from (omega (arith, l, d .more-codes)) (when-checks s (x .seen) g e (d .written) (x .comparison) k (d .summary-is))
+        (subst (λ (t : TestParts). RuledBehind s line start t m b to r) j z c o from (omega (arith, l, d .more-codes))
+        (when-checks s (x .seen) g e (d .written) (x .comparison) k (d .summary-is))
         (λ p.
         let q = when-pass (summaryChecks (x .seen)) (summaryChecks g) _ p in
         test-held o l (w (q .0) .0) (w (q .0) .1) (d .holds (q .1)) (d .kept (q .1))))
 
+-- a test and a rule, behind `if`
 module _ (s : Sizes) (line : List ℕ) (at : ℕ) (a b : Arrays) (count : ℕ) where
   pub no-first : {r : LineParts} → r ≡ noParts count → at ≤ length line → Unread expression line at
       → LineAt s line at (testedBehind (tokensFrom true line at)) a b count count r
@@ -271,8 +275,8 @@ pub no-letter : (s : Sizes) (ts : List Token) → oneOf letterIn ts ≡ unformed
 unfolding loopRead loopField
 no-letter s ts h = rw h
 
-pub loop-letter : (s : Sizes) {l : ℕ} {line : List ℕ} {at end f : ℕ} {n : Bool} {r : LineRead} → Passing false false (letter l) line at end → f ≡ letterField l
-    → n ≡ names s l → r ≡ wordRead (Loop f n) (tokensFrom false line end) → r ≡ loopRead s (tokensFrom false line at)
+pub loop-letter : (s : Sizes) {l : ℕ} {line : List ℕ} {at end f : ℕ} {n : Bool} {r : LineRead} → Passing false false (letter l) line at end
+    → f ≡ letterField l → n ≡ names s l → r ≡ wordRead (Loop f n) (tokensFrom false line end) → r ≡ loopRead s (tokensFrom false line at)
 unfolding loopRead loopField oneOf held letterIn kind
 loop-letter s p e q h = h ∙ rw (p .text, e, q)
 
@@ -302,7 +306,8 @@ module _ (s : Sizes) (line : List ℕ) (a : Arrays) (count : ℕ) where
   unfolding loopRead loopField then
   loop-at {form} r {z} e q = go (oneOf letterIn r) e q
     where
-      go : (f : Form ℕ) → form ≡ then f (λ f. formed (loop f)) → z ≡ loopField s f → LineAt s line 0 form a a count count (record { line = z; codes = count })
+      go : (f : Form ℕ) → form ≡ then f (λ f. formed (loop f)) → z ≡ loopField s f
+          → LineAt s line 0 form a a count count (record { line = z; codes = count })
       go unformed e q = unformed-line s line 0 a a e (omega arith) (omega arith) (ap (λ (z : LineRead). record { line = z; codes = count }) q)
       go (formed f r) e q = word-at (loop f) (Loop (letterField f) (names s f)) r e (loop-line f) (λ i l. refl) q
 

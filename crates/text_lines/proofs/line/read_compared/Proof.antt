@@ -34,10 +34,15 @@ same-length-3 c = search needs
 
 returns : tie.Need-returns
 returns c =
-    no-second _ _ _ _ _ _ _ (c .no-form .ensures) (c .before .before .before .before .before .before .before .before .before .before .before .before .before .before .before .pre .1) (subst (SideAt _ _ _ _ _ _) (c .before .enum-told .given .1) (c .before .before .before .before .before .before .before .before .read .ensures))
+    let e = c .before .before .before .before .before .before .before .before in
+    no-second _ _ _ _ _ _ _ (c .no-form .ensures) (e .before .before .before .before .before .before .before .pre .1)
+    (subst (SideAt _ _ _ _ _ _) (c .before .enum-told .given .1) (e .read .ensures))
 
 colon-requires : tie.Need-colon-requires
-colon-requires c κs = let d = subst (SideAt _ _ _ _ _ _) (c .before .seen .given .1) (c .before .before .before .before .before .before .before .before .read .ensures) in d .inside
+colon-requires c κs =
+    let e = c .before .before .before .before .before .before .before .before in
+    let d = subst (SideAt _ _ _ _ _ _) (c .before .seen .given .1) (e .read .ensures) in
+    d .inside
 
 enum-known-start : tie.Need-enum-known-start
 enum-known-start c = search needs
@@ -59,21 +64,30 @@ same-length-6 c = search needs
 
 returns-2 : tie.Need-returns-2
 returns-2 c =
-    no-colon _ _ _ _ _ _ _ (subst (SideAt _ _ _ _ _ _) (c .before .before .before .before .before .seen .given .1) (c .before .before .before .before .before .before .before .before .before .before .before .before .read .ensures)) (c .no-form2 .ensures) (c .before .before .before .before .before .before .before .before .before .before .before .before .before .before .before .before .before .before .before .pre .1)
-    (subst (Passes false false colon _ _) (c .before .enum-told2 .given .1) (c .before .before .before .colon .ensures))
+    let k = c .before .before .before in
+    let e = k .before .before .before .before .before .before .before .before .before in
+    no-colon _ _ _ _ _ _ _ (subst (SideAt _ _ _ _ _ _) (k .before .before .seen .given .1) (e .read .ensures)) (c .no-form2 .ensures)
+    (e .before .before .before .before .before .before .before .pre .1)
+    (subst (Passes false false colon _ _) (c .before .enum-told2 .given .1) (k .colon .ensures))
 
 when-requires : tie.Need-when-requires
 when-requires c κs = search needs
 
 read-ruled-requires : tie.Need-read-ruled-requires
 read-ruled-requires c κs =
-    let s = c .before .before .before .before .before .before .before .before .before .before .before .before .before .before .before .before in
-    let d = subst (SideAt _ _ _ _ _ _) (c .before .before .before .before .before .before .before .before .before .seen .given .1) (s .read .ensures) in
-    let p = subst (Passes false false colon _ _) (c .before .before .before .before .before .start .given .1) (c .before .before .before .before .before .before .before .colon .ensures) in
-    (s .before .before .before .before .before .before .before .pre .0, p .behind .inside, roomy-on (d .roomy) (omega (arith, p .behind .onward)), omega (arith, s .before .before .before .before .before .before .before .pre .3, s .read .kept .1 .1 .1 .0))
+    let k = c .before .before .before .before .before .before .before in
+    let e = k .before .before .before .before .before .before .before .before .before in
+    let p = e .before .before .before .before .before .before .before .pre in
+    let d = subst (SideAt _ _ _ _ _ _) (k .before .before .seen .given .1) (e .read .ensures) in
+    let h = subst (Passes false false colon _ _) (c .before .before .before .before .before .start .given .1) (k .colon .ensures) in
+    (p .0, h .behind .inside, roomy-on (d .roomy) (omega (arith, h .behind .onward)), omega (arith, p .3, e .read .kept .1 .1 .1 .0))
 
 same-length-7 : tie.Need-same-length-7
-same-length-7 c = c .before .before .before .before .before .read-ruled .kept .1 .1 .1 .1 .0 ∙ c .before .before .before .before .before .before .before .before .before .before .before .before .before .before .before .before .before .before .before .before .before .before .read .kept .1 .1 .1 .0
+same-length-7 c =
+    let r = c .before .before .before .before .before in
+    let k = r .before .before .before .before .before .before .before .before in
+    let e = k .before .before .before .before .before .before .before .before .before in
+    r .read-ruled .kept .1 .1 .1 .1 .0 ∙ e .read .kept .1 .1 .1 .0
 
 same-length-8 : tie.Need-same-length-8
 same-length-8 c = search needs
@@ -83,8 +97,13 @@ same-length-9 c = search needs
 
 returns-3 : tie.Need-returns-3
 returns-3 c =
-    compared _ _ _ _ _ _ _ (subst (SideAt _ _ _ _ _ _) (c .before .before .before .before .before .before .before .before .before .before .before .before .before .before .before .seen .given .1) (c .before .before .before .before .before .before .before .before .before .before .before .before .before .before .before .before .before .before .before .before .before .before .read .ensures)) _ (c .before .before .before .before .before .before .before .before .before .when .ensures)
-    (subst (Passes false false colon _ _) (c .before .before .before .before .before .before .before .before .before .before .before .start .given .1) (c .before .before .before .before .before .before .before .before .before .before .before .before .before .colon .ensures)) (c .before .before .before .before .before .read-ruled .ensures)
+    let r = c .before .before .before .before .before in
+    let k = r .before .before .before .before .before .before .before .before in
+    let e = k .before .before .before .before .before .before .before .before .before in
+    compared _ _ _ _ _ _ _ (subst (SideAt _ _ _ _ _ _) (k .before .before .seen .given .1) (e .read .ensures)) _
+    (r .before .before .before .before .when .ensures)
+    (subst (Passes false false colon _ _) (r .before .before .before .before .before .before .start .given .1) (k .colon .ensures))
+    (r .read-ruled .ensures)
 
 pub read-compared-spec : {M : Type 1} → statement M
 read-compared-spec =

@@ -24,12 +24,12 @@ use Rattle.text_lines.proofs.line.read_line.Tie as tie
 next-token-requires : tie.Need-next-token-requires
 next-token-requires c κs = search needs
 
-enum-told : tie.Need-enum-told
-enum-told c = search needs
-
 -- the first token of the line
 first : (c : tie.After-next-token) → Lexed false (now (c .before .before .before .before .args .line)) 0 (c .next-token .result)
 first c = lexed _ _ _ (omega arith) (c .next-token .ensures)
+
+enum-told : tie.Need-enum-told
+enum-told c = search needs
 
 word-line-requires : tie.Need-word-line-requires
 word-line-requires c κs = first (c .before .before) .inside
@@ -57,7 +57,8 @@ enum-told-5 c = search needs
 
 read-tested-requires : tie.Need-read-tested-requires
 read-tested-requires c κs =
-    let p = c .before .before .before .before .before .before .before .before .before .pre in (p .0, first (c .before .before .before .before .before) .inside, roomy-on (p .1) (omega arith), p .2)
+    let p = c .before .before .before .before .before .before .before .before .before .pre in
+    (p .0, first (c .before .before .before .before .before) .inside, roomy-on (p .1) (omega arith), p .2)
 
 same-length : tie.Need-same-length
 same-length c = search needs
@@ -69,7 +70,10 @@ same-length-3 : tie.Need-same-length-3
 same-length-3 c = search needs
 
 returns : tie.Need-returns
-returns c = if-line _ _ _ _ (passed (first (c .before .before .before .before .before .before .before .before .before .before .before)) (c .before .before .before .before .before .before .before .before .before .enum-told5 .given .1)) (c .before .before .before .before .before .read-tested .ensures)
+returns c =
+    let r = c .before .before .before .before .before in
+    if-line _ _ _ _ (passed (first (r .before .before .before .before .before .before)) (r .before .before .before .before .enum-told5 .given .1))
+    (r .read-tested .ensures)
 
 always-requires : tie.Need-always-requires
 always-requires c κs = search needs
@@ -89,33 +93,37 @@ same-length-6 c = search needs
 returns-2 : tie.Need-returns-2
 unfolding tokenCode
 returns-2 c =
-    let w = first (c .before .before .before .before .before .before .before .before .before .before .before) in
+    let r = c .before .before .before .before .before in
+    let w = first (r .before .before .before .before .before .before) in
     let others : List ℕ = 5 ∷ 6 ∷ 7 ∷ 8 ∷ 9 ∷ 10 ∷ 11 ∷ 12 ∷ 13 ∷ 14 ∷ 15 ∷ 16 ∷ 17 ∷ 18 ∷ 19 ∷ [] in
-    let k = c .before .before .before .before .before .before .before .before .before .before .match .keys6 in
+    let k = r .before .before .before .before .before .match .keys6 in
     rule-line-at _ _ _ _ (absent w stepWord (told others k tt)) (absent w endWord (told others k tt)) (absent w doneWord (told others k tt))
-    (absent w loopWord (told others k tt)) (absent w ifWord (told others k tt)) (c .before .before .before .before .before .before .before .before .before .always .ensures) (c .before .before .before .before .before .read-ruled .ensures)
+    (absent w loopWord (told others k tt)) (absent w ifWord (told others k tt)) (r .before .before .before .before .always .ensures)
+    (r .read-ruled .ensures)
 
 returns-3 : tie.Need-returns-3
 unfolding tokens
 returns-3 c =
-    word-at _ _ _ _ step Step _ (ap anyForm (passed (first (c .before .before .before)) (c .before .enum-told .given .1)) ∙ step-first _) step-line (λ i l. refl)
-    (c .word-line .ensures)
+    word-at _ _ _ _ step Step _ (ap anyForm (passed (first (c .before .before .before)) (c .before .enum-told .given .1)) ∙ step-first _) step-line
+    (λ i l. refl) (c .word-line .ensures)
 
 returns-4 : tie.Need-returns-4
 unfolding tokens
 returns-4 c =
-    word-at _ _ _ _ end End _ (ap anyForm (passed (first (c .before .before .before)) (c .before .enum-told2 .given .1)) ∙ end-first _) end-line (λ i l. refl)
-    (c .word-line2 .ensures)
+    word-at _ _ _ _ end End _ (ap anyForm (passed (first (c .before .before .before)) (c .before .enum-told2 .given .1)) ∙ end-first _) end-line
+    (λ i l. refl) (c .word-line2 .ensures)
 
 returns-5 : tie.Need-returns-5
 unfolding tokens
 returns-5 c =
-    word-at _ _ _ _ done Done _ (ap anyForm (passed (first (c .before .before .before)) (c .before .enum-told3 .given .1)) ∙ done-first _) done-line (λ i l. refl)
-    (c .word-line3 .ensures)
+    word-at _ _ _ _ done Done _ (ap anyForm (passed (first (c .before .before .before)) (c .before .enum-told3 .given .1)) ∙ done-first _) done-line
+    (λ i l. refl) (c .word-line3 .ensures)
 
 returns-6 : tie.Need-returns-6
 unfolding tokens
-returns-6 c = loop-at _ _ _ _ _ (ap anyForm (passed (first (c .before .before .before)) (c .before .enum-told4 .given .1)) ∙ loop-first _) (c .read-loop .ensures)
+returns-6 c =
+    loop-at _ _ _ _ _ (ap anyForm (passed (first (c .before .before .before)) (c .before .enum-told4 .given .1)) ∙ loop-first _)
+    (c .read-loop .ensures)
 
 pub read-line-spec : {M : Type 1} → statement M
 read-line-spec =

@@ -30,8 +30,9 @@ same-length-3 c = search needs
 
 returns : tie.Need-returns
 returns c =
-    not-ruled _ _ _ _ _ _ _ (c .no-form .ensures) (c .before .before .before .before .before .before .before .before .before .before .before .before .before .before .before .pre .1)
-    (subst (ActionAt _ _ _ _ _ _ _) (c .before .enum-told .given .1) (c .before .before .before .before .before .before .before .before .read .ensures))
+    let e = c .before .before .before .before .before .before .before .before in
+    not-ruled _ _ _ _ _ _ _ (c .no-form .ensures) (e .before .before .before .before .before .before .before .pre .1)
+    (subst (ActionAt _ _ _ _ _ _ _) (c .before .enum-told .given .1) (e .read .ensures))
 
 both-requires : tie.Need-both-requires
 both-requires c κs = search needs
@@ -47,7 +48,9 @@ same-length-6 c = search needs
 
 returns-2 : tie.Need-returns-2
 returns-2 c =
-    ruled _ _ _ _ _ _ _ _ _ _ _ (c .both .ensures) (subst (ActionAt _ _ _ _ _ _ _) (c .before .before .before .rule .given .1) (c .before .before .before .before .before .before .before .before .before .before .read .ensures))
+    ruled _ _ _ _ _ _ _ _ _ _ _ (c .both .ensures)
+    (subst (ActionAt _ _ _ _ _ _ _) (c .before .before .before .rule .given .1)
+    (c .before .before .before .before .before .before .before .before .before .before .read .ensures))
 
 pub read-ruled-spec : {M : Type 1} → statement M
 read-ruled-spec =

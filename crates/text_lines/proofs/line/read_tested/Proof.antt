@@ -32,10 +32,15 @@ same-length-3 c = search needs
 
 returns : tie.Need-returns
 returns c =
-    no-first _ _ _ _ _ _ (c .no-form .ensures) (c .before .before .before .before .before .before .before .before .before .before .before .before .before .before .before .pre .1) (subst (SideAt _ _ _ _ _ _) (c .before .enum-told .given .1) (c .before .before .before .before .before .before .before .before .read .ensures))
+    let e = c .before .before .before .before .before .before .before .before in
+    no-first _ _ _ _ _ _ (c .no-form .ensures) (e .before .before .before .before .before .before .before .pre .1)
+    (subst (SideAt _ _ _ _ _ _) (c .before .enum-told .given .1) (e .read .ensures))
 
 comparison-requires : tie.Need-comparison-requires
-comparison-requires c κs = let d = subst (SideAt _ _ _ _ _ _) (c .before .seen .given .1) (c .before .before .before .before .before .before .before .before .read .ensures) in d .inside
+comparison-requires c κs =
+    let e = c .before .before .before .before .before .before .before .before in
+    let d = subst (SideAt _ _ _ _ _ _) (c .before .seen .given .1) (e .read .ensures) in
+    d .inside
 
 enum-known-comparison : tie.Need-enum-known-comparison
 enum-known-comparison c = search needs
@@ -57,15 +62,20 @@ same-length-6 c = search needs
 
 returns-2 : tie.Need-returns-2
 returns-2 c =
-    no-comparison _ _ _ _ _ _ (subst (SideAt _ _ _ _ _ _) (c .before .before .before .before .before .seen .given .1) (c .before .before .before .before .before .before .before .before .before .before .before .before .read .ensures)) (c .no-form2 .ensures) (c .before .before .before .before .before .before .before .before .before .before .before .before .before .before .before .before .before .before .before .pre .1)
-    (subst (PassesComparison _ _) (c .before .enum-told2 .given .1) (c .before .before .before .comparison .ensures))
+    let k = c .before .before .before in
+    let e = k .before .before .before .before .before .before .before .before .before in
+    no-comparison _ _ _ _ _ _ (subst (SideAt _ _ _ _ _ _) (k .before .before .seen .given .1) (e .read .ensures)) (c .no-form2 .ensures)
+    (e .before .before .before .before .before .before .before .pre .1)
+    (subst (PassesComparison _ _) (c .before .enum-told2 .given .1) (k .comparison .ensures))
 
 read-compared-requires : tie.Need-read-compared-requires
 read-compared-requires c κs =
-    let s = c .before .before .before .before .before .before .before .before .before .before .before .before .before .before .before in
-    let d = subst (SideAt _ _ _ _ _ _) (c .before .before .before .before .before .before .before .before .seen .given .1) (s .read .ensures) in
-    let p = subst (PassesComparison _ _) (c .before .before .before .before .comparison2 .given .1) (c .before .before .before .before .before .before .comparison .ensures) in
-    (s .before .before .before .before .before .before .before .pre .0, p .behind .inside, roomy-on (d .roomy) (omega (arith, p .behind .onward)), omega (arith, s .before .before .before .before .before .before .before .pre .3, s .read .kept .1 .1 .1 .0))
+    let k = c .before .before .before .before .before .before in
+    let e = k .before .before .before .before .before .before .before .before .before in
+    let p = e .before .before .before .before .before .before .before .pre in
+    let d = subst (SideAt _ _ _ _ _ _) (k .before .before .seen .given .1) (e .read .ensures) in
+    let h = subst (PassesComparison _ _) (c .before .before .before .before .comparison2 .given .1) (k .comparison .ensures) in
+    (p .0, h .behind .inside, roomy-on (d .roomy) (omega (arith, h .behind .onward)), omega (arith, p .3, e .read .kept .1 .1 .1 .0))
 
 same-length-7 : tie.Need-same-length-7
 same-length-7 c = search needs
@@ -78,8 +88,11 @@ same-length-9 c = search needs
 
 returns-3 : tie.Need-returns-3
 returns-3 c =
-    tested _ _ _ _ _ _ (subst (SideAt _ _ _ _ _ _) (c .before .before .before .before .before .before .before .before .before .before .before .before .before .before .seen .given .1) (c .before .before .before .before .before .before .before .before .before .before .before .before .before .before .before .before .before .before .before .before .before .read .ensures)) _
-    (subst (PassesComparison _ _) (c .before .before .before .before .before .before .before .before .before .before .comparison2 .given .1) (c .before .before .before .before .before .before .before .before .before .before .before .before .comparison .ensures)) (c .before .before .before .before .before .read-compared .ensures)
+    let r = c .before .before .before .before .before in
+    let k = r .before .before .before .before .before .before .before in
+    let e = k .before .before .before .before .before .before .before .before .before in
+    tested _ _ _ _ _ _ (subst (SideAt _ _ _ _ _ _) (k .before .before .seen .given .1) (e .read .ensures)) _
+    (subst (PassesComparison _ _) (r .before .before .before .before .before .comparison2 .given .1) (k .comparison .ensures)) (r .read-compared .ensures)
 
 pub read-tested-spec : {M : Type 1} → statement M
 read-tested-spec =

@@ -20,7 +20,9 @@ with-kinds-requires : tie.Need-with-kinds-requires
 with-kinds-requires c κs = search needs
 
 returns : tie.Need-returns
-returns c = rw (c .with-kinds .ensures, c .before .same .ensures, c .before .before .both .ensures, c .before .before .before .of-expression2 .ensures, c .before .before .before .before .of-expression .ensures)
+returns c =
+    let b = c .before .before in
+    rw (c .with-kinds .ensures, c .before .same .ensures, b .both .ensures, b .before .of-expression2 .ensures, b .before .before .of-expression .ensures)
 
 pub when-spec : {M : Type 1} → statement M
 when-spec =
