@@ -7,3 +7,5 @@ pub mod Expressions
 pub mod Rules
 pub mod Forms
 pub mod Actions
+pub mod Tests
+pub mod Lines
