@@ -36,7 +36,7 @@ use Rattle.text_rules.specs.LineRead.{lineChecks, allPass, RuleRead, Reads, no-
 use Rattle.text_rules.specs.Text.{writtenRule}
 use Rattle.text_expressions.specs.declared.summary.Summary.{Summary}
 use Rattle.text_expressions.specs.Place.{tokensFrom, begins, Passing, Absent}
-use Rattle.text_expressions.specs.Codes.{Arrays, Roomy}
+use Rattle.text_expressions.specs.Codes.{Arrays}
 use Rattle.text_expressions.specs.Reading.{Unread}
 use Rattle.text_expressions.proofs.Places.{past-absent}
 use Rattle.text_lines.specs.Word.{isEmpty, NoComparison}
@@ -47,7 +47,8 @@ use Rattle.text_lines.specs.Line.{noParts, wordRead, loopField, loopRead
 use Rattle.text_lines.specs.declared.line.LineParts.{LineParts}
 use Rattle.text_lines.specs.declared.line.TestParts.{TestParts}
 use Rattle.text_lines.specs.declared.line.FirstSide.{FirstSide}
-use Rattle.text_lines.proofs.Tests.{both-pass, when-pass, when-checks, line-checks}
+use Rattle.text_lines.proofs.Passing.{both-pass, both-same}
+use Rattle.text_lines.proofs.Tests.{when-pass, when-checks, line-checks}
 
 -- terms whose codes stand behind an earlier place, and before a later one
 term-behind : {m n : ℕ} → m ≤ n → (x : Term) → TermFrom n x → TermFrom m x
@@ -174,7 +175,7 @@ module _ (s : Sizes) (line : List ℕ) (at : ℕ) (t : TestParts) (a b : Arrays)
       slot = record { test = t .test; rule = r }
 
       same-checks : asked ≡ lineChecks s (rule c (h .written))
-      same-checks = j ∙ ap₂ (λ (x y : Checks). bothChecks x y) e (h .checks-are) ∙ sym (line-checks s c (h .written))
+      same-checks = j ∙ both-same e (h .checks-are) ∙ sym (line-checks s c (h .written))
 
       passes : allPass asked ≡ true → (allPass (t .checks) ≡ true) × (allPass k ≡ true)
       passes p = both-pass (t .checks) k (sym (ap allPass j) ∙ p)
@@ -330,7 +331,3 @@ pub rule-line-at : (s : Sizes) {line : List ℕ} (a b : Arrays) {count : ℕ} (r
 unfolding tokens
 rule-line-at s {line} a b {count} r x y z u v e h =
     line-from (sym (only-rule _ (x .absent) (y .absent) (z .absent) (u .absent) (v .absent))) (omega arith) (always-held s line 0 a b count r e h)
-
--- there is room from a later place on
-pub roomy-on : {a : Arrays} {line : List ℕ} {at next count : ℕ} → Roomy a line at count → at ≤ next → Roomy a line next count
-roomy-on r l = record { kinds = omega (arith, r .kinds, l); numbers = omega (arith, r .numbers, l); chains = omega (arith, r .chains, l) }

@@ -1,9 +1,8 @@
 -- What is asked of a rule and its test, from their parts.
 use mathlib.Core.Path.{_≡_, refl, sym, ap, ap₂, _∙_}
-use mathlib.Core.Bool.{Bool, true, false, not, _&&_, and-assoc, and-comm, true-and, and-true}
+use mathlib.Core.Bool.{Bool, true, false, _&&_, and-assoc, and-comm, true-and, and-true}
 use mathlib.Core.List.{List, [], _∷_, _++_}
 use lib.Dec.{leb}
-use Rattle.laws.proofs.Bools.{and-both}
 use Rattle.register.specs.declared.Sizes.{Sizes}
 use Rattle.chain_text.specs.Text.{names, isReferenceLetter}
 use Rattle.program.specs.declared.rule.Comparison.{Comparison}
@@ -16,49 +15,23 @@ use Rattle.text_rules.specs.LineRead.{lineChecks, allPass}
 use Rattle.text_expressions.specs.declared.summary.Summary.{Summary}
 use Rattle.text_expressions.specs.Summary.{summaryOf}
 use Rattle.text_lines.specs.Checks.{summaryChecks, bothChecks, withKinds, sentKinds, expressionChecks, conditionChecks, actionChecks}
+use Rattle.text_lines.proofs.Passing.{both-pass, kinds-pass, with-same, both-same, summary-checks, summary-reference}
 
 and-left : (a b c : Bool) → a && (b && c) ≡ b && (a && c)
 and-left true b c = refl
 and-left false true c = refl
 and-left false false c = refl
 
--- two parts pass where both do
-all-both : (a b : Checks) → allPass (bothChecks a b) ≡ allPass a && allPass b
-unfolding allPass
-all-both a b = simp (and-assoc, and-comm, and-left)
-
-all-kinds : (a : Checks) (n k : Bool) → allPass (withKinds a n k) ≡ allPass a && (n && k)
-unfolding allPass
-all-kinds a n k = simp (and-assoc, and-comm, and-left)
-
-pub both-pass : (a b : Checks) → allPass (bothChecks a b) ≡ true → (allPass a ≡ true) × (allPass b ≡ true)
-both-pass a b h = and-both (allPass a) (allPass b) (sym (all-both a b) ∙ h)
-
 -- both sides of a test that passes do
 pub when-pass : (a b : Checks) (k : Bool) → allPass (withKinds (bothChecks a b) true k) ≡ true → (allPass a ≡ true) × (allPass b ≡ true)
-when-pass a b k h = both-pass a b (and-both (allPass (bothChecks a b)) (true && k) (sym (all-kinds (bothChecks a b) true k) ∙ h) .0)
+when-pass a b k h = both-pass a b (kinds-pass (bothChecks a b) true k h)
 
 -- of a test, from the summaries of its sides
-module _ (s : Sizes) where
-  pub summary-checks : (g : Summary) (e : Expression) → summaryOf g ≡ F.summary s e → summaryChecks g ≡ expressionChecks s e
-  unfolding expressionChecks oneKind F.summary
-  summary-checks g e h =
-      let asked : F.Summary → Checks = λ x. record {
-        named = x .named;
-        kinded = x .kinded && not (x .reference && x .measure);
-        short = x .short;
-        ranged = x .ranged;
-        shallow = leb (x .depth) 8;
-        few = leb (x .operators) 64;
-      } in
-      ap asked h
-
-  pub when-checks : (g h : Summary) (x y : Expression) (c : Comparison) → summaryOf g ≡ F.summary s x → summaryOf h ≡ F.summary s y
-      → withKinds (bothChecks (summaryChecks g) (summaryChecks h)) true (sameKind (g .reference) (h .reference)) ≡ conditionChecks s (when x c y)
-  unfolding conditionChecks F.summary
-  when-checks g h x y c p q =
-      ap₂ (λ (a b : Checks). withKinds (bothChecks a b) true (sameKind (g .reference) (h .reference))) (summary-checks g x p) (summary-checks h y q)
-      ∙ ap₂ (λ (a b : F.Summary). withKinds (bothChecks (expressionChecks s x) (expressionChecks s y)) true (sameKind (a .reference) (b .reference))) p q
+pub when-checks : (s : Sizes) (g h : Summary) (x y : Expression) (c : Comparison) → summaryOf g ≡ F.summary s x → summaryOf h ≡ F.summary s y
+    → withKinds (bothChecks (summaryChecks g) (summaryChecks h)) true (sameKind (g .reference) (h .reference)) ≡ conditionChecks s (when x c y)
+unfolding conditionChecks
+when-checks s g h x y c p q =
+    with-same (both-same (summary-checks s x p) (summary-checks s y q)) refl (ap₂ sameKind (summary-reference s x p) (summary-reference s y q))
 
 -- of a list of expressions, of whether a field is named and of kinds that agree
 unfoldable partChecks : Sizes → List Expression → Bool → Bool → Checks
@@ -119,4 +92,4 @@ module _ (s : Sizes) where
   line-checks c a =
       line-parts c a
       ∙ parts-both (conditionExpressions c) (actionExpressions a) true (names s (target a)) (conditionKinds c) (actionKinds a)
-      ∙ sym (ap₂ (λ (x y : Checks). bothChecks x y) (condition-parts c) (action-parts a))
+      ∙ sym (both-same (condition-parts c) (action-parts a))

@@ -7,7 +7,8 @@ use borrow.Author.Needs.{needs}
 use Rattle.text_syntax.specs.Token.{colon}
 use Rattle.text_expressions.specs.Place.{Passes}
 use Rattle.text_lines.specs.Side.{SideAt}
-use Rattle.text_lines.proofs.Lines.{no-second, no-colon, compared, roomy-on}
+use Rattle.text_lines.proofs.Actions.{roomy-later}
+use Rattle.text_lines.proofs.Lines.{no-second, no-colon, compared}
 use Rattle.text_lines.proofs.line.read_compared.Statement.{statement}
 use Rattle.text_lines.proofs.line.read_compared.Tie as tie
 
@@ -80,7 +81,7 @@ read-ruled-requires c κs =
     let p = e .before .before .before .before .before .before .before .pre in
     let d = subst (SideAt _ _ _ _ _ _) (k .before .before .seen .given .1) (e .read .ensures) in
     let h = subst (Passes false false colon _ _) (c .before .before .before .before .before .start .given .1) (k .colon .ensures) in
-    (p .0, h .behind .inside, roomy-on (d .roomy) (omega (arith, h .behind .onward)), omega (arith, p .3, e .read .kept .1 .1 .1 .0))
+    (p .0, h .behind .inside, roomy-later (h .behind) (d .roomy), omega (arith, p .3, e .read .kept .1 .1 .1 .0))
 
 same-length-7 : tie.Need-same-length-7
 same-length-7 c =

@@ -16,8 +16,9 @@ use Rattle.text_lexer.specs.Lexeme.{tokenCode, Lexed}
 use Rattle.text_lexer.proofs.Lexemes.{lexed}
 use Rattle.text_rules.specs.declared.line.LineRead.the-variants.{Step, End, Done}
 use Rattle.text_rules.specs.LineRead.{step-line, end-line, done-line}
-use Rattle.text_expressions.proofs.Places.{told, passed, absent}
-use Rattle.text_lines.proofs.Lines.{word-at, loop-at, if-line, rule-line-at, roomy-on}
+use Rattle.text_expressions.proofs.Places.{told, passed, goes-on, absent}
+use Rattle.text_lines.proofs.Actions.{roomy-later}
+use Rattle.text_lines.proofs.Lines.{word-at, loop-at, if-line, rule-line-at}
 use Rattle.text_lines.proofs.line.read_line.Statement.{statement}
 use Rattle.text_lines.proofs.line.read_line.Tie as tie
 
@@ -58,7 +59,8 @@ enum-told-5 c = search needs
 read-tested-requires : tie.Need-read-tested-requires
 read-tested-requires c κs =
     let p = c .before .before .before .before .before .before .before .before .before .pre in
-    (p .0, first (c .before .before .before .before .before) .inside, roomy-on (p .1) (omega arith), p .2)
+    let h = goes-on (first (c .before .before .before .before .before)) _ (c .before .before .before .enum-told5 .given .1) tt in
+    (p .0, h .inside, roomy-later h (p .1), p .2)
 
 same-length : tie.Need-same-length
 same-length c = search needs

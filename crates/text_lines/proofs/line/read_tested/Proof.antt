@@ -5,7 +5,8 @@ use native.Mathlib.Omega.{arith}
 use borrow.Author.Needs.{needs}
 use Rattle.text_lines.specs.Word.{PassesComparison}
 use Rattle.text_lines.specs.Side.{SideAt}
-use Rattle.text_lines.proofs.Lines.{no-first, no-comparison, tested, roomy-on}
+use Rattle.text_lines.proofs.Actions.{roomy-later}
+use Rattle.text_lines.proofs.Lines.{no-first, no-comparison, tested}
 use Rattle.text_lines.proofs.line.read_tested.Statement.{statement}
 use Rattle.text_lines.proofs.line.read_tested.Tie as tie
 
@@ -75,7 +76,7 @@ read-compared-requires c κs =
     let p = e .before .before .before .before .before .before .before .pre in
     let d = subst (SideAt _ _ _ _ _ _) (k .before .before .seen .given .1) (e .read .ensures) in
     let h = subst (PassesComparison _ _) (c .before .before .before .before .comparison2 .given .1) (k .comparison .ensures) in
-    (p .0, h .behind .inside, roomy-on (d .roomy) (omega (arith, h .behind .onward)), omega (arith, p .3, e .read .kept .1 .1 .1 .0))
+    (p .0, h .behind .inside, roomy-later (h .behind) (d .roomy), omega (arith, p .3, e .read .kept .1 .1 .1 .0))
 
 same-length-7 : tie.Need-same-length-7
 same-length-7 c = search needs
