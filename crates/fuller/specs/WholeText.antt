@@ -19,11 +19,11 @@ use Rattle.chain_text.specs.Text as C
 use Rattle.chain_text.specs.Scan.{startsWith}
 use Rattle.plan_theory.specs.Plan.{plan, addReadings, add, withTree, tree, treeWithin}
 use Rattle.program.specs.Program.{targetField, expressionReadings, testReadings, targetReadings, ruleReadings, readings, stepPlan, isLeast, isTotal, someTarget}
-use Rattle.text_forms.specs.Numeral.{isDigit, digits, decimal, allDigits, centimetres, wholeDigits, noLeadingZero, twoDecimals, isNumeral, withDecimals, numeral, printedNumeral, signedForm, numberForm, numberValue, signedValue}
-use Rattle.text_forms.specs.Token.{capital, then, literal, or, finished}
-use Rattle.text_forms.specs.Term.{ofNumber, ofChain, termForm}
-use Rattle.text_forms.specs.Line.{assigned, localForm, sentForms, remoteForm, actionForm, ruleLine, compared, testedForm, lineForm}
-use Rattle.text_forms.specs.Parts.{numbersInRange, termInRange, short, termShort, kinded, kindsAgree, actionKinds, areMeasures, conditionKinds, sameKind, isReferenceTerm, termKinded, named, fieldNamed, termNamed, target, everyTerm, terms, actionTerms, conditionTerms}
+use Rattle.text_numerals.specs.Numeral.{isDigit, digits, decimal, allDigits, centimetres, wholeDigits, noLeadingZero, twoDecimals, isNumeral, withDecimals, numeral, printedNumeral, signedForm, numberForm, numberValue, signedValue}
+use Rattle.text_numerals.specs.Token.{capital, then, literal, or, finished}
+use Rattle.text_numerals.specs.Term.{ofNumber, ofChain, termForm}
+use Rattle.text_numerals.specs.Line.{assigned, localForm, sentForms, remoteForm, actionForm, ruleLine, compared, testedForm, lineForm}
+use Rattle.text_numerals.specs.Parts.{numbersInRange, termInRange, short, termShort, kinded, kindsAgree, actionKinds, areMeasures, conditionKinds, sameKind, isReferenceTerm, termKinded, named, fieldNamed, termNamed, target, everyTerm, terms, actionTerms, conditionTerms}
 use Rattle.text_rules.specs.Check.{lineRefusal, planFits, sortsAgree, oneSort, hasRoom, inPlace, openRules, isOpen, isOutside}
 use Rattle.text_rules.specs.Text.{textProgram, readFrom, start, closedText, lineOutcome, advance, settingIn, withStep, writtenRule, writtenTarget, writtenExpression, writtenTest, writtenTerm, pieceForm, lines, onto, check}
 use Rattle.machine.specs.Value.{both, value, readingInRange, cellInRange, overflows, compare, compareReadings, holds}

@@ -12,11 +12,11 @@ use Rattle.chain_text.specs.Text as C
 use Rattle.chain_text.specs.Scan.{startsWith}
 use Rattle.plan_theory.specs.Plan.{plan, addReadings, add, withTree as planLines, listed, lineIndex, sameFact, sameWord, tree, treeWithin, half, doubled, front, rest}
 use Rattle.laws.specs.Bytes.{bytes}
-use Rattle.text_forms.specs.Numeral.{isDigit, digits, decimal, allDigits, centimetres, wholeDigits, noLeadingZero, twoDecimals, isNumeral, withDecimals, numeral, printedNumeral, signedForm, numberForm, numberValue, signedValue}
-use Rattle.text_forms.specs.Token.{capital, then, literal, or, finished}
-use Rattle.text_forms.specs.Term.{ofNumber, ofChain, termForm}
-use Rattle.text_forms.specs.Line.{assigned, localForm, sentForms, remoteForm, actionForm, ruleLine, compared, testedForm, lineForm}
-use Rattle.text_forms.specs.Parts.{numbersInRange, termInRange, short, termShort, kinded, kindsAgree, actionKinds, areMeasures, conditionKinds, sameKind, isReferenceTerm, termKinded, named, fieldNamed, termNamed, target, everyTerm, terms, actionTerms, conditionTerms}
+use Rattle.text_numerals.specs.Numeral.{isDigit, digits, decimal, allDigits, centimetres, wholeDigits, noLeadingZero, twoDecimals, isNumeral, withDecimals, numeral, printedNumeral, signedForm, numberForm, numberValue, signedValue}
+use Rattle.text_numerals.specs.Token.{capital, then, literal, or, finished}
+use Rattle.text_numerals.specs.Term.{ofNumber, ofChain, termForm}
+use Rattle.text_numerals.specs.Line.{assigned, localForm, sentForms, remoteForm, actionForm, ruleLine, compared, testedForm, lineForm}
+use Rattle.text_numerals.specs.Parts.{numbersInRange, termInRange, short, termShort, kinded, kindsAgree, actionKinds, areMeasures, conditionKinds, sameKind, isReferenceTerm, termKinded, named, fieldNamed, termNamed, target, everyTerm, terms, actionTerms, conditionTerms}
 use Rattle.text_rules.specs.Check.{lineRefusal, planFits, sortsAgree, oneSort, hasRoom, inPlace, openRules, isOpen, isUsed, isOutside}
 use Rattle.program.specs.declared.rule.Operator.the-variants.{Plus}
 use Rattle.program.specs.declared.rule.Sort.the-variants.{Total}

@@ -25,20 +25,20 @@ use Rattle.text_syntax.proofs.Readers.{All, all-map, behind-all}
 use Rattle.text_syntax.proofs.Turns.{minimum-joined, minimum-more, minimum-end, expression-joined, expression-more, expression-end, operand-term, operand-group, operand-other}
 use Rattle.text_syntax.proofs.Depths.{Grows, minimum-grows, expression-grows, Deep, group-deep, group-deep-first}
 use Rattle.text_syntax.proofs.Scans.{merged-operation, merged-group}
-use Rattle.text_expressions.specs.declared.term.TermParts.{TermParts}
+use Rattle.text_terms.specs.declared.term.TermParts.{TermParts}
 use Rattle.text_expressions.specs.declared.summary.Summary.{Summary}
 use Rattle.text_expressions.specs.declared.join.Reading.{Reading}
 use Rattle.text_expressions.specs.declared.join.Reading.the-variants.{Read, NoForm, Deep as TooDeepRead}
 use Rattle.text_expressions.specs.declared.join.Pending.{Pending}
 use Rattle.text_expressions.specs.declared.join.Joining.{Joining}
 use Rattle.text_expressions.specs.declared.join.Joining.the-variants.{Next, Done}
-use Rattle.text_expressions.specs.Place.{tokensFrom, Passing, Absent, NoOperator}
-use Rattle.text_expressions.specs.Term.{partsOf, TermFormed, NoTerm}
+use Rattle.text_terms.specs.Place.{tokensFrom, Passing, Absent, NoOperator}
+use Rattle.text_terms.specs.Term.{partsOf, TermFormed, NoTerm}
 use Rattle.text_expressions.specs.Summary.{summaryOf, termSummary}
 use Rattle.text_expressions.specs.Reading.{Unranked, AllDeep, ReadAs, Unread, TooDeep, ReadingAt, EndInside, GroupedBy}
 use Rattle.text_expressions.specs.Join.{Continues, ReadyFor, PutNext, JoinedBy}
-use Rattle.text_expressions.proofs.Places.{past-absent}
-use Rattle.text_expressions.proofs.ChainForms.{behind-behind}
+use Rattle.text_terms.proofs.Places.{past-absent}
+use Rattle.text_terms.proofs.ChainForms.{behind-behind}
 use Rattle.text_expressions.specs.Codes.{Arrays, arrays, termCode, codesOf, signKind, signCodes, signSize, Wrote, WroteSign, Roomy}
 use Rattle.text_expressions.proofs.Coding.{wrote-none, wrote-then}
 use Rattle.text_expressions.proofs.Turning.{term-summary, term-few, operator-few}

@@ -1,7 +1,4 @@
 -- Laws of the readers of expressions, for the proofs here and in the crates above.
-pub mod Places
-pub mod ChainForms
-pub mod Terms
 pub mod Turning
 pub mod Coding
 pub mod Joining

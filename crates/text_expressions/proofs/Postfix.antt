@@ -15,7 +15,7 @@ use Rattle.program.specs.Code.{Code, codeOf, postfix}
 use Rattle.text_syntax.specs.Written.{Term, chain, number, Expression, term, group, operation}
 use Rattle.text_syntax.specs.Parts.{everyTerm, termNamed, termKinded, termShort, termInRange}
 use Rattle.text_syntax.specs.Tree.{termTree, treeOf}
-use Rattle.text_expressions.specs.Term.{kindOf, numberOf, packedOf}
+use Rattle.text_terms.specs.Term.{kindOf, numberOf, packedOf}
 use Rattle.text_expressions.specs.Codes.{codesOf}
 
 module _ (s : Sizes) (l : Limits s) where

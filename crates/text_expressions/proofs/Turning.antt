@@ -18,14 +18,14 @@ use Rattle.text_syntax.specs.Parts.{everyTerm, isReference, isMeasure, depth, o
 use Rattle.text_syntax.specs.Flat as F
 use Rattle.text_syntax.specs.Flat.{empty, summary, merged, withOperator, scanFrom}
 use Rattle.text_syntax.proofs.Scans.{scan-due, scan-term, scan-open, scan-operator, scan-close, scan-end, scan-expression}
-use Rattle.text_expressions.specs.declared.term.TermParts.{TermParts}
+use Rattle.text_terms.specs.declared.term.TermParts.{TermParts}
 use Rattle.text_expressions.specs.declared.summary.Summary.{Summary}
 use Rattle.text_expressions.specs.declared.scan.State.{State}
-use Rattle.text_expressions.specs.Place.{tokensFrom, Passing, Absent, NoOperator}
-use Rattle.text_expressions.specs.Term.{partsOf, TermFormed, NoTerm}
+use Rattle.text_terms.specs.Place.{tokensFrom, Passing, Absent, NoOperator}
+use Rattle.text_terms.specs.Term.{partsOf, TermFormed, NoTerm}
 use Rattle.text_expressions.specs.Summary.{summaryOf, termSummary}
 use Rattle.text_expressions.specs.Scan.{StateAt, scanOf, Turns, Ends, Fails, ScanFormed, NoExpression}
-use Rattle.text_expressions.proofs.Places.{past-absent}
+use Rattle.text_terms.proofs.Places.{past-absent}
 
 -- a term's part of a summary
 pub term-summary : (s : Sizes) (x : Term) {p : TermParts} → p ≡ partsOf s x → termSummary p ≡ summary s (term x)

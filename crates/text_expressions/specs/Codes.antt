@@ -10,8 +10,8 @@ use Rattle.program.specs.declared.rule.Operator.{Operator}
 use Rattle.program.specs.Code.{Code, operator, operatorOf, codeOf, codeAt, codesIn}
 use Rattle.program.specs.declared.rule.Operator.the-variants.{Plus, Minus, Smaller}
 use Rattle.text_syntax.specs.Written.{Expression, term, group, operation}
-use Rattle.text_expressions.specs.declared.term.TermParts.{TermParts}
-use Rattle.text_expressions.specs.Term.{kindOf, numberOf, packedOf}
+use Rattle.text_terms.specs.declared.term.TermParts.{TermParts}
+use Rattle.text_terms.specs.Term.{kindOf, numberOf, packedOf}
 
 -- the arrays of codes: kinds, numbers, chains packed
 pub record Arrays : Type 0 where

@@ -12,14 +12,14 @@ use Rattle.text_syntax.specs.Written.{Expression}
 use Rattle.text_syntax.specs.Grammar.{operatorForm, expression}
 use Rattle.text_syntax.specs.Parts.{depth}
 use Rattle.text_syntax.specs.Flat.{summary, merged}
-use Rattle.text_expressions.specs.declared.place.OperatorRead.{OperatorRead}
-use Rattle.text_expressions.specs.declared.place.OperatorRead.the-variants as O
+use Rattle.text_terms.specs.declared.place.OperatorRead.{OperatorRead}
+use Rattle.text_terms.specs.declared.place.OperatorRead.the-variants as O
 use Rattle.text_expressions.specs.declared.summary.Summary.{Summary}
 use Rattle.text_expressions.specs.declared.join.Reading.{Reading}
 use Rattle.text_expressions.specs.declared.join.Reading.the-variants.{Read, NoForm, Deep}
 use Rattle.text_expressions.specs.declared.expression.ExpressionRead.{ExpressionRead}
 use Rattle.text_expressions.specs.declared.expression.ExpressionRead.the-variants.{Parts, NoForm as NoParts}
-use Rattle.text_expressions.specs.Place.{tokensFrom, Behind, Passing, Absent}
+use Rattle.text_terms.specs.Place.{tokensFrom, Behind, Passing, Absent}
 use Rattle.text_expressions.specs.Summary.{summaryOf}
 use Rattle.text_expressions.specs.Codes.{Arrays, codesOf, Wrote, Roomy}
 

@@ -16,7 +16,7 @@ use Rattle.text_expressions.specs.declared.scan.Turn.{Turn}
 use Rattle.text_expressions.specs.declared.scan.Turn.the-variants.{Next, Done, NoForm}
 use Rattle.text_expressions.specs.declared.scan.ScanRead.{ScanRead}
 use Rattle.text_expressions.specs.declared.scan.ScanRead.the-variants.{Scanned, NoForm as NoScan}
-use Rattle.text_expressions.specs.Place.{tokensFrom}
+use Rattle.text_terms.specs.Place.{tokensFrom}
 use Rattle.text_expressions.specs.Summary.{summaryOf}
 
 -- a state whose place is inside the line; each group and each operator has a byte before it

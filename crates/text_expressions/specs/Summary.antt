@@ -1,7 +1,7 @@
 -- Summaries as the code has them.
 use mathlib.Core.Bool.{not}
 use Rattle.text_syntax.specs.Flat as F
-use Rattle.text_expressions.specs.declared.term.TermParts.{TermParts}
+use Rattle.text_terms.specs.declared.term.TermParts.{TermParts}
 use Rattle.text_expressions.specs.declared.summary.Summary.{Summary}
 
 abbrev pub summaryOf : Summary → F.Summary

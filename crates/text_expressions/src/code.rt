@@ -4,8 +4,8 @@ ghost use mathlib.Core.Logic.{_≢_};
 ghost use Prim.Native.Nat.{_+_, _<_};
 ghost use lib.ListN.{length};
 ghost use Rattle.text_expressions.specs.Codes.{arrays, termCode, signKind, Wrote, WroteSign};
-use crate::term::TermParts;
 use program::rule::Operator;
+use text_terms::term::TermParts;
 
 // The code of a term, at place `at`.
 pub fn put_term(

@@ -6,10 +6,10 @@ ghost use Rattle.text_syntax.specs.Grammar.{isSum, isSmaller};
 ghost use Rattle.text_expressions.specs.Reading.{RankedAt};
 ghost use Rattle.text_expressions.specs.Join.{rankOf, NextAt, ReadyFor, JoinedBy};
 use crate::code;
-use crate::place;
-use crate::place::OperatorRead;
 use crate::summary;
 use crate::summary::Summary;
+use text_terms::place;
+use text_terms::place::OperatorRead;
 
 // What has been gathered then, the place behind and the number of codes; no form stands there; or one that is deeper than
 // what remains.

@@ -3,7 +3,7 @@ ghost use Prim.Native.Nat.{_≤_};
 ghost use lib.ListN.{length};
 ghost use Rattle.register.specs.Shape.{Limits};
 ghost use Rattle.text_syntax.specs.Grammar.{expression, minimum, operand};
-ghost use Rattle.text_expressions.specs.Term.{NoTerm};
+ghost use Rattle.text_terms.specs.Term.{NoTerm};
 ghost use Rattle.text_expressions.specs.Codes.{arrays, Roomy};
 ghost use Rattle.text_expressions.specs.Reading.{ReadingAt, EndInside, GroupedBy};
 use crate::code;
@@ -11,13 +11,13 @@ use crate::join;
 use crate::join::Joining;
 use crate::join::Pending;
 use crate::join::Reading;
-use crate::place;
 use crate::summary;
 use crate::summary::Summary;
-use crate::term;
-use crate::term::TermRead;
 use register::Sizes;
-use text_tokens::token::Place;
+use text_terms::place;
+use text_terms::term;
+use text_terms::term::TermRead;
+use text_words::token::Place;
 
 // The expression at `at`: what `<?` joins, joined by `+` and `-`.
 pub fn read_expression(

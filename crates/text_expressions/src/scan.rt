@@ -4,17 +4,17 @@ ghost use mathlib.Core.Bool.{true, false};
 ghost use Prim.Native.Nat.{_≤_};
 ghost use lib.ListN.{length};
 ghost use Rattle.register.specs.Shape.{Limits};
-ghost use Rattle.text_expressions.specs.Place.{NoOperator};
-ghost use Rattle.text_expressions.specs.Term.{NoTerm};
+ghost use Rattle.text_terms.specs.Place.{NoOperator};
+ghost use Rattle.text_terms.specs.Term.{NoTerm};
 ghost use Rattle.text_expressions.specs.Scan.{StateAt, TurnAt, ScanAt};
-use crate::place;
-use crate::place::OperatorRead;
 use crate::summary;
 use crate::summary::Summary;
-use crate::term;
-use crate::term::TermRead;
 use register::Sizes;
-use text_tokens::token::Place;
+use text_terms::place;
+use text_terms::place::OperatorRead;
+use text_terms::term;
+use text_terms::term::TermRead;
+use text_words::token::Place;
 
 // Where a pass stands: whether an operand is due, in how many groups, and what has been gathered.
 pub struct State {

@@ -4,8 +4,8 @@ ghost use Prim.Native.Nat.{_<_, max};
 ghost use Rattle.text_syntax.specs.Flat.{empty, merged, withOperator};
 ghost use Rattle.text_syntax.specs.Grammar.{isSum};
 ghost use Rattle.text_expressions.specs.Summary.{summaryOf, termSummary};
-use crate::term::TermParts;
 use program::rule::Operator;
+use text_terms::term::TermParts;
 
 // Whether all letters name fields, chains go over references, a reference or a measure is held, chains are short, numbers
 // are in range; the groups around groups, and the operators.

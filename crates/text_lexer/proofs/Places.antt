@@ -6,7 +6,7 @@ use native.Mathlib.Omega.{arith}
 use lib.ListN.{length, drop, length-drop, drop-of-length-le}
 use lib.Seq.{drop-drop}
 use Rattle.chain_text.specs.Scan.{startsWith}
-use Rattle.text_forms.specs.Span.{starts, span}
+use Rattle.text_numerals.specs.Span.{starts, span}
 use Rattle.text_syntax.specs.Lexing.{isSpace, unlessEmpty, skipped}
 use Rattle.text_lexer.specs.Lexeme.{nextPlace}
 

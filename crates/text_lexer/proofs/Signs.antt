@@ -16,13 +16,13 @@ use Rattle.chain_text.specs.Text.{isCapital}
 use Rattle.chain_text.specs.Scan.{startsWith}
 use Rattle.program.specs.declared.rule.Comparison.the-variants.{Less}
 use Rattle.program.specs.declared.rule.Sort.the-variants.{Least}
-use Rattle.text_forms.specs.Numeral as N
-use Rattle.text_forms.specs.Numeral.{isDigit, NumberForm, numberForm, printedNumber, cappedValue}
-use Rattle.text_forms.specs.Token.{opensWith}
-use Rattle.text_forms.proofs.Digits.{digit-low}
-use Rattle.text_tokens.specs.Tokens.{numberRead}
-use Rattle.text_tokens.specs.declared.numeral.NumberRead.the-variants.{Number, NoForm}
-use Rattle.text_tokens.proofs.Numbers.{and-one}
+use Rattle.text_numerals.specs.Numeral as N
+use Rattle.text_numerals.specs.Numeral.{isDigit, NumberForm, numberForm, printedNumber, cappedValue}
+use Rattle.text_numerals.specs.Word.{opensWith}
+use Rattle.text_numerals.proofs.Digits.{digit-low}
+use Rattle.text_words.specs.Tokens.{numberRead}
+use Rattle.text_words.specs.declared.numeral.NumberRead.the-variants.{Number, NoForm}
+use Rattle.text_words.proofs.Numbers.{and-one}
 use Rattle.text_syntax.specs.Token as S
 use Rattle.text_syntax.specs.Lexing.{spelled, words, signs, First, first, none, fixedToken, numberToken, firstToken}
 use Rattle.text_syntax.proofs.Spellings.{letter-read, less-read}

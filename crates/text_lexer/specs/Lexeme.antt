@@ -6,7 +6,7 @@ use mathlib.Core.Bool.{Bool, true, false}
 use mathlib.Core.List.{List, [], _∷_}
 use lib.IntN.{ℤ}
 use lib.ListN.{length, drop}
-use Rattle.text_forms.specs.Numeral.{Numeral, cappedValue}
+use Rattle.text_numerals.specs.Numeral.{Numeral, cappedValue}
 use Rattle.text_syntax.specs.Token as S
 use Rattle.text_syntax.specs.Token.{stepWord, endWord, doneWord, loopWord, ifWord, remoteWord, own, letter, number, becomes, colon, write, operator, comparison, openSquare, closeSquare, openRound, closeRound, unknown}
 use Rattle.text_syntax.specs.Lexing.{spelled, First, first, none, firstToken, skipped, tokensAt}

@@ -2,7 +2,7 @@
 ghost use mathlib.Core.Path.{_≡_};
 ghost use Prim.Native.Nat.{_≤_, _<_};
 ghost use lib.ListN.{length, drop};
-ghost use Rattle.text_forms.specs.Numeral.{numberForm};
+ghost use Rattle.text_numerals.specs.Numeral.{numberForm};
 ghost use Rattle.text_syntax.specs.Lexing.{firstToken, numberToken};
 ghost use Rattle.text_lexer.specs.Lexeme.{sizedFirst, nextPlace, lexeme};
 use crate::sign;
@@ -11,8 +11,8 @@ use crate::token::SizedToken;
 use crate::token::Token;
 use chain_text::letters;
 use chain_text::text;
-use text_tokens::numeral;
-use text_tokens::numeral::NumberRead;
+use text_words::numeral;
+use text_words::numeral::NumberRead;
 
 // The number at `at`, if one stands there.
 fn number_at(line: &[u8], at: usize) -> SizedToken

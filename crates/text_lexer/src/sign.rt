@@ -5,7 +5,7 @@ ghost use mathlib.Core.List.{_∷_, _++_};
 ghost use Prim.Native.Nat.{_+_, _≤_, _<_};
 ghost use lib.ListN.{length, drop};
 ghost use Rattle.chain_text.specs.Scan.{startsWith};
-ghost use Rattle.text_forms.specs.Token.{opensWith};
+ghost use Rattle.text_numerals.specs.Word.{opensWith};
 ghost use Rattle.text_syntax.specs.Lexing.{words, signs, fixedToken};
 ghost use Rattle.text_lexer.specs.Lexeme.{sizedToken, noToken, sizedFirst};
 use crate::token::SizedToken;
@@ -14,8 +14,8 @@ use chain_text::text;
 use program::rule::Comparison;
 use program::rule::Operator;
 use program::rule::Sort;
-use text_tokens::token;
-use text_tokens::token::Place;
+use text_words::token;
+use text_words::token::Place;
 
 pub fn sized(token: Token, size: usize) -> SizedToken
     ensures { λ r. ⌜ r ≡ sizedToken token size ⌝ }

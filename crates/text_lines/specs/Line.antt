@@ -25,12 +25,12 @@ use Rattle.text_rules.specs.declared.line.LineRead.{LineRead}
 use Rattle.text_rules.specs.declared.line.LineRead.the-variants.{Step, End, Done, Loop, Rule, NoForm}
 use Rattle.text_rules.specs.LineRead.{allPass, Reads}
 use Rattle.text_expressions.specs.declared.summary.Summary.{Summary}
-use Rattle.text_expressions.specs.Place.{tokensFrom}
+use Rattle.text_terms.specs.Place.{tokensFrom}
 use Rattle.text_expressions.specs.Summary.{summaryOf}
 use Rattle.text_expressions.specs.Codes.{Arrays}
-use Rattle.text_lines.specs.Word.{isEmpty}
-use Rattle.text_lines.specs.Checks.{allTrue, summaryChecks, bothChecks, withKinds, conditionChecks}
-use Rattle.text_lines.specs.Side.{codesFor, KeptBefore, Holds}
+use Rattle.text_sides.specs.Word.{isEmpty}
+use Rattle.text_sides.specs.Checks.{allTrue, summaryChecks, bothChecks, withKinds, conditionChecks}
+use Rattle.text_sides.specs.Side.{codesFor, KeptBefore, Holds}
 use Rattle.text_lines.specs.declared.line.LineParts.{LineParts}
 use Rattle.text_lines.specs.declared.line.TestParts.{TestParts}
 use Rattle.text_lines.specs.declared.line.FirstSide.{FirstSide}

@@ -1,6 +1,2 @@
 // The line reader: it takes the next token by `let .. else` and refuses the line otherwise (7).
-pub mod action;
-pub mod checks;
 pub mod line;
-pub mod side;
-pub mod word;

@@ -10,7 +10,7 @@ use borrow.Author.Tests.{eqb-true, not-false, lt-ltb, le-ltb}
 use lib.ListN.{length, getD, take, drop, length-drop, drop-of-length-le}
 use lib.Seq.{drop-cons, take-append-seam, length-take-le}
 use Rattle.register.specs.declared.Sizes.{Sizes}
-use Rattle.text_forms.proofs.Spans.{starts-within, span-text, span-every, span-behind}
+use Rattle.text_numerals.proofs.Spans.{starts-within, span-text, span-every, span-behind}
 use Rattle.text_syntax.specs.Lexing.{tokens}
 use Rattle.text_syntax.specs.Grammar.{anyForm, lineForm}
 use Rattle.text_rules.specs.Text.{isWithin, Piece, ended, cut, pieceForm, lines}

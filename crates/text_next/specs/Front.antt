@@ -6,14 +6,14 @@ use mathlib.Core.Option.{Option, none}
 use lib.Dec.{ltb}
 use lib.ListN.{length}
 use Rattle.register.specs.declared.Sizes.{Sizes}
-use Rattle.text_forms.specs.Span.{starts, span}
+use Rattle.text_numerals.specs.Span.{starts, span}
 use Rattle.text_syntax.specs.Lexing.{tokens}
 use Rattle.text_syntax.specs.Written.{Line}
 use Rattle.text_syntax.specs.Grammar.{lineForm}
 use Rattle.text_rules.specs.Text.{isWithin}
 use Rattle.text_rules.specs.LineRead.{Reads}
 use Rattle.text_expressions.specs.Codes.{Arrays}
-use Rattle.text_lines.specs.Side.{codesFor}
+use Rattle.text_sides.specs.Side.{codesFor}
 use Rattle.text_lines.specs.Line.{Leaves}
 use Rattle.text_lines.specs.declared.line.LineParts.{LineParts}
 

@@ -23,7 +23,7 @@ use Rattle.text_rules.specs.Text.{writtenRule}
 use Rattle.text_rules.proofs.Checked.{Clean}
 use Rattle.text_state.proofs.Standing.{clean-passes}
 use Rattle.text_expressions.specs.Codes.{Arrays}
-use Rattle.text_lines.specs.Side.{codesFor, KeptBefore}
+use Rattle.text_sides.specs.Side.{codesFor, KeptBefore}
 use Rattle.text_lines.specs.Line.{Leaves}
 use Rattle.text_plan.specs.Readings.{Short}
 

@@ -22,7 +22,7 @@ use Rattle.text_rules.specs.declared.line.Checks.{Checks}
 use Rattle.text_rules.specs.declared.line.LineRead.the-variants as L
 use Rattle.text_rules.specs.LineRead.{Reads}
 use Rattle.text_expressions.specs.Codes.{Arrays}
-use Rattle.text_lines.specs.Side.{codesFor}
+use Rattle.text_sides.specs.Side.{codesFor}
 use Rattle.text_lines.specs.Line.{Leaves}
 use Rattle.text_lines.specs.declared.line.LineParts.{LineParts}
 use Rattle.program.specs.declared.rule.Slot.{Slot}

@@ -13,9 +13,9 @@ use Rattle.integers.specs.Range.{inRange}
 use Rattle.chain_text.specs.Text as C
 use Rattle.chain_text.specs.Scan.{startsWith}
 use Rattle.plan_theory.specs.Plan.{back, read, result, round, rounds, plan, addReadings, add, withTree as planLines, listed, lineIndex, sameFact, sameWord, tree, treeWithin, half, doubled, front, rest}
-use Rattle.text_forms.specs.Numeral.{isDigit, digits, decimal, whole, metres, allDigits, centimetres, wholeDigits, noLeadingZero, twoDecimals, isNumeral, withDecimals, numeral, printedNumeral, signedForm, numberValue, signedValue}
-use Rattle.text_forms.specs.Span.{span}
-use Rattle.text_forms.specs.Token.{opensWith}
+use Rattle.text_numerals.specs.Numeral.{isDigit, digits, decimal, whole, metres, allDigits, centimetres, wholeDigits, noLeadingZero, twoDecimals, isNumeral, withDecimals, numeral, printedNumeral, signedForm, numberValue, signedValue}
+use Rattle.text_numerals.specs.Span.{span}
+use Rattle.text_numerals.specs.Word.{opensWith}
 use Rattle.text_syntax.specs.Written as W
 use Rattle.text_syntax.specs.Lexing.{spelled, words, signs, fixedToken, numberToken, firstToken, operandBehind, isSpace, unlessEmpty, skipped, followed, tokensFrom, tokensAt, tokens}
 use Rattle.text_syntax.specs.Kind.{kind, fixedIn, letterIn, writeIn, operatorIn, comparisonIn, same, is}

@@ -12,8 +12,8 @@ use Rattle.laws.specs.Lists.{every}
 use Rattle.laws.proofs.Bools.{and-both, and-true}
 use Rattle.program.specs.declared.rule.Comparison.the-variants.{Less, Equal, Unequal}
 use Rattle.program.specs.declared.rule.Sort.the-variants.{Least, Total}
-use Rattle.text_forms.specs.Numeral.{isDigit, Numeral, whole, metres, printedNumeral, allDigits, signedText, printedNumber}
-use Rattle.text_forms.proofs.Spans.{every-parts}
+use Rattle.text_numerals.specs.Numeral.{isDigit, Numeral, whole, metres, printedNumeral, allDigits, signedText, printedNumber}
+use Rattle.text_numerals.proofs.Spans.{every-parts}
 use Rattle.program.specs.declared.rule.Operator.the-variants.{Plus, Minus, Smaller}
 use Rattle.text_syntax.specs.Token.{Token, stepWord, endWord, doneWord, loopWord, ifWord, remoteWord, own, letter, number, becomes, colon, write, operator, comparison, openSquare, closeSquare, openRound, closeRound, unknown}
 use Rattle.text_syntax.specs.Lexing.{spelled}

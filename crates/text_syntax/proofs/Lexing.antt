@@ -15,12 +15,12 @@ use Rattle.chain_text.specs.Text.{isCapital}
 use Rattle.chain_text.specs.Scan.{startsWith}
 use Rattle.program.specs.declared.rule.Comparison.the-variants.{Less, Equal, Unequal}
 use Rattle.program.specs.declared.rule.Sort.the-variants.{Least, Total}
-use Rattle.text_forms.specs.Numeral as N
-use Rattle.text_forms.specs.Numeral.{isDigit, startsDigit, digits, Numeral, whole, metres, printedNumeral, wholeDigits, noLeadingZero, isNumeral, withDecimals, numeral, signedForm, signedText, printedNumber}
-use Rattle.text_forms.specs.Span.{span}
-use Rattle.text_forms.specs.Token.{opensWith}
-use Rattle.text_forms.proofs.Spans.{span-text, span-every, span-behind}
-use Rattle.text_forms.proofs.Numerals.{numeral-text, numeral-digits, whole-bound}
+use Rattle.text_numerals.specs.Numeral as N
+use Rattle.text_numerals.specs.Numeral.{isDigit, startsDigit, digits, Numeral, whole, metres, printedNumeral, wholeDigits, noLeadingZero, isNumeral, withDecimals, numeral, signedForm, signedText, printedNumber}
+use Rattle.text_numerals.specs.Span.{span}
+use Rattle.text_numerals.specs.Word.{opensWith}
+use Rattle.text_numerals.proofs.Spans.{span-text, span-every, span-behind}
+use Rattle.text_numerals.proofs.Numerals.{numeral-text, numeral-digits, whole-bound}
 use Rattle.program.specs.declared.rule.Operator.the-variants.{Plus, Smaller}
 use Rattle.text_syntax.specs.Token.{Token, stepWord, endWord, doneWord, loopWord, ifWord, remoteWord, own, letter, number, becomes, colon, write, operator, comparison, openSquare, closeSquare, openRound, closeRound, unknown}
 use Rattle.text_syntax.specs.Lexing.{spelled, words, signs, First, first, none, fixedToken, numberToken, firstToken, operandBehind, isSpace, unlessEmpty, skipped, followed, tokensFrom, tokensAt}

@@ -16,13 +16,13 @@ use Rattle.chain_text.specs.Scan.{startsWith}
 use Rattle.chain_text.proofs.Steps.{capital-low}
 use Rattle.program.specs.declared.rule.Comparison.the-variants.{Less, Equal, Unequal}
 use Rattle.program.specs.declared.rule.Sort.the-variants.{Least, Total}
-use Rattle.text_forms.specs.Numeral as N
-use Rattle.text_forms.specs.Numeral.{isDigit, digits, Numeral, whole, metres, printedNumeral, allDigits, wholeDigits, noLeadingZero, isNumeral, signedForm, signedText, printedNumber}
-use Rattle.text_forms.specs.Span.{span}
-use Rattle.text_forms.specs.Token.{opensWith}
-use Rattle.text_forms.proofs.Spans.{span-append, span-none}
-use Rattle.text_forms.proofs.Digits.{digit-low}
-use Rattle.text_forms.proofs.Numerals.{numeral-read}
+use Rattle.text_numerals.specs.Numeral as N
+use Rattle.text_numerals.specs.Numeral.{isDigit, digits, Numeral, whole, metres, printedNumeral, allDigits, wholeDigits, noLeadingZero, isNumeral, signedForm, signedText, printedNumber}
+use Rattle.text_numerals.specs.Span.{span}
+use Rattle.text_numerals.specs.Word.{opensWith}
+use Rattle.text_numerals.proofs.Spans.{span-append, span-none}
+use Rattle.text_numerals.proofs.Digits.{digit-low}
+use Rattle.text_numerals.proofs.Numerals.{numeral-read}
 use Rattle.program.specs.declared.rule.Operator.the-variants.{Plus, Minus, Smaller}
 use Rattle.text_syntax.specs.Token.{Token, stepWord, endWord, doneWord, loopWord, ifWord, remoteWord, own, letter, number, becomes, colon, write, operator, comparison, openSquare, closeSquare, openRound, closeRound, unknown}
 use Rattle.text_syntax.specs.Lexing.{spelled, words, signs, First, first, none, fixedToken, numberToken, firstToken, operandBehind, isSpace, unlessEmpty, skipped, tokensAt, tokens}

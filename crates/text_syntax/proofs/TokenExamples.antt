@@ -6,9 +6,9 @@ use mathlib.Core.List.{List, [], _∷_}
 use Rattle.laws.specs.Bytes.{bytes}
 use Rattle.chain_text.specs.Text.{isCapital}
 use Rattle.chain_text.specs.Scan.{startsWith}
-use Rattle.text_forms.specs.Numeral.{isDigit, digits, decimal, whole, allDigits, centimetres, wholeDigits, printedNumeral, noLeadingZero, twoDecimals, isNumeral, withDecimals, numeral, signedForm}
-use Rattle.text_forms.specs.Span.{span}
-use Rattle.text_forms.specs.Token.{opensWith}
+use Rattle.text_numerals.specs.Numeral.{isDigit, digits, decimal, whole, allDigits, centimetres, wholeDigits, printedNumeral, noLeadingZero, twoDecimals, isNumeral, withDecimals, numeral, signedForm}
+use Rattle.text_numerals.specs.Span.{span}
+use Rattle.text_numerals.specs.Word.{opensWith}
 use Rattle.program.specs.declared.rule.Operator.the-variants.{Minus}
 use Rattle.text_syntax.specs.Token.{Token, stepWord, ifWord, own, letter, number, operator, openSquare, closeSquare, openRound, closeRound, unknown}
 use Rattle.text_syntax.specs.Lexing.{spelled, words, signs, fixedToken, numberToken, firstToken, operandBehind, isSpace, unlessEmpty, skipped, followed, tokensFrom, tokensAt}

@@ -4,7 +4,7 @@ use Prim.Native.Nat.{_<_}
 use native.Mathlib.Omega.{arith}
 use Rattle.program.specs.declared.rule.Operator.{Operator}
 use Rattle.program.specs.Program as P
-use Rattle.text_forms.specs.Numeral.{whole, metres, allDigits, centimetres, numberValue}
+use Rattle.text_numerals.specs.Numeral.{whole, metres, allDigits, centimetres, numberValue}
 use Rattle.program.specs.declared.rule.Operator.the-variants.{Plus, Minus, Smaller}
 use Rattle.text_syntax.specs.Written.{Term, chain, number, Expression, term, group, operation, Condition, always, when, Action, set, remote}
 use Rattle.text_syntax.specs.Printed.{tightness, bound, ProperExpression}

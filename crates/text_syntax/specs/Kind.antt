@@ -5,7 +5,7 @@ use mathlib.Core.Option.{Option, none, some}
 use lib.Dec.{eqb}
 use Rattle.program.specs.declared.rule.Comparison.{Comparison}
 use Rattle.program.specs.declared.rule.Sort.{Sort}
-use Rattle.text_forms.specs.Numeral.{Numeral}
+use Rattle.text_numerals.specs.Numeral.{Numeral}
 use Rattle.text_syntax.specs.Token as T
 use Rattle.program.specs.declared.rule.Operator.{Operator}
 use Rattle.text_syntax.specs.Token.{Token}

@@ -9,10 +9,10 @@ use Rattle.laws.specs.Bytes.{bytes}
 use Rattle.chain_text.specs.Text.{isCapital}
 use Rattle.program.specs.declared.rule.Comparison.the-variants.{Less, Equal, Unequal}
 use Rattle.program.specs.declared.rule.Sort.the-variants.{Least, Total}
-use Rattle.text_forms.specs.Numeral as N
-use Rattle.text_forms.specs.Numeral.{isDigit, NumberForm, signedForm, printedNumber}
-use Rattle.text_forms.specs.Span.{span}
-use Rattle.text_forms.specs.Token.{opensWith}
+use Rattle.text_numerals.specs.Numeral as N
+use Rattle.text_numerals.specs.Numeral.{isDigit, NumberForm, signedForm, printedNumber}
+use Rattle.text_numerals.specs.Span.{span}
+use Rattle.text_numerals.specs.Word.{opensWith}
 use Rattle.program.specs.declared.rule.Operator.the-variants.{Plus, Minus, Smaller}
 use Rattle.text_syntax.specs.Token.{Token, stepWord, endWord, doneWord, loopWord, ifWord, remoteWord, own, letter, number, becomes, colon, write, operator, comparison, openSquare, closeSquare, openRound, closeRound, unknown}
 

@@ -8,7 +8,7 @@ use Rattle.integers.specs.Range.{inRange}
 use Rattle.register.specs.declared.Sizes.{Sizes}
 use Rattle.laws.specs.Lists.{every}
 use Rattle.chain_text.specs.Text.{names, isReferenceLetter, innerReferences}
-use Rattle.text_forms.specs.Numeral.{numberValue}
+use Rattle.text_numerals.specs.Numeral.{numberValue}
 use Rattle.program.specs.declared.rule.Sort.the-variants.{Least, Total}
 use Rattle.text_syntax.specs.Written.{Term, chain, number, Expression, term, group, operation, Condition, always, when, Action, set, remote, Line, step, end, done, loop, rule}
 use Rattle.text_syntax.specs.Grammar.{isSum}

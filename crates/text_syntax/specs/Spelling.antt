@@ -8,7 +8,7 @@ use Rattle.laws.specs.Lists.{every}
 use Rattle.chain_text.specs.Text.{isCapital}
 use Rattle.chain_text.specs.Scan.{startsWith}
 use Rattle.program.specs.declared.rule.Comparison.the-variants.{Less, Equal, Unequal}
-use Rattle.text_forms.specs.Numeral.{isDigit, startsDigit, Numeral, allDigits, isNumeral}
+use Rattle.text_numerals.specs.Numeral.{isDigit, startsDigit, Numeral, allDigits, isNumeral}
 use Rattle.program.specs.declared.rule.Operator.the-variants.{Plus, Minus, Smaller}
 use Rattle.text_syntax.specs.Token.{Token, stepWord, endWord, doneWord, loopWord, ifWord, remoteWord, own, letter, number, becomes, colon, write, operator, comparison, openSquare, closeSquare, openRound, closeRound, unknown}
 use Rattle.text_syntax.specs.Lexing.{spelled, operandBehind}

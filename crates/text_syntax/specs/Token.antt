@@ -4,7 +4,7 @@ use mathlib.Core.Bool.{Bool}
 use Rattle.program.specs.declared.rule.Comparison.{Comparison}
 use Rattle.program.specs.declared.rule.Operator.{Operator}
 use Rattle.program.specs.declared.rule.Sort.{Sort}
-use Rattle.text_forms.specs.Numeral.{Numeral}
+use Rattle.text_numerals.specs.Numeral.{Numeral}
 
 -- a word; `u`; a capital; a number with its minus, where it has one; `:=`, `:`; `<?=` or `+=`; an operator; `<`, `==` or `!=`; brackets; and
 -- what is no token

@@ -2,7 +2,7 @@
 use mathlib.Core.List.{_++_}
 use Rattle.chain_text.specs.Text.{letterField, wordOf}
 use Rattle.program.specs.Program as P
-use Rattle.text_forms.specs.Numeral.{Numeral, whole, metres, numberValue}
+use Rattle.text_numerals.specs.Numeral.{Numeral, whole, metres, numberValue}
 use Rattle.text_syntax.specs.Written.{Term, chain, number, Expression, term, group, operation, Condition, always, when, Action, set, remote, Line, step, end, done, loop, rule}
 
 -- a chain by its hop word, a number by its value: "`1.80` means 180 centimetres"

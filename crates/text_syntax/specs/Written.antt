@@ -4,7 +4,7 @@ use mathlib.Core.Bool.{Bool}
 use mathlib.Core.List.{List}
 use Rattle.program.specs.declared.rule.Comparison.{Comparison}
 use Rattle.program.specs.declared.rule.Sort.{Sort}
-use Rattle.text_forms.specs.Numeral.{Numeral}
+use Rattle.text_numerals.specs.Numeral.{Numeral}
 use Rattle.program.specs.declared.rule.Operator.{Operator}
 
 -- "A term X or Y is a chain or a number": a chain by its letters from the outside in, a number by its minus and numeral

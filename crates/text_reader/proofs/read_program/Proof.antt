@@ -11,7 +11,7 @@ use Rattle.register.specs.declared.Sizes.{Sizes}
 use Rattle.laws.specs.Outcome.{refused}
 use Rattle.text_rules.specs.Text.{advance}
 use Rattle.text_expressions.specs.Codes.{Arrays, arrays}
-use Rattle.text_lines.specs.Side.{codesFor}
+use Rattle.text_sides.specs.Side.{codesFor}
 use Rattle.text_plan.specs.Readings.{addedOf}
 use Rattle.text_state.specs.State.{advanceOf}
 use Rattle.text_reader.specs.Answers.{CodeArrays}

@@ -4,7 +4,7 @@ use mathlib.Core.Path.{sym, ap, subst, _∙_}
 use mathlib.Core.Bool.{not}
 use borrow.Author.Needs.{needs}
 use Rattle.text_syntax.specs.Grammar.{isSmaller}
-use Rattle.text_expressions.specs.Place.{PassesOperator}
+use Rattle.text_terms.specs.Place.{PassesOperator}
 use Rattle.text_expressions.proofs.Joining.{ranked-none, ranked-other}
 use Rattle.text_expressions.proofs.join.smaller_sign.Statement.{statement}
 use Rattle.text_expressions.proofs.join.smaller_sign.Tie as tie

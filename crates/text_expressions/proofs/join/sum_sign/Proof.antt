@@ -3,7 +3,7 @@
 use mathlib.Core.Path.{sym, subst, _∙_}
 use borrow.Author.Needs.{needs}
 use Rattle.text_syntax.specs.Grammar.{isSum}
-use Rattle.text_expressions.specs.Place.{PassesOperator}
+use Rattle.text_terms.specs.Place.{PassesOperator}
 use Rattle.text_expressions.proofs.Joining.{ranked-none, ranked-other}
 use Rattle.text_expressions.proofs.join.sum_sign.Statement.{statement}
 use Rattle.text_expressions.proofs.join.sum_sign.Tie as tie

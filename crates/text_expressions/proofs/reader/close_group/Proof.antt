@@ -5,7 +5,7 @@ use mathlib.Core.Bool.{false}
 use borrow.Author.Needs.{needs}
 use denote.Ref.{now}
 use Rattle.text_syntax.specs.Token.{closeRound}
-use Rattle.text_expressions.specs.Place.{Passes}
+use Rattle.text_terms.specs.Place.{Passes}
 use Rattle.text_expressions.specs.Reading.{EndInside, GroupedBy}
 use Rattle.text_expressions.specs.declared.join.Reading.{Reading}
 use Rattle.text_expressions.specs.declared.join.Reading.the-variants.{Read, NoForm, Deep}

@@ -3,7 +3,7 @@
 use mathlib.Core.Path.{subst}
 use native.Mathlib.Omega.{arith}
 use borrow.Author.Needs.{needs}
-use Rattle.text_expressions.specs.Place.{PassesOperator}
+use Rattle.text_terms.specs.Place.{PassesOperator}
 use Rattle.text_expressions.proofs.Turning.{turn-operator}
 use Rattle.text_expressions.proofs.scan.behind.Statement.{statement}
 use Rattle.text_expressions.proofs.scan.behind.Tie as tie

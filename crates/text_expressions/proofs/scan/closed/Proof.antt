@@ -5,7 +5,7 @@ use mathlib.Core.Bool.{false}
 use native.Mathlib.Omega.{arith}
 use borrow.Author.Needs.{needs}
 use Rattle.text_syntax.specs.Token.{closeRound}
-use Rattle.text_expressions.specs.Place.{Passes}
+use Rattle.text_terms.specs.Place.{Passes}
 use Rattle.text_expressions.proofs.Turning.{turn-end, turn-close, turn-unclosed}
 use Rattle.text_expressions.proofs.scan.closed.Statement.{statement}
 use Rattle.text_expressions.proofs.scan.closed.Tie as tie

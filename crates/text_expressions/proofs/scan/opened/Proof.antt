@@ -5,7 +5,7 @@ use mathlib.Core.Bool.{true}
 use native.Mathlib.Omega.{arith}
 use borrow.Author.Needs.{needs}
 use Rattle.text_syntax.specs.Token.{openRound}
-use Rattle.text_expressions.specs.Place.{Passes}
+use Rattle.text_terms.specs.Place.{Passes}
 use Rattle.text_expressions.proofs.Turning.{turn-open, turn-none}
 use Rattle.text_expressions.proofs.scan.opened.Statement.{statement}
 use Rattle.text_expressions.proofs.scan.opened.Tie as tie

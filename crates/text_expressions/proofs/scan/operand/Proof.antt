@@ -2,7 +2,7 @@
 -- Assumes nothing.
 use mathlib.Core.Path.{subst}
 use borrow.Author.Needs.{needs}
-use Rattle.text_expressions.specs.Term.{TermAt}
+use Rattle.text_terms.specs.Term.{TermAt}
 use Rattle.text_expressions.proofs.Turning.{turn-term}
 use Rattle.text_expressions.proofs.scan.operand.Statement.{statement}
 use Rattle.text_expressions.proofs.scan.operand.Tie as tie

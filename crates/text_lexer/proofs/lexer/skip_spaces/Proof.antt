@@ -6,8 +6,8 @@ use mathlib.Core.Bool.{true}
 use native.Mathlib.Omega.{arith}
 use lib.ListN.{length, drop}
 use denote.Ref.{now}
-use Rattle.text_forms.specs.Span.{starts}
-use Rattle.text_forms.proofs.Spans.{Onward, onward-more, onward-end, starts-inside}
+use Rattle.text_numerals.specs.Span.{starts}
+use Rattle.text_numerals.proofs.Spans.{Onward, onward-more, onward-end, starts-inside}
 use Rattle.text_syntax.specs.Lexing.{isSpace}
 use Rattle.text_lexer.proofs.Places.{space-starts, place-blank, place-behind}
 use Rattle.text_lexer.proofs.lexer.skip_spaces.Statement.{statement}

@@ -5,7 +5,7 @@ use mathlib.Core.List.{_++_}
 use borrow.Author.Needs.{needs}
 use Rattle.program.specs.declared.rule.Comparison.the-variants.{Equal, Unequal}
 use Rattle.program.specs.declared.rule.Sort.the-variants.{Total}
-use Rattle.text_forms.specs.Token.{opensWith}
+use Rattle.text_numerals.specs.Word.{opensWith}
 use Rattle.program.specs.declared.rule.Operator.the-variants.{Plus}
 use Rattle.text_syntax.specs.Token.{becomes, colon, write, operator, comparison}
 use Rattle.text_syntax.specs.Lexing.{spelled, words, signs, first, none, fixedToken}

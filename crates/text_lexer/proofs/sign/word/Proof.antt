@@ -2,7 +2,7 @@
 -- Assumes nothing.
 use mathlib.Core.Path.{sym, _∙_}
 use borrow.Author.Needs.{needs}
-use Rattle.text_tokens.proofs.Words.{literal-taken, literal-refused}
+use Rattle.text_words.proofs.Words.{literal-taken, literal-refused}
 use Rattle.text_lexer.proofs.Signs.{cond-first, cond-second}
 use Rattle.text_lexer.proofs.sign.word.Statement.{statement}
 use Rattle.text_lexer.proofs.sign.word.Tie as tie

@@ -2,7 +2,7 @@
 -- Assumes nothing.
 use mathlib.Core.Path.{refl, sym, ap, _∙_}
 use borrow.Author.Needs.{needs}
-use Rattle.text_forms.specs.Token.{opensWith}
+use Rattle.text_numerals.specs.Word.{opensWith}
 use Rattle.text_syntax.specs.Token.{stepWord, endWord, doneWord, loopWord, ifWord, remoteWord}
 use Rattle.text_syntax.specs.Lexing.{spelled, words, fixedToken}
 use Rattle.text_lexer.specs.Lexeme.{tokenCode, sizedFirst}

@@ -16,8 +16,8 @@ use Rattle.text_lexer.specs.Lexeme.{tokenCode, Lexed}
 use Rattle.text_lexer.proofs.Lexemes.{lexed}
 use Rattle.text_rules.specs.declared.line.LineRead.the-variants.{Step, End, Done}
 use Rattle.text_rules.specs.LineRead.{step-line, end-line, done-line}
-use Rattle.text_expressions.proofs.Places.{told, passed, goes-on, absent}
-use Rattle.text_lines.proofs.Actions.{roomy-later}
+use Rattle.text_terms.proofs.Places.{told, passed, goes-on, absent}
+use Rattle.text_actions.proofs.Actions.{roomy-later}
 use Rattle.text_lines.proofs.Lines.{word-at, loop-at, if-line, rule-line-at}
 use Rattle.text_lines.proofs.line.read_line.Statement.{statement}
 use Rattle.text_lines.proofs.line.read_line.Tie as tie

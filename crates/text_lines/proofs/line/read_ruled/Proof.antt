@@ -2,7 +2,7 @@
 -- Assumes nothing.
 use mathlib.Core.Path.{subst}
 use borrow.Author.Needs.{needs}
-use Rattle.text_lines.specs.Action.{ActionAt}
+use Rattle.text_actions.specs.Action.{ActionAt}
 use Rattle.text_lines.proofs.Lines.{not-ruled, ruled}
 use Rattle.text_lines.proofs.line.read_ruled.Statement.{statement}
 use Rattle.text_lines.proofs.line.read_ruled.Tie as tie
