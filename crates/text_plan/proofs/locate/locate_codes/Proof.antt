@@ -13,7 +13,8 @@ use Rattle.text_plan.proofs.locate.locate_codes.Tie as tie
 
 abbrev Inv-loop : tie.InvT-loop
 Inv-loop keys count wanted₀ kinds chains places₀ from to end at₀ wanted places at =
-    Finds (factsIn keys count) kinds chains (λ n. n ≤ from) (λ w q. EachChain (WordFound (factsIn keys count) w) kinds chains q from at) wanted₀ places₀ wanted places
+    Finds (factsIn keys count) kinds chains (λ n. n ≤ from) (λ w q. EachChain (WordFound (factsIn keys count) w) kinds chains q from at)
+    wanted₀ places₀ wanted places
     × (from ≤ at)
 
 abbrev μ-loop : tie.MeasureT-loop

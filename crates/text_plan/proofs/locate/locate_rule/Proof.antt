@@ -162,7 +162,8 @@ returns-3 c =
     let ks = now (s .args .kinds) in
     let cs = now (s .args .chains) in
     let h = f .find-chain .ensures in
-    finds-rule _ ks cs (t .rule3 .given .1) _ (finds-word _ ks cs (h .2) (f .find-chain .result) (unpack (t .rule3 .given .0 .1 .1 .0)) (h .0) (l .locate-term4 .ensures))
+    finds-rule _ ks cs (t .rule3 .given .1) _
+    (finds-word _ ks cs (h .2) (f .find-chain .result) (unpack (t .rule3 .given .0 .1 .1 .0)) (h .0) (l .locate-term4 .ensures))
 
 pub locate-rule-spec : {M : Type 1} → statement M
 locate-rule-spec =

@@ -39,7 +39,11 @@ locate-codes-requires c κs =
     let e = t .term2 .given .1 in
     let inside = s .pre .1 in (
       (s .pre .0 .0, s .pre .0 .1, term-short ks cs e (s .pre .0 .2)),
-      (subst (TermInside (length ks)) e (inside .0), subst (TermInside (length cs)) e (inside .1), subst (TermInside (length (now (s .args .places)))) e (inside .2)),
+      (
+        subst (TermInside (length ks)) e (inside .0),
+        subst (TermInside (length cs)) e (inside .1),
+        subst (TermInside (length (now (s .args .places)))) e (inside .2),
+      ),
     )
 
 returns : tie.Need-returns

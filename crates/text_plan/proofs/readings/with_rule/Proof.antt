@@ -105,7 +105,8 @@ returns-2 c =
     let ks = now (s .args .kinds) in
     let cs = now (s .args .chains) in
     let g = t .rule2 .given .0 in
-    rule-grown ks cs (t .rule2 .given .1) (grown-both (termWords ks cs (g .1 .1 .0)) (termWords ks cs (g .1 .1 .1 .0)) (f .with-term2 .ensures) (c .with-term3 .ensures))
+    rule-grown ks cs (t .rule2 .given .1)
+    (grown-both (termWords ks cs (g .1 .1 .0)) (termWords ks cs (g .1 .1 .1 .0)) (f .with-term2 .ensures) (c .with-term3 .ensures))
 
 returns-3 : tie.Need-returns-3
 unfolding ruleWords
@@ -116,7 +117,8 @@ returns-3 c =
     let ks = now (s .args .kinds) in
     let cs = now (s .args .chains) in
     let g = t .rule3 .given .0 in
-    rule-grown ks cs (t .rule3 .given .1) (grown-both (unpack (g .1 .1 .0) ∷ []) (termWords ks cs (g .1 .1 .1 .0)) (f .with-reading .ensures) (c .with-term4 .ensures))
+    rule-grown ks cs (t .rule3 .given .1)
+    (grown-both (unpack (g .1 .1 .0) ∷ []) (termWords ks cs (g .1 .1 .1 .0)) (f .with-reading .ensures) (c .with-term4 .ensures))
 
 pub with-rule-spec : {M : Type 1} → statement M
 with-rule-spec =
