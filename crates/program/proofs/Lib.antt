@@ -3,3 +3,4 @@ pub mod Rules
 pub mod Frames
 pub mod Locations
 pub mod Codes
+pub mod Agreeing

@@ -9,18 +9,15 @@ use lib.ListN.{length}
 use Rattle.register.specs.declared.Sizes.{Sizes}
 use Rattle.chain_text.specs.Text.{names, letterField}
 use Rattle.program.specs.declared.term.Term.{Term}
-use Rattle.program.specs.declared.term.Term.the-variants.{Chain, Number, Tree}
 use Rattle.program.specs.declared.rule.Test.{Test}
-use Rattle.program.specs.declared.rule.Test.the-variants.{Always, When}
+use Rattle.program.specs.declared.rule.Test.the-variants.{When}
 use Rattle.program.specs.declared.rule.Rule.{Rule}
-use Rattle.program.specs.declared.rule.Rule.the-variants as R
 use Rattle.program.specs.declared.rule.Slot.{Slot}
 use Rattle.program.specs.declared.rule.Comparison.{Comparison}
 use Rattle.program.specs.Program as P
-use Rattle.program.specs.Code.{decoded, Formed, codesOf, treeIn}
-use Rattle.program.specs.Stored.{termIn, testIn, ruleIn}
-use Rattle.program.specs.Terms.{TestTerms, RuleTerms, TermFormed, TermFrom, TermInside}
-use Rattle.program.proofs.Codes.{codes-agree}
+use Rattle.program.specs.Stored.{testIn, ruleIn}
+use Rattle.program.specs.Terms.{TestTerms, TermFormed, TermInside}
+use Rattle.program.proofs.Agreeing.{test-map, rule-map, test-both, inside-more, from-less, term-same, formed-same, test-same}
 use Rattle.text_syntax.specs.Token.{Token, letter, stepWord, endWord, doneWord, loopWord, ifWord, colon, comparison}
 use Rattle.text_syntax.specs.Lexing.{tokens}
 use Rattle.text_syntax.specs.Kind.{kind, letterIn, comparisonIn, fixedIn, same, is}
@@ -50,53 +47,10 @@ use Rattle.text_lines.specs.declared.line.FirstSide.{FirstSide}
 use Rattle.text_sides.proofs.Passing.{both-pass, both-same}
 use Rattle.text_lines.proofs.Tests.{when-pass, when-checks, line-checks}
 
--- terms whose codes stand behind an earlier place, and before a later one
-term-behind : {m n : ℕ} → m ≤ n → (x : Term) → TermFrom n x → TermFrom m x
-term-behind l (Chain c) h = tt
-term-behind l (Number z) h = tt
-term-behind l (Tree from to) h = omega (arith, l, h)
-
-term-inside : {m n : ℕ} → m ≤ n → (x : Term) → TermInside m x → TermInside n x
-term-inside l (Chain c) h = tt
-term-inside l (Number z) h = tt
-term-inside l (Tree from to) h = omega (arith, l, h)
-
--- each term of a test and of a rule
-module _ (A B : Term → Type 0) (f : (x : Term) → A x → B x) where
-  test-each : (t : Test) → TestTerms A t → TestTerms B t
-  test-each Always h = tt
-  test-each (When x c y) h = (f x (h .0), f y (h .1))
-
-  rule-each : (r : Rule) → RuleTerms A r → RuleTerms B r
-  rule-each (R.Set g x) h = f x h
-  rule-each (R.Combine g op x y) h = (f x (h .0), f y (h .1))
-  rule-each (R.Remote sort g c x) h = f x h
-
 -- what stands below n is the same in arrays that agree there
 module _ (a b : Arrays) {n : ℕ} (agree : KeptBefore a b n) where
-  tree-stays : (from to : ℕ) → to ≤ n → codesOf (codesFor a) from to ≡ codesOf (codesFor b) from to
-  tree-stays from to h =
-      codes-agree (a .kinds) (b .kinds) (a .numbers) (b .numbers) (a .chains) (b .chains) from (to - from) (λ j l r. agree j (omega (arith, h, l, r)))
-
-  term-stays : (x : Term) → TermInside n x → termIn (codesFor a) x ≡ termIn (codesFor b) x
-  unfolding termIn treeIn
-  term-stays (Chain c) h = refl
-  term-stays (Number z) h = refl
-  term-stays (Tree from to) h = ap decoded (tree-stays from to h)
-
-  formed-stays : (x : Term) → TermInside n x → TermFormed (codesFor a) x → TermFormed (codesFor b) x
-  formed-stays (Chain c) h f = tt
-  formed-stays (Number z) h f = tt
-  formed-stays (Tree from to) h f = record { formed = subst Formed (tree-stays from to h) (f .formed); some = f .some }
-
-  test-stays : (t : Test) → TestTerms (TermInside n) t → testIn (codesFor a) t ≡ testIn (codesFor b) t
-  unfolding testIn
-  test-stays Always h = refl
-  test-stays (When x c y) h = ap₂ (λ (p q : P.Expression). P.when p c q) (term-stays x (h .0)) (term-stays y (h .1))
-
   test-formed : (t : Test) → TestTerms (TermInside n) t → TestTerms (TermFormed (codesFor a)) t → TestTerms (TermFormed (codesFor b)) t
-  test-formed Always h f = tt
-  test-formed (When x c y) h f = (formed-stays x (h .0) (f .0), formed-stays y (h .1) (f .1))
+  test-formed t h f = test-map (λ x p. formed-same (codesFor a) (codesFor b) agree x (p .0) (p .1)) t (test-both (TermInside n) (TermFormed (codesFor a)) t h f)
 
   kept-on : (o : Arrays) {m : ℕ} → m ≤ n → KeptBefore o a m → KeptBefore o b m
   kept-on o l h i p = h i p ∙ agree i (omega (arith, l, p))
@@ -143,7 +97,7 @@ module _ {c : Condition} {w : Action} {a b : Arrays} {from count to : ℕ} {t : 
   rule-held : RuleRead (codesFor b) c w (record { test = t; rule = r })
   unfolding ruleIn writtenRule ruleOf
   rule-held = record {
-    rule-is = rw (sym (test-stays a b (y .kept) t (x .inside)), x .test-is, y .target-is, y .expression-is);
+    rule-is = rw (sym (test-same (codesFor a) (codesFor b) (y .kept) t (x .inside)), x .test-is, y .target-is, y .expression-is);
     formed = (test-formed a b (y .kept) t (x .inside) (x .formed), y .formed);
   }
 
@@ -163,8 +117,8 @@ module _ (s : Sizes) (line : List ℕ) (at : ℕ) (t : TestParts) (a b : Arrays)
         let q = passes p in
         let x = w (q .0) .0 in
         let y = h .held (q .1) in (
-          (x .behind, rule-each (TermFrom count) (TermFrom from) (term-behind l) r (y .behind)),
-          (test-each (TermInside count) (TermInside to) (term-inside (h .more-codes)) (t .test) (x .inside), y .inside),
+          (x .behind, rule-map (from-less l) r (y .behind)),
+          (test-map (inside-more (h .more-codes)) (t .test) (x .inside), y .inside),
           kept-on a b (y .kept) o l (w (q .0) .1),
         );
     more-codes = omega (arith, l, h .more-codes);
@@ -217,10 +171,10 @@ module _ (s : Sizes) (line : List ℕ) (at : ℕ) (x : FirstSide) (a b : Arrays)
     unfolding testIn testOf
     test-held o l p k q j = (
       record {
-        test-is = ap₂ (λ (u v : P.Expression). P.when u (x .comparison) v) (sym (term-stays a m j (x .term) (p .inside)) ∙ p .term-is) (q .term-is);
-        formed = (formed-stays a m j (x .term) (p .inside) (p .formed), q .formed);
+        test-is = ap₂ (λ (u v : P.Expression). P.when u (x .comparison) v) (sym (term-same (codesFor a) (codesFor m) j (x .term) (p .inside)) ∙ p .term-is) (q .term-is);
+        formed = (formed-same (codesFor a) (codesFor m) j (x .term) (p .inside) (p .formed), q .formed);
         behind = (p .behind, term-behind l y (q .behind));
-        inside = (term-inside (d .more-codes) (x .term) (p .inside), q .inside);
+        inside = (inside-more (d .more-codes) (x .term) (p .inside), q .inside);
       },
       kept-on a m j o l k,
     )

@@ -1,6 +1,6 @@
 -- Arrays in which more is written behind the codes so far: the rules of these codes stay as they are.
-use Prim.Native.Nat.{ℕ, _-_, _≤_, _<_}
-use mathlib.Core.Path.{_≡_, refl, ap, ap₂, subst, _∙_}
+use Prim.Native.Nat.{ℕ, _-_, _<_}
+use mathlib.Core.Path.{_≡_, refl, ap₂, _∙_}
 use mathlib.Core.Bool.{Bool, true, false, cond}
 use mathlib.Core.List.{List, [], _∷_}
 use native.Mathlib.Omega.{arith}
@@ -23,41 +23,13 @@ use Rattle.program.specs.declared.location.Places.{Places}
 use Rattle.program.specs.declared.location.Located.{Located}
 use Rattle.program.specs.declared.frame.Frame.{Frame}
 use Rattle.program.specs.Program as P
-use Rattle.program.specs.Code.{chain, number, operator, decoded, Formed, operatorOf, codeOf, codeAt, Codes, codesOf, treeIn, Arrays}
-use Rattle.program.specs.Stored.{termIn, testIn, expressionIn, ruleIn, rulesIn}
+use Rattle.program.specs.Code.{chain, number, operator, operatorOf, codeOf, codeAt, Codes, Arrays}
+use Rattle.program.specs.Stored.{rulesIn}
 use Rattle.program.specs.Terms.{TestTerms, RuleTerms, SlotTerms, TermInside, TermFormed, TermPlaced, TestPlaced, RulePlaced, SlotPlaced}
 use Rattle.program.specs.Kept.{stepsIn, AllLocated}
-use Rattle.program.proofs.Codes.{codes-agree}
+use Rattle.program.proofs.Agreeing.{slot-map, SameBelow, formed-same, rule-same}
 use Rattle.text_plan.proofs.Placing.{WordPlaced, slot-located}
 use Rattle.text_reader.proofs.Lists.{each-both, map-same, each-take, each-drop}
-
--- what holds of each term of a rule, from what held of it
-module _ {P Q : Term → Type 0} (f : (x : Term) → P x → Q x) where
-  test-map : (x : Test) → TestTerms P x → TestTerms Q x
-  test-map Always h = tt
-  test-map (When x c y) h = (f x (h .0), f y (h .1))
-
-  rule-map : (x : Rule) → RuleTerms P x → RuleTerms Q x
-  rule-map (Set g x) h = f x h
-  rule-map (Combine g op x y) h = (f x (h .0), f y (h .1))
-  rule-map (Remote sort g c x) h = f x h
-
-  pub slot-map : (x : Slot) → SlotTerms P x → SlotTerms Q x
-  slot-map x h = (test-map (x .test) (h .0), rule-map (x .rule) (h .1))
-
--- and from two things that held
-module _ (P Q : Term → Type 0) where
-  test-both : (x : Test) → TestTerms P x → TestTerms Q x → TestTerms (λ t. P t × Q t) x
-  test-both Always h k = tt
-  test-both (When x c y) h k = ((h .0, k .0), (h .1, k .1))
-
-  rule-both : (x : Rule) → RuleTerms P x → RuleTerms Q x → RuleTerms (λ t. P t × Q t) x
-  rule-both (Set g x) h k = (h, k)
-  rule-both (Combine g op x y) h k = ((h .0, k .0), (h .1, k .1))
-  rule-both (Remote sort g c x) h k = (h, k)
-
-  pub slot-both : (x : Slot) → SlotTerms P x → SlotTerms Q x → SlotTerms (λ t. P t × Q t) x
-  slot-both x h k = (test-both (x .test) (h .0) (k .0), rule-both (x .rule) (h .1) (k .1))
 
 -- a term whose codes, if it has any, stand before n and are those of an expression
 abbrev pub TermKept : Codes → ℕ → Term → Type 0
@@ -68,12 +40,6 @@ SlotKept k n y = SlotTerms (TermKept k n) (y .slot)
 
 pub slot-inside : (k : Codes) (n : ℕ) (x : Slot) → SlotTerms (TermKept k n) x → SlotTerms (TermInside n) x
 slot-inside k n x h = slot-map (λ t p. p .0) x h
-
--- codes that stand before a place stand before a later one
-pub inside-more : {n m : ℕ} → n ≤ m → (x : Term) → TermInside n x → TermInside m x
-inside-more l (Chain c) h = tt
-inside-more l (Number z) h = tt
-inside-more l (Tree from to) h = omega arith
 
 -- the rules of each closed step, their readings placed among the lines of its plan
 abbrev pub AllPlaced : Codes → List ℕ → List Located → List Frame → Type 0
@@ -99,39 +65,13 @@ chain-at k i h = simp (eq-eqb (getD (k .kinds) i 0) 0 h)
 
 -- the same codes and the same places below n
 pub record Agree (k : Codes) (places : List ℕ) (k′ : Codes) (places′ : List ℕ) (n : ℕ) : Type 0 where
-  pub same-codes : (i : ℕ) → i < n → codeAt (k .kinds) (k .numbers) (k .chains) i ≡ codeAt (k′ .kinds) (k′ .numbers) (k′ .chains) i
+  pub same-codes : SameBelow k k′ n
   pub same-places : (i : ℕ) → i < n → getD places′ i 0 ≡ getD places i 0
 
 module _ {k : Codes} {places : List ℕ} {k′ : Codes} {places′ : List ℕ} {n : ℕ} (a : Agree k places k′ places′ n) where
-  codes-same : (from to : ℕ) → to ≤ n → codesOf k from to ≡ codesOf k′ from to
-  codes-same from to h =
-      codes-agree (k .kinds) (k′ .kinds) (k .numbers) (k′ .numbers) (k .chains) (k′ .chains) from (to - from) (λ j l b. a .same-codes j (omega arith))
-
-  -- the rules are the same
-  term-same : (x : Term) → TermInside n x → termIn k x ≡ termIn k′ x
-  unfolding termIn treeIn
-  term-same (Chain c) h = refl
-  term-same (Number z) h = refl
-  term-same (Tree from to) h = ap decoded (codes-same from to h)
-
-  test-same : (x : Test) → TestTerms (TermInside n) x → testIn k x ≡ testIn k′ x
-  unfolding testIn
-  test-same Always h = refl
-  test-same (When x c y) h = ap₂ (λ (u v : P.Expression). P.when u c v) (term-same x (h .0)) (term-same y (h .1))
-
-  expression-same : (x : Rule) → RuleTerms (TermInside n) x → expressionIn k x ≡ expressionIn k′ x
-  unfolding expressionIn
-  expression-same (Set f x) h = term-same x h
-  expression-same (Combine f op x y) h = ap₂ (P.operation op) (term-same x (h .0)) (term-same y (h .1))
-  expression-same (Remote sort f c x) h = term-same x h
-
-  rule-same : (x : Slot) → SlotTerms (TermInside n) x → ruleIn k x ≡ ruleIn k′ x
-  unfolding ruleIn
-  rule-same x h = rw (test-same (x .test) (h .0), expression-same (x .rule) (h .1))
-
   pub rules-same : (m : ℕ) (ys : List Located) → Each (SlotKept k n) ys → rulesIn k m ys ≡ rulesIn k′ m ys
   unfolding rulesIn
-  rules-same m ys h = map-same (SlotKept k n) (λ y p. rule-same (y .slot) (slot-inside k n (y .slot) p)) (take m ys) (each-take (SlotKept k n) m ys h)
+  rules-same m ys h = map-same (SlotKept k n) (λ y p. rule-same k k′ (a .same-codes) (y .slot) (slot-inside k n (y .slot) p)) (take m ys) (each-take (SlotKept k n) m ys h)
 
   pub steps-same : (slots : List Located) (fs : List Frame) → Each (SlotKept k n) slots → stepsIn k slots fs ≡ stepsIn k′ slots fs
   unfolding stepsIn
@@ -141,13 +81,8 @@ module _ {k : Codes} {places : List ℕ} {k′ : Codes} {places′ : List ℕ} {
       (rules-same (f .rules) (take 32 slots) (each-take (SlotKept k n) 32 slots h)) (steps-same (drop 32 slots) fs (each-drop (SlotKept k n) 32 slots h))
 
   -- their codes are still those of expressions
-  term-kept : (x : Term) → TermKept k n x → TermKept k′ n x
-  term-kept (Chain c) h = (tt, tt)
-  term-kept (Number z) h = (tt, tt)
-  term-kept (Tree from to) h = (h .0, record { formed = subst Formed (codes-same from to (h .0)) (h .1 .formed); some = h .1 .some })
-
   pub slot-kept : (y : Located) → SlotKept k n y → SlotKept k′ n y
-  slot-kept y h = slot-map term-kept (y .slot) h
+  slot-kept y h = slot-map (λ x p. (p .0, formed-same k k′ (a .same-codes) x (p .0) (p .1))) (y .slot) h
 
   -- their readings are where they were
   chain-same : (i : ℕ) → i < n → getD (k′ .kinds) i 0 ≡ 0 → (getD (k .kinds) i 0 ≡ 0) × (unpack (getD (k .chains) i 0) ≡ unpack (getD (k′ .chains) i 0))

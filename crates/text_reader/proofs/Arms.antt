@@ -44,7 +44,8 @@ use Rattle.program.specs.declared.frame.Frame.{Frame}
 use Rattle.text_state.specs.declared.state.State as S
 use Rattle.text_state.proofs.Standing.{Stands}
 use Rattle.text_reader.proofs.Lists.{each-map, each-take, each-drop, each-set}
-use Rattle.text_reader.proofs.Agreeing.{slot-map, slot-both, SlotKept, inside-more, AllPlaced, Agree, rules-same, steps-same, slot-kept, all-placed}
+use Rattle.program.proofs.Agreeing.{slot-map, slot-both, inside-more}
+use Rattle.text_reader.proofs.Agreeing.{SlotKept, AllPlaced, Agree, rules-same, steps-same, slot-kept, all-placed}
 use Rattle.text_reader.proofs.Keeping.{store-steps, store-placed, store-place, store-rule, more-frames, more-placed, framed-more, close-frames, framed-close, placed-close}
 use Rattle.text_reader.proofs.Opening.{OpenStep, none-held, open-none, open-still, open-same, open-placed, open-rule}
 

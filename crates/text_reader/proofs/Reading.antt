@@ -49,7 +49,8 @@ use Rattle.program.specs.declared.Program as C
 use Rattle.program.specs.declared.frame.Frame.{Frame}
 use Rattle.text_state.specs.declared.state.State as S
 use Rattle.text_reader.proofs.Lists.{each-replicate}
-use Rattle.text_reader.proofs.Agreeing.{slot-map, SlotKept, inside-more, all-located}
+use Rattle.program.proofs.Agreeing.{slot-map, inside-more}
+use Rattle.text_reader.proofs.Agreeing.{SlotKept, all-located}
 use Rattle.text_reader.proofs.Opening.{open-none}
 use Rattle.text_reader.proofs.Forms.{rule-short, step-form, end-form, done-form, loop-form, no-form, Written, rule-form, codes-kept}
 use Rattle.text_reader.proofs.Arms.{Behind, behind-same, behind-more, at-step, at-loop, at-rule, at-end, at-done, rule-steps, rule-rules, end-steps, end-none, end-count, done-steps}
