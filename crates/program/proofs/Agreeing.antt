@@ -1,5 +1,5 @@
 -- What holds of the terms of a rule, and codes that agree below a place: rules whose codes stand there are the same.
-use Prim.Native.Nat.{ℕ, _-_, _≤_, _<_}
+use Prim.Native.Nat.{ℕ, _-_, _≤_}
 use mathlib.Core.Path.{_≡_, refl, ap, ap₂, subst}
 use native.Mathlib.Omega.{arith}
 use Rattle.program.specs.declared.term.Term.{Term}
@@ -10,7 +10,7 @@ use Rattle.program.specs.declared.rule.Rule.{Rule}
 use Rattle.program.specs.declared.rule.Rule.the-variants.{Set, Combine, Remote}
 use Rattle.program.specs.declared.rule.Slot.{Slot}
 use Rattle.program.specs.Program as P
-use Rattle.program.specs.Code.{decoded, Formed, codeAt, Codes, codesOf, treeIn}
+use Rattle.program.specs.Code.{decoded, Formed, Codes, codesOf, treeIn, SameBelow}
 use Rattle.program.specs.Stored.{termIn, testIn, expressionIn, ruleIn}
 use Rattle.program.specs.Terms.{TestTerms, RuleTerms, SlotTerms, TermFrom, TermInside, TermFormed}
 use Rattle.program.proofs.Codes.{codes-agree}
@@ -53,10 +53,6 @@ pub from-less : {m n : ℕ} → m ≤ n → (x : Term) → TermFrom n x → Term
 from-less l (Chain c) h = tt
 from-less l (Number z) h = tt
 from-less l (Tree from to) h = omega (arith, l, h)
-
--- the same codes below n
-abbrev pub SameBelow : Codes → Codes → ℕ → Type 0
-SameBelow k k′ n = (i : ℕ) → i < n → codeAt (k .kinds) (k .numbers) (k .chains) i ≡ codeAt (k′ .kinds) (k′ .numbers) (k′ .chains) i
 
 module _ (k k′ : Codes) {n : ℕ} (same : SameBelow k k′ n) where
   codes-same : (from to : ℕ) → to ≤ n → codesOf k from to ≡ codesOf k′ from to

@@ -1,7 +1,7 @@
 -- How arrays of numbers keep expressions: a code for each operand and operator, in postfix order.
 use Prim.Native.Nat.{ℕ, zero, suc, _+_, _-_, _≤_, _<_}
 use mathlib.Core.Path.{_≡_}
-use mathlib.Core.Bool.{Bool, cond}
+use mathlib.Core.Bool.{cond}
 use mathlib.Core.List.{List, [], _∷_, _++_}
 use lib.IntN.{ℤ, pos}
 use lib.Dec.{eqb, ltb}
@@ -102,6 +102,10 @@ codesOf k from to = codesIn (k .kinds) (k .numbers) (k .chains) from to
 
 unfoldable pub treeIn : Codes → ℕ → ℕ → Expression
 treeIn k from to = decoded (codesOf k from to)
+
+-- the same codes below n
+abbrev pub SameBelow : Codes → Codes → ℕ → Type 0
+SameBelow k k′ n = (i : ℕ) → i < n → codeAt (k .kinds) (k .numbers) (k .chains) i ≡ codeAt (k′ .kinds) (k′ .numbers) (k′ .chains) i
 
 -- a location as a number: 0 the own number, 1 + f the own cell of field f, 17 + i line i
 unfoldable pub locationAt : ℕ → Location

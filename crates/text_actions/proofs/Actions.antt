@@ -11,6 +11,7 @@ use Rattle.program.specs.declared.rule.Rule.{Rule}
 use Rattle.program.specs.declared.rule.Rule.the-variants.{Remote}
 use Rattle.program.specs.declared.rule.Sort.{Sort}
 use Rattle.program.specs.declared.term.Term.{Term}
+use Rattle.program.specs.Code.{Codes}
 use Rattle.text_syntax.specs.Token.{letter, write}
 use Rattle.text_syntax.specs.Form.{Form}
 use Rattle.text_syntax.specs.Written.{Action, chain, set, remote}
@@ -22,7 +23,7 @@ use Rattle.text_expressions.specs.declared.summary.Summary.{Summary}
 use Rattle.text_terms.specs.declared.term.TermParts.{TermParts}
 use Rattle.text_terms.specs.Place.{tokensFrom, Behind, Passing}
 use Rattle.text_terms.specs.Term.{partsOf}
-use Rattle.text_expressions.specs.Codes.{Arrays, Roomy}
+use Rattle.text_expressions.specs.Codes.{Roomy}
 use Rattle.text_expressions.specs.Reading.{ExpressionFormed}
 use Rattle.text_sides.specs.Word.{isEmpty, Assigned}
 use Rattle.text_sides.specs.Checks.{summaryChecks, termChecks, bothChecks, withKinds, sentKinds}
@@ -37,10 +38,10 @@ use Rattle.text_actions.proofs.Rules.{rule-held, remote-held}
 use Rattle.text_actions.proofs.Forms.{whole-end, local-formed, sent-formed}
 
 -- there is room behind a later place too
-pub roomy-later : {a : Arrays} {line : List ℕ} {at i count : ℕ} → Behind line at i → Roomy a line at count → Roomy a line i count
+pub roomy-later : {a : Codes} {line : List ℕ} {at i count : ℕ} → Behind line at i → Roomy a line at count → Roomy a line i count
 roomy-later v r = record { kinds = omega arith; numbers = omega arith; chains = omega arith }
 
-module _ {s : Sizes} {line : List ℕ} {a b : Arrays} {count : ℕ} (lim : Limits s) where
+module _ {s : Sizes} {line : List ℕ} {a b : Codes} {count : ℕ} (lim : Limits s) where
   -- `F[u] := X`
   pub local-read : {at start end to : ℕ} {g : Summary} (f : ℕ) {x : ℕ} {r : Rule} {k : Checks} {n : ℕ} → Assigned line at start
       → ExpressionFormed s line start a b count g end to → isEmpty (tokensFrom false line end) ≡ true → x ≡ letterField f → r ≡ ruleHeld b x count to
@@ -80,7 +81,7 @@ module _ {s : Sizes} {line : List ℕ} {a b : Arrays} {count : ℕ} (lim : Limit
   }
 
 -- what was read behind the first token, from before it
-pub action-from : (s : Sizes) (line : List ℕ) {at i : ℕ} {f g : Form Action} (a b : Arrays) (count : ℕ) → Behind line at i → g ≡ f → (r : ActionRead)
+pub action-from : (s : Sizes) (line : List ℕ) {at i : ℕ} {f g : Form Action} (a b : Codes) (count : ℕ) → Behind line at i → g ≡ f → (r : ActionRead)
     → ActionAt s line i f a b count r → ActionAt s line at g a b count r
 action-from s line a b count v e (ActionParts x k to) w = rw e (record {
   written = w .written;

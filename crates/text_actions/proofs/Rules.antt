@@ -20,7 +20,7 @@ use Rattle.program.specs.declared.rule.Rule.the-variants.{Set, Combine, Remote}
 use Rattle.program.specs.declared.term.Term.{Term}
 use Rattle.program.specs.declared.term.Term.the-variants.{Chain, Number}
 use Rattle.program.specs.Program as P
-use Rattle.program.specs.Code.{postfix, operatorOf, codesFrom}
+use Rattle.program.specs.Code.{postfix, operatorOf, codesFrom, Codes, codesOf, SameBelow}
 use Rattle.program.specs.Stored.{targetIn, expressionIn}
 use Rattle.program.specs.Terms.{TermFormed, TermFrom, TermInside}
 use Rattle.text_syntax.specs.Written.{Expression, chain, set, remote}
@@ -28,17 +28,17 @@ use Rattle.text_syntax.specs.Parts.{termNamed, termKinded, termShort}
 use Rattle.text_syntax.specs.Tree.{treeOf, targetOf, sourceOf}
 use Rattle.text_rules.specs.LineRead.{allPass}
 use Rattle.text_terms.specs.declared.term.TermParts.{TermParts}
-use Rattle.text_expressions.specs.Codes.{Arrays, codeIn, codesBetween}
+use Rattle.text_expressions.specs.Codes.{codeIn}
 use Rattle.text_terms.specs.Term.{packedOf, partsOf}
 use Rattle.text_sides.specs.Checks.{termChecks}
-use Rattle.text_sides.specs.Side.{codesFor, singleIn, termHeld, ruleHeld, codesLeft, Holds, KeptBefore}
+use Rattle.text_sides.specs.Side.{singleIn, termHeld, ruleHeld, codesLeft, Holds}
 use Rattle.text_actions.specs.Action.{ActionHeld}
 use Rattle.text_sides.proofs.Passing.{all-passed}
 use Rattle.text_sides.proofs.Sides.{left-same, left-more}
 use Rattle.text_sides.proofs.Held.{three-codes, single-is, single-plain, operator-is, term-holds}
 
 -- the codes from..to, one by one
-three-between : (b : Arrays) (from to : ℕ) → to ≡ from + 3 → codesBetween b from to ≡ codeIn b from ∷ codeIn b (from + 1) ∷ codeIn b (from + 2) ∷ []
+three-between : (b : Codes) (from to : ℕ) → to ≡ from + 3 → codesOf b from to ≡ codeIn b from ∷ codeIn b (from + 1) ∷ codeIn b (from + 2) ∷ []
 unfolding codesFrom
 three-between b from to q =
     let n : to - from ≡ 3 = omega arith in
@@ -46,7 +46,7 @@ three-between b from to q =
     ∙ ap₂ (λ (i j : ℕ). codeIn b from ∷ codeIn b i ∷ codeIn b j ∷ []) (omega arith) (omega arith)
 
 -- two single terms are no trees
-singles-plain : (b : Arrays) (Q : Term → Type 0) → ((w : ℕ) → Q (Chain w)) → ((z : ℤ) → Q (Number z)) → (i j : ℕ) → Q (singleIn b i) × Q (singleIn b j)
+singles-plain : (b : Codes) (Q : Term → Type 0) → ((w : ℕ) → Q (Chain w)) → ((z : ℤ) → Q (Number z)) → (i j : ℕ) → Q (singleIn b i) × Q (singleIn b j)
 singles-plain b Q c n i j = (single-plain b Q c n i, single-plain b Q c n j)
 
 -- behind `:=`, the codes of one term or of two are given back
@@ -58,8 +58,8 @@ left-once from to n =
 left-pair : (from to : ℕ) → to ≡ from + 3 → from ≡ codesLeft from (codesLeft from to 1) 3
 left-pair from to e = left-same from (codesLeft from to 1) 3 (sym (left-more from to 1 (λ q. omega (arith, e, q))) ∙ e)
 
-module _ {a b : Arrays} {from to : ℕ} (f : ℕ) {e : Expression} (l : from ≤ to) (h : codesBetween b from to ≡ postfix (treeOf e))
-    (kept : KeptBefore a b from) where
+module _ {a b : Codes} {from to : ℕ} (f : ℕ) {e : Expression} (l : from ≤ to) (h : codesOf b from to ≡ postfix (treeOf e))
+    (kept : SameBelow a b from) where
   pair-held : to ≡ from + 3 → ActionHeld a b from from (set f e)
       (Combine (letterField f) (operatorOf (getD (b .kinds) (from + 2) 0)) (singleIn b from) (singleIn b (from + 1)))
   unfolding targetIn targetOf expressionIn sourceOf
@@ -68,7 +68,7 @@ module _ {a b : Arrays} {from to : ℕ} (f : ℕ) {e : Expression} (l : from ≤
       record {
         target-is = refl;
         expression-is = rw (operator-is b (from + 2) (p .last), single-is b from (p .x) (p .first), single-is b (from + 1) (p .y) (p .second)) (sym (p .is));
-        formed = singles-plain b (TermFormed (codesFor b)) (λ w. tt) (λ z. tt) from (from + 1);
+        formed = singles-plain b (TermFormed b) (λ w. tt) (λ z. tt) from (from + 1);
         behind = singles-plain b (TermFrom from) (λ w. tt) (λ z. tt) from (from + 1);
         inside = singles-plain b (TermInside from) (λ w. tt) (λ z. tt) from (from + 1);
         kept = kept;
@@ -108,8 +108,8 @@ target-word {s} {p} c l e h =
     ∙ letters-unpacked s c (sym (ap (λ (t : TermParts). t .named) e) ∙ k .named) (sym (ap (λ (t : TermParts). t .kinded) e) ∙ k .kinded) l
     (le-ltb 16 (length c) (leb-true (length c) 16 (sym (ap (λ (t : TermParts). t .short) e) ∙ k .short)))
 
-pub remote-held : {s : Sizes} {p : TermParts} {a b : Arrays} {from to : ℕ} (k : Sort) (f : ℕ) (c : List ℕ) {e : Expression} {x : Term} → Limits s
-    → p ≡ partsOf s (chain c) → allPass (termChecks p) ≡ true → Holds b from to e x → KeptBefore a b from
+pub remote-held : {s : Sizes} {p : TermParts} {a b : Codes} {from to : ℕ} (k : Sort) (f : ℕ) (c : List ℕ) {e : Expression} {x : Term} → Limits s
+    → p ≡ partsOf s (chain c) → allPass (termChecks p) ≡ true → Holds b from to e x → SameBelow a b from
     → ActionHeld a b from to (remote k f c e) (Remote k (letterField f) (p .packed) x)
 unfolding targetIn targetOf expressionIn sourceOf
 remote-held k f c l q h t kept = record {

@@ -6,10 +6,11 @@ ghost use Prim.Native.Nat.{_≤_};
 ghost use lib.ListN.{length};
 ghost use Rattle.register.specs.Shape.{Limits};
 ghost use Rattle.chain_text.specs.Text.{isCapital};
+ghost use Rattle.program.specs.Code.{codesKept};
 ghost use Rattle.text_syntax.specs.Token as T;
 ghost use Rattle.text_syntax.specs.Grammar.{localForm};
 ghost use Rattle.text_terms.specs.Place.{tokensFrom};
-ghost use Rattle.text_expressions.specs.Codes.{arrays, Roomy};
+ghost use Rattle.text_expressions.specs.Codes.{Roomy};
 ghost use Rattle.text_actions.specs.Action.{TargetAt, SentBehind, actionForm, ActionAt};
 use chain_text::letters;
 use program::rule::Rule;
@@ -49,11 +50,11 @@ fn read_local(
     count: usize,
 ) -> ActionRead
     requires { ⌜ Limits sizes × (at ≤ length (now line)) × (isCapital letter ≡ true)
-        × Roomy (arrays (now kinds) (now numbers) (now chains)) (now line) at count × (length (now kinds) ≤ 65536) ⌝ }
+        × Roomy (codesKept (now kinds) (now numbers) (now chains)) (now line) at count × (length (now kinds) ≤ 65536) ⌝ }
     ensures { λ r.
         ⌜ ActionAt sizes (now (line .entry)) at (localForm (T.letter letter ∷ tokensFrom false (now (line .entry)) at))
-        (arrays (now (kinds .entry)) (now (numbers .entry)) (now (chains .entry)))
-        (arrays (now (kinds .exit)) (now (numbers .exit)) (now (chains .exit))) count r ⌝ }
+        (codesKept (now (kinds .entry)) (now (numbers .entry)) (now (chains .entry)))
+        (codesKept (now (kinds .exit)) (now (numbers .exit)) (now (chains .exit))) count r ⌝ }
 {
     let Place::At(start) = word::assigned(line, at) else {
         return ActionRead::NoForm;
@@ -119,11 +120,11 @@ fn read_sent(
     count: usize,
 ) -> ActionRead
     requires { ⌜ Limits sizes × (at ≤ length (now line)) × (isCapital letter ≡ true)
-        × Roomy (arrays (now kinds) (now numbers) (now chains)) (now line) at count × (length (now kinds) ≤ 65536) ⌝ }
+        × Roomy (codesKept (now kinds) (now numbers) (now chains)) (now line) at count × (length (now kinds) ≤ 65536) ⌝ }
     ensures { λ r.
         ⌜ SentBehind sizes (now (line .entry)) at letter parts
-        (arrays (now (kinds .entry)) (now (numbers .entry)) (now (chains .entry)))
-        (arrays (now (kinds .exit)) (now (numbers .exit)) (now (chains .exit))) count r ⌝ }
+        (codesKept (now (kinds .entry)) (now (numbers .entry)) (now (chains .entry)))
+        (codesKept (now (kinds .exit)) (now (numbers .exit)) (now (chains .exit))) count r ⌝ }
 {
     let WriteRead::Write(sort, start) = word::write(line, at) else {
         return ActionRead::NoForm;
@@ -159,12 +160,12 @@ pub fn read(
     chains: &mut [u64],
     count: usize,
 ) -> ActionRead
-    requires { ⌜ Limits sizes × (at ≤ length (now line)) × Roomy (arrays (now kinds) (now numbers) (now chains)) (now line) at count
+    requires { ⌜ Limits sizes × (at ≤ length (now line)) × Roomy (codesKept (now kinds) (now numbers) (now chains)) (now line) at count
         × (length (now kinds) ≤ 65536) ⌝ }
     ensures { λ r.
         ⌜ ActionAt sizes (now (line .entry)) at (actionForm (tokensFrom false (now (line .entry)) at))
-        (arrays (now (kinds .entry)) (now (numbers .entry)) (now (chains .entry)))
-        (arrays (now (kinds .exit)) (now (numbers .exit)) (now (chains .exit))) count r ⌝ }
+        (codesKept (now (kinds .entry)) (now (numbers .entry)) (now (chains .entry)))
+        (codesKept (now (kinds .exit)) (now (numbers .exit)) (now (chains .exit))) count r ⌝ }
 {
     let first = lexer::next_token(line, at, false);
     let token = first.token;

@@ -8,12 +8,12 @@ use borrow.Author.Tests.{ne-eqb}
 use lib.IntN.{ℤ, pos}
 use lib.ListN.{length, set, length-set}
 use lib.Seq.{getD-set-same, getD-set-other}
-use Rattle.program.specs.Code.{Code, codeOf, codeAt, codesFrom}
+use Rattle.program.specs.Code.{Code, codeOf, codeAt, codesFrom, Codes, codesKept, codesOf}
 use Rattle.program.proofs.Codes.{codes-first, codes-none, codes-agree}
-use Rattle.text_expressions.specs.Codes.{Arrays, arrays, codeIn, codesBetween, signCodes, signSize, Wrote, WroteSign}
+use Rattle.text_expressions.specs.Codes.{codeIn, signCodes, signSize, Wrote, WroteSign}
 
 -- codes in two parts
-codes-split : (a : Arrays) (i m n : ℕ) → codesFrom (a .kinds) (a .numbers) (a .chains) i (m + n)
+codes-split : (a : Codes) (i m n : ℕ) → codesFrom (a .kinds) (a .numbers) (a .chains) i (m + n)
     ≡ codesFrom (a .kinds) (a .numbers) (a .chains) i m ++ codesFrom (a .kinds) (a .numbers) (a .chains) (i + m) n
 unfolding codesFrom
 codes-split a i zero n =
@@ -27,16 +27,16 @@ codes-split a i (suc m) n =
     ∙ ap (λ (l : List Code). codeIn a i ∷ l) (codes-split a (suc i) m n)
     ∙ ap (λ (k : ℕ). codeIn a i ∷ (codesFrom (a .kinds) (a .numbers) (a .chains) (suc i) m ++ codesFrom (a .kinds) (a .numbers) (a .chains) k n)) second
 
-codes-join : (a : Arrays) (i j k : ℕ) → i ≤ j → j ≤ k → codesBetween a i k ≡ codesBetween a i j ++ codesBetween a j k
+codes-join : (a : Codes) (i j k : ℕ) → i ≤ j → j ≤ k → codesOf a i k ≡ codesOf a i j ++ codesOf a j k
 codes-join a i j k p q =
     let all : k - i ≡ (j - i) + (k - j) = omega arith in
     let mid : i + (j - i) ≡ j = omega arith in
     ap (codesFrom (a .kinds) (a .numbers) (a .chains) i) all
     ∙ codes-split a i (j - i) (k - j)
-    ∙ ap (λ (m : ℕ). codesBetween a i j ++ codesFrom (a .kinds) (a .numbers) (a .chains) m (k - j)) mid
+    ∙ ap (λ (m : ℕ). codesOf a i j ++ codesFrom (a .kinds) (a .numbers) (a .chains) m (k - j)) mid
 
 -- codes behind codes
-pub wrote-none : (a : Arrays) (n : ℕ) → Wrote a a n n []
+pub wrote-none : (a : Codes) (n : ℕ) → Wrote a a n n []
 wrote-none a n = record {
   codes-are = codes-none (a .kinds) (a .numbers) (a .chains) n n (omega arith);
   kept = λ i h. refl;
@@ -46,7 +46,7 @@ wrote-none a n = record {
   chains-length = refl;
 }
 
-pub wrote-then : {a b d : Arrays} {i j k : ℕ} {cs ds : List Code} → Wrote a b i j cs → Wrote b d j k ds → Wrote a d i k (cs ++ ds)
+pub wrote-then : {a b d : Codes} {i j k : ℕ} {cs ds : List Code} → Wrote a b i j cs → Wrote b d j k ds → Wrote a d i k (cs ++ ds)
 wrote-then {a} {b} {d} {i} {j} {k} v w = record {
   codes-are =
       codes-join d i j k (v .onward) (w .onward)
@@ -62,14 +62,14 @@ wrote-then {a} {b} {d} {i} {j} {k} v w = record {
 }
 
 -- one code
-code-one : (a : Arrays) (n : ℕ) → codesBetween a n (n + 1) ≡ codeIn a n ∷ []
+code-one : (a : Codes) (n : ℕ) → codesOf a n (n + 1) ≡ codeIn a n ∷ []
 code-one a n =
     codes-first (a .kinds) (a .numbers) (a .chains) n (n + 1) (omega arith)
     ∙ ap (λ (l : List Code). codeIn a n ∷ l) (codes-none (a .kinds) (a .numbers) (a .chains) (suc n) (n + 1) (omega arith))
 
 pub wrote-term : (kinds : List ℕ) (numbers : List ℤ) (chains : List ℕ) (n k : ℕ) (z : ℤ) (p : ℕ) {y : ℤ} → z ≡ y → n < length kinds → n < length numbers →
     n < length chains
-    → Wrote (arrays kinds numbers chains) (arrays (set kinds n k) (set numbers n z) (set chains n p)) n (n + 1) (codeOf k y p ∷ [])
+    → Wrote (codesKept kinds numbers chains) (codesKept (set kinds n k) (set numbers n z) (set chains n p)) n (n + 1) (codeOf k y p ∷ [])
 unfolding codeAt
 wrote-term kinds numbers chains n k z p e hk hz hp = record {
   codes-are =
@@ -92,7 +92,7 @@ wrote-term kinds numbers chains n k z p e hk hz hp = record {
 -- one operator, or none
 pub sign-none : (kinds : List ℕ) (n : ℕ) {kind : ℕ} → kind ≡ 0 → WroteSign kinds kinds n n kind
 unfolding signCodes signSize
-sign-none kinds n e = record { wrote = λ numbers chains. rw e (wrote-none (arrays kinds numbers chains) n); size = rw e (omega arith) }
+sign-none kinds n e = record { wrote = λ numbers chains. rw e (wrote-none (codesKept kinds numbers chains) n); size = rw e (omega arith) }
 
 pub sign-some : (kinds : List ℕ) (n kind : ℕ) → n < length kinds → kind ≢ 0 → kind ≢ 1 → WroteSign kinds (set kinds n kind) n (n + 1) kind
 unfolding signCodes signSize codeAt codeOf

@@ -10,7 +10,7 @@ use lib.ListN.{length}
 use Rattle.register.specs.declared.Sizes.{Sizes}
 use Rattle.text_syntax.specs.Token as S
 use Rattle.program.specs.Code as P
-use Rattle.program.specs.Code.{Code, operatorOf}
+use Rattle.program.specs.Code.{Code, operatorOf, Codes, codesKept}
 use Rattle.program.specs.declared.rule.Operator.{Operator}
 use Rattle.program.specs.declared.rule.Operator.the-variants.{Plus, Minus, Smaller}
 use Rattle.text_syntax.specs.Token.{operator, openRound, closeRound}
@@ -39,7 +39,7 @@ use Rattle.text_expressions.specs.Reading.{Unranked, AllDeep, ReadAs, Un
 use Rattle.text_expressions.specs.Join.{Continues, ReadyFor, PutNext, JoinedBy}
 use Rattle.text_terms.proofs.Places.{past-absent}
 use Rattle.text_terms.proofs.ChainForms.{behind-behind}
-use Rattle.text_expressions.specs.Codes.{Arrays, arrays, termCode, codesOf, signKind, signCodes, signSize, Wrote, WroteSign, Roomy}
+use Rattle.text_expressions.specs.Codes.{termCode, writtenCodes, signKind, signCodes, signSize, Wrote, WroteSign, Roomy}
 use Rattle.text_expressions.proofs.Coding.{wrote-none, wrote-then}
 use Rattle.text_expressions.proofs.Turning.{term-summary, term-few, operator-few}
 
@@ -102,7 +102,7 @@ smaller-joins = record { first = minimum-joined; more = minimum-more; end = mini
 -- what is joined so far, before the element that is due at place i: joins makes of that element all that is read; behind the element's codes
 -- the code of an operator is to be written, if its kind is not 0
 pub record Joined (element : List S.Token → Form Expression) (from : Expression → List S.Token → Form Expression) (reader : List S.Token → Form Expression)
-    (s : Sizes) (room : ℕ) (before : Summary) (line : List ℕ) (at : ℕ) (a : Arrays) (count : ℕ) (x : Pending) (b : Arrays) : Type 0 where
+    (s : Sizes) (room : ℕ) (before : Summary) (line : List ℕ) (at : ℕ) (a : Codes) (count : ℕ) (x : Pending) (b : Codes) : Type 0 where
   pub joins : Expression → Expression
   pub same : reader (tokensFrom true line at) ≡ then (element (tokensFrom true line (x .at))) (λ y. from (joins y))
   pub gathered : (y : Expression) → merged (8 - room) (summaryOf (x .seen)) (summary s y) ≡ merged (8 - room) (summaryOf before) (summary s (joins y))
@@ -113,12 +113,12 @@ pub record Joined (element : List S.Token → Form Expression) (from : Expressio
   pub few : x .seen .operators ≤ x .at
   pub earlier : List Code
   pub wrote : Wrote a b count (x .codes) earlier
-  pub coded : (y : Expression) → earlier ++ (codesOf y ++ signCodes (x .kind)) ≡ codesOf (joins y)
+  pub coded : (y : Expression) → earlier ++ (writtenCodes y ++ signCodes (x .kind)) ≡ writtenCodes (joins y)
   pub few-codes : x .codes + at + signSize (x .kind) ≤ count + x .at
   pub no-number : x .kind ≢ 1
 
 -- the arrays keep their room
-pub roomy-on : {a b : Arrays} {line : List ℕ} {at count i codes : ℕ} {cs : List Code} → Roomy a line at count → Wrote a b count codes cs
+pub roomy-on : {a b : Codes} {line : List ℕ} {at count i codes : ℕ} {cs : List Code} → Roomy a line at count → Wrote a b count codes cs
     → codes + at ≤ count + i → Roomy b line i codes
 roomy-on r w h = record {
   kinds = omega (arith, r .kinds, w .kinds-length, h);
@@ -128,7 +128,7 @@ roomy-on r w h = record {
 
 module _ {rank : Operator → Bool} {element : List S.Token → Form Expression} {from : Expression → List S.Token → Form Expression}
     {reader : List S.Token → Form Expression} (j : Joins rank element from reader) where
-  pub joined-start : (s : Sizes) (room : ℕ) (before : Summary) {line : List ℕ} {at : ℕ} (a : Arrays) (count : ℕ) → at ≤ length line → before .operators ≤
+  pub joined-start : (s : Sizes) (room : ℕ) (before : Summary) {line : List ℕ} {at : ℕ} (a : Codes) (count : ℕ) → at ≤ length line → before .operators ≤
       at
       → Joined element from reader s room before line at a count (record { at = at; seen = before; codes = count; kind = 0 }) a
   unfolding signCodes signSize
@@ -143,15 +143,15 @@ module _ {rank : Operator → Bool} {element : List S.Token → Form Expression}
     few = few;
     earlier = [];
     wrote = wrote-none a count;
-    coded = λ y. append-nil (codesOf y);
+    coded = λ y. append-nil (writtenCodes y);
     few-codes = omega arith;
     no-number = λ e. omega (arith, e);
   }
 
-  module _ {s : Sizes} {room : ℕ} {before : Summary} {line : List ℕ} {at : ℕ} {a : Arrays} {count : ℕ} {x : Pending} {b : Arrays}
+  module _ {s : Sizes} {room : ℕ} {before : Summary} {line : List ℕ} {at : ℕ} {a : Codes} {count : ℕ} {x : Pending} {b : Codes}
       (w : Joined element from reader s room before line at a count x b) where
     -- the element that is read, and its operator's code
-    module _ {d : Arrays} {g : Summary} {end to : ℕ} (e : ReadAs element s room (x .seen) line (x .at) b d (x .codes) g end to)
+    module _ {d : Codes} {g : Summary} {end to : ℕ} (e : ReadAs element s room (x .seen) line (x .at) b d (x .codes) g end to)
         {kinds : List ℕ} {last : ℕ} (o : WroteSign (d .kinds) kinds to last (x .kind)) where
       element-joined : reader (tokensFrom true line at) ≡ from (w .joins (e .written)) (tokensFrom false line end)
       unfolding then
@@ -160,15 +160,15 @@ module _ {rank : Operator → Bool} {element : List S.Token → Form Expression}
       element-gathered : summaryOf g ≡ merged (8 - room) (summaryOf before) (summary s (w .joins (e .written)))
       element-gathered = e .summary-is ∙ w .gathered (e .written)
 
-      element-wrote : Wrote a (arrays kinds (d .numbers) (d .chains)) count last (codesOf (w .joins (e .written)))
+      element-wrote : Wrote a (codesKept kinds (d .numbers) (d .chains)) count last (writtenCodes (w .joins (e .written)))
       element-wrote =
-          subst (Wrote a (arrays kinds (d .numbers) (d .chains)) count last) (w .coded (e .written))
+          subst (Wrote a (codesKept kinds (d .numbers) (d .chains)) count last) (w .coded (e .written))
           (wrote-then (w .wrote) (wrote-then (e .wrote) (o .wrote (d .numbers) (d .chains))))
 
       element-few : last + at ≤ count + end
       element-few = omega (arith, o .size, e .few-codes, w .few-codes)
 
-      joined-done : Unranked rank line end → ReadAs reader s room before line at a (arrays kinds (d .numbers) (d .chains)) count g end last
+      joined-done : Unranked rank line end → ReadAs reader s room before line at a (codesKept kinds (d .numbers) (d .chains)) count g end last
       joined-done n = record {
         written = w .joins (e .written);
         form-is = element-joined ∙ j .end _ _ (n .none);
@@ -181,8 +181,8 @@ module _ {rank : Operator → Bool} {element : List S.Token → Form Expression}
       }
 
       joined-more : {y : Pending} → Continues rank line g end last y → Joined element from reader s room before line at a count y
-          (arrays kinds (d .numbers) (d .chains))
-      unfolding depth codesOf
+          (codesKept kinds (d .numbers) (d .chains))
+      unfolding depth writtenCodes
       joined-more {y} c =
           let v = w .joins (e .written) in
           let r = c .ranked in
@@ -197,9 +197,9 @@ module _ {rank : Operator → Bool} {element : List S.Token → Form Expression}
             onward = omega (arith, w .onward, e .behind .onward, r .passing .behind .onward);
             inside = r .passing .behind .inside;
             few = omega (arith, operator-few (c .sign) g (c .gathered), e .few, r .passing .behind .onward);
-            earlier = codesOf v;
-            wrote = subst (λ (n : ℕ). Wrote a (arrays kinds (d .numbers) (d .chains)) count n (codesOf v)) (sym (c .codes-are)) element-wrote;
-            coded = λ z. ap (λ (l : List Code). codesOf v ++ (codesOf z ++ l)) (sign-codes (c .sign) (c .kind-is));
+            earlier = writtenCodes v;
+            wrote = subst (λ (n : ℕ). Wrote a (codesKept kinds (d .numbers) (d .chains)) count n (writtenCodes v)) (sym (c .codes-are)) element-wrote;
+            coded = λ z. ap (λ (l : List Code). writtenCodes v ++ (writtenCodes z ++ l)) (sign-codes (c .sign) (c .kind-is));
             few-codes = omega (arith, element-few, r .passing .behind .onward, sign-size (y .kind), c .codes-are);
             no-number = λ q. sign-number (c .sign) (sym (c .kind-is) ∙ q);
           }
@@ -223,7 +223,7 @@ module _ {rank : Operator → Bool} {element : List S.Token → Form Expression}
         }
 
     -- there is room for the operator's code
-    pub joined-ready : (d : Arrays) → Roomy a line at count → (r : Reading) → ReadingAt element s room (x .seen) line (x .at) b d (x .codes) r
+    pub joined-ready : (d : Codes) → Roomy a line at count → (r : Reading) → ReadingAt element s room (x .seen) line (x .at) b d (x .codes) r
         → ReadyFor line (d .kinds) r
     joined-ready d q (Read g end to) e =
         (e .behind .inside, e .few, omega (arith, roomy-on (joined-room q) (e .wrote) (e .few-codes) .kinds, e .behind .inside))
@@ -231,9 +231,9 @@ module _ {rank : Operator → Bool} {element : List S.Token → Form Expression}
     joined-ready d q TooDeepRead e = tt
 
     -- what is answered: the next element is due, or that is all
-    module _ (d : Arrays) (kinds : List ℕ) where
-      abbrev after : Arrays
-      after = arrays kinds (d .numbers) (d .chains)
+    module _ (d : Codes) (kinds : List ℕ) where
+      abbrev after : Codes
+      after = codesKept kinds (d .numbers) (d .chains)
 
       abbrev pub JoinedTo : Joining → Type 0
       JoinedTo (Next y) = Joined element from reader s room before line at a count y after × (x .at < y .at)
@@ -258,10 +258,10 @@ module _ {rank : Operator → Bool} {element : List S.Token → Form Expression}
       joined-by TooDeepRead e y q = subst JoinedTo (sym q) (joined-deep e)
 
 -- a term as an operand
-pub term-operand : {s : Sizes} {room : ℕ} {before : Summary} {line : List ℕ} {at : ℕ} {a b : Arrays} {count : ℕ} {p : TermParts} {g : Summary} {end : ℕ}
+pub term-operand : {s : Sizes} {room : ℕ} {before : Summary} {line : List ℕ} {at : ℕ} {a b : Codes} {count : ℕ} {p : TermParts} {g : Summary} {end : ℕ}
     → before .operators ≤ at → TermFormed s line at p end → summaryOf g ≡ merged (8 - room) (summaryOf before) (termSummary p)
     → Wrote a b count (count + 1) (termCode p) → ReadAs operand s room before line at a b count g end (count + 1)
-unfolding depth codesOf partsOf
+unfolding depth writtenCodes partsOf
 term-operand {s} {room} {before} {a = a} {b = b} {count = count} {p = p} few t q w = record {
   written = term (t .written);
   form-is = operand-term (t .written) _ _ (t .form-is);
@@ -290,9 +290,9 @@ module _ (s : Sizes) (room : ℕ) (before : Summary) {line : List ℕ} {at inner
   grouped : operand (tokensFrom true line at) ≡ then (expression (tokensFrom true line inner)) (λ e r. past closeRound r (formed (group e)))
   grouped = ap operand (p .text) ∙ operand-group _
 
-  pub group-closed : (a b : Arrays) (count : ℕ) (x r : Reading) → ReadingAt expression s (room - 1) before line inner a b count x → GroupedBy line x r
+  pub group-closed : (a b : Codes) (count : ℕ) (x r : Reading) → ReadingAt expression s (room - 1) before line inner a b count x → GroupedBy line x r
       → ReadingAt operand s room before line at a b count r
-  unfolding then past is same fixedIn kind depth codesOf
+  unfolding then past is same fixedIn kind depth writtenCodes
   group-closed a b count (Read g i n) (Read h end to) e q = record {
     written = group (e .written);
     form-is =
@@ -307,7 +307,7 @@ module _ (s : Sizes) (room : ℕ) (before : Summary) {line : List ℕ} {at inner
         ∙ merged-group s (8 - room) (summaryOf before) (e .written);
     behind = behind-behind (p .behind) (behind-behind (e .behind) (q .2 .behind));
     few = omega (arith, ap (λ (y : Summary). y .operators) (q .0), e .few, q .2 .behind .onward);
-    wrote = subst (λ (k : ℕ). Wrote a b count k (codesOf (e .written))) (sym (q .1)) (e .wrote);
+    wrote = subst (λ (k : ℕ). Wrote a b count k (writtenCodes (e .written))) (sym (q .1)) (e .wrote);
     few-codes = omega (arith, e .few-codes, q .1, p .behind .onward, q .2 .behind .onward);
   }
   group-closed a b count (Read g i n) NoForm e q = record {
@@ -329,7 +329,7 @@ module _ (s : Sizes) (room : ℕ) (before : Summary) {line : List ℕ} {at inner
         (group-deep (room - 1) (tokensFrom true line inner) (to-deep (room - 1) (expression (tokensFrom true line inner)) (e .deep)))));
   })
 
-pub reading-inside : (reader : List S.Token → Form Expression) (s : Sizes) (room : ℕ) (before : Summary) (line : List ℕ) (at : ℕ) (a b : Arrays)
+pub reading-inside : (reader : List S.Token → Form Expression) (s : Sizes) (room : ℕ) (before : Summary) (line : List ℕ) (at : ℕ) (a b : Codes)
     (count : ℕ)
     (r : Reading) → ReadingAt reader s room before line at a b count r → EndInside line r
 reading-inside reader s room before line at a b count (Read g end to) h = h .behind .inside

@@ -16,7 +16,7 @@ use Rattle.text_syntax.specs.Written.{Term, chain, number, Expression, term, gr
 use Rattle.text_syntax.specs.Parts.{everyTerm, termNamed, termKinded, termShort, termInRange}
 use Rattle.text_syntax.specs.Tree.{termTree, treeOf}
 use Rattle.text_terms.specs.Term.{kindOf, numberOf, packedOf}
-use Rattle.text_expressions.specs.Codes.{codesOf}
+use Rattle.text_expressions.specs.Codes.{writtenCodes}
 
 module _ (s : Sizes) (l : Limits s) where
   term-postfix : (x : Term) → termNamed s x ≡ true → termKinded x ≡ true → termShort x ≡ true → termInRange x ≡ true
@@ -27,8 +27,8 @@ module _ (s : Sizes) (l : Limits s) where
   term-postfix (number negative x) n k h r = rw r
 
   pub codes-postfix : (e : Expression) → everyTerm (termNamed s) e ≡ true → everyTerm termKinded e ≡ true → everyTerm termShort e ≡ true
-      → everyTerm termInRange e ≡ true → codesOf e ≡ postfix (treeOf e)
-  unfolding codesOf everyTerm treeOf postfix
+      → everyTerm termInRange e ≡ true → writtenCodes e ≡ postfix (treeOf e)
+  unfolding writtenCodes everyTerm treeOf postfix
   codes-postfix (term x) n k h r = term-postfix x n k h r
   codes-postfix (group e) n k h r = codes-postfix e n k h r
   codes-postfix (operation o x y) n k h r =

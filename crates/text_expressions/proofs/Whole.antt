@@ -7,7 +7,7 @@ use native.Mathlib.Omega.{arith}
 use lib.ListN.{length}
 use Rattle.register.specs.Shape.{Limits}
 use Rattle.register.specs.declared.Sizes.{Sizes}
-use Rattle.program.specs.Code.{postfix}
+use Rattle.program.specs.Code.{postfix, Codes, codesOf}
 use Rattle.text_syntax.specs.Grammar.{expression}
 use Rattle.text_syntax.specs.Tree.{treeOf}
 use Rattle.text_syntax.specs.Flat as F
@@ -15,7 +15,7 @@ use Rattle.text_syntax.specs.Flat.{empty, summary, merged}
 use Rattle.text_syntax.proofs.Scans.{merged-empty}
 use Rattle.text_expressions.specs.declared.summary.Summary.{Summary}
 use Rattle.text_expressions.specs.Summary.{summaryOf}
-use Rattle.text_expressions.specs.Codes.{Arrays, codesBetween, Roomy}
+use Rattle.text_expressions.specs.Codes.{Roomy}
 use Rattle.text_expressions.specs.Scan.{ScanFormed, NoExpression}
 use Rattle.text_expressions.specs.Reading.{AllDeep, ReadAs, Unread, TooDeep, ExpressionFormed}
 use Rattle.text_expressions.proofs.Postfix.{codes-postfix}
@@ -26,7 +26,7 @@ unfolding empty
 nothing-few e n = omega (arith, ap (λ (f : F.Summary). f .operators) e)
 
 -- what was read, before which nothing was gathered
-pub whole-read : {s : Sizes} {before : Summary} {line : List ℕ} {at : ℕ} {a b : Arrays} {count : ℕ} {g : Summary} {end to : ℕ} → summaryOf before ≡ empty
+pub whole-read : {s : Sizes} {before : Summary} {line : List ℕ} {at : ℕ} {a b : Codes} {count : ℕ} {g : Summary} {end to : ℕ} → summaryOf before ≡ empty
     → Roomy a line at count → ReadAs expression s 8 before line at a b count g end to → ExpressionFormed s line at a b count g end to
 whole-read {s} e r w = record {
   written = w .written;
@@ -40,7 +40,7 @@ whole-read {s} e r w = record {
 }
 
 -- what is too deep, and was passed
-pub whole-passed : {s : Sizes} {line : List ℕ} {at : ℕ} {a b : Arrays} {count : ℕ} {g : Summary} {end : ℕ} → Roomy a line at count
+pub whole-passed : {s : Sizes} {line : List ℕ} {at : ℕ} {a b : Codes} {count : ℕ} {g : Summary} {end : ℕ} → Roomy a line at count
     → length (b .kinds) ≡ length (a .kinds) → length (b .numbers) ≡ length (a .numbers) → length (b .chains) ≡ length (a .chains)
     → TooDeep expression 8 line at → ScanFormed s line at g end → ExpressionFormed s line at a b count g end count
 whole-passed r k n c t w = record {
@@ -62,9 +62,9 @@ pub whole-none : {line : List ℕ} {at : ℕ} → NoExpression line at → Unrea
 whole-none w = record { none = w .none }
 
 -- an expression that passes 9, 11, 12 and 24, and whose chains go over references: its codes are those of its tree
-pub whole-postfix : {s : Sizes} {line : List ℕ} {at : ℕ} {a b : Arrays} {count : ℕ} {g : Summary} {end to : ℕ} → Limits s
+pub whole-postfix : {s : Sizes} {line : List ℕ} {at : ℕ} {a b : Codes} {count : ℕ} {g : Summary} {end to : ℕ} → Limits s
     → (w : ExpressionFormed s line at a b count g end to) → g .named ≡ true → g .kinded ≡ true → g .short ≡ true → g .ranged ≡ true → g .depth ≤ 8
-    → codesBetween b count to ≡ postfix (treeOf (w .written))
+    → codesOf b count to ≡ postfix (treeOf (w .written))
 unfolding summary
 whole-postfix {s} l w n k h r d =
     let e = w .summary-is in

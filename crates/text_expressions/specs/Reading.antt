@@ -6,6 +6,7 @@ use mathlib.Core.List.{List}
 use lib.ListN.{length}
 use Rattle.register.specs.declared.Sizes.{Sizes}
 use Rattle.program.specs.declared.rule.Operator.{Operator}
+use Rattle.program.specs.Code.{Codes}
 use Rattle.text_syntax.specs.Token.{Token, operator, closeRound}
 use Rattle.text_syntax.specs.Form.{Form, formed, unformed}
 use Rattle.text_syntax.specs.Written.{Expression}
@@ -21,7 +22,7 @@ use Rattle.text_expressions.specs.declared.expression.ExpressionRead.{Ex
 use Rattle.text_expressions.specs.declared.expression.ExpressionRead.the-variants.{Parts, NoForm as NoParts}
 use Rattle.text_terms.specs.Place.{tokensFrom, Behind, Passing, Absent}
 use Rattle.text_expressions.specs.Summary.{summaryOf}
-use Rattle.text_expressions.specs.Codes.{Arrays, codesOf, Wrote, Roomy}
+use Rattle.text_expressions.specs.Codes.{writtenCodes, Wrote, Roomy}
 
 -- an operator of a rank stands at a place, or none
 pub record Ranked (rank : Operator → Bool) (o : Operator) (line : List ℕ) (at end : ℕ) : Type 0 where
@@ -42,7 +43,7 @@ AllDeep k (formed e r) = k < depth e
 
 -- what a reader reads at a place where an operand is due: at most `room` groups deep, with what had been gathered before, in 8 less `room`
 -- groups, its codes written from `count` on; nothing; or what is deeper
-pub record ReadAs (reader : List Token → Form Expression) (s : Sizes) (room : ℕ) (before : Summary) (line : List ℕ) (at : ℕ) (a b : Arrays) (count : ℕ)
+pub record ReadAs (reader : List Token → Form Expression) (s : Sizes) (room : ℕ) (before : Summary) (line : List ℕ) (at : ℕ) (a b : Codes) (count : ℕ)
     (g : Summary) (end to : ℕ) : Type 0 where
   pub written : Expression
   pub form-is : reader (tokensFrom true line at) ≡ formed written (tokensFrom false line end)
@@ -50,7 +51,7 @@ pub record ReadAs (reader : List Token → Form Expression) (s : Sizes) (room : 
   pub summary-is : summaryOf g ≡ merged (8 - room) (summaryOf before) (summary s written)
   pub behind : Behind line at end
   pub few : g .operators ≤ end
-  pub wrote : Wrote a b count to (codesOf written)
+  pub wrote : Wrote a b count to (writtenCodes written)
   pub few-codes : to + at ≤ count + end
 
 pub record Unread (reader : List Token → Form Expression) (line : List ℕ) (at : ℕ) : Type 0 where
@@ -59,7 +60,7 @@ pub record Unread (reader : List Token → Form Expression) (line : List ℕ) (a
 pub record TooDeep (reader : List Token → Form Expression) (room : ℕ) (line : List ℕ) (at : ℕ) : Type 0 where
   pub deep : AllDeep room (reader (tokensFrom true line at))
 
-abbrev pub ReadingAt : (List Token → Form Expression) → Sizes → ℕ → Summary → List ℕ → ℕ → Arrays → Arrays → ℕ → Reading → Type 0
+abbrev pub ReadingAt : (List Token → Form Expression) → Sizes → ℕ → Summary → List ℕ → ℕ → Codes → Codes → ℕ → Reading → Type 0
 ReadingAt reader s room before line at a b count (Read g end to) = ReadAs reader s room before line at a b count g end to
 ReadingAt reader s room before line at a b count NoForm = Unread reader line at
 ReadingAt reader s room before line at a b count Deep = TooDeep reader room line at
@@ -83,16 +84,16 @@ GroupedBy line Deep r = r ≡ Deep
 
 -- an expression stands at a place, with what is asked of it; if it is at most 8 groups deep, its codes were written; there is room for what
 -- follows
-pub record ExpressionFormed (s : Sizes) (line : List ℕ) (at : ℕ) (a b : Arrays) (count : ℕ) (g : Summary) (end to : ℕ) : Type 0 where
+pub record ExpressionFormed (s : Sizes) (line : List ℕ) (at : ℕ) (a b : Codes) (count : ℕ) (g : Summary) (end to : ℕ) : Type 0 where
   pub written : Expression
   pub form-is : expression (tokensFrom true line at) ≡ formed written (tokensFrom false line end)
   pub summary-is : summaryOf g ≡ summary s written
-  pub wrote : depth written ≤ 8 → Wrote a b count to (codesOf written)
+  pub wrote : depth written ≤ 8 → Wrote a b count to (writtenCodes written)
   pub more-codes : count ≤ to
   pub few-codes : to + at ≤ count + end
   pub inside : end ≤ length line
   pub roomy : Roomy b line end to
 
-abbrev pub ExpressionAt : Sizes → List ℕ → ℕ → Arrays → Arrays → ℕ → ExpressionRead → Type 0
+abbrev pub ExpressionAt : Sizes → List ℕ → ℕ → Codes → Codes → ℕ → ExpressionRead → Type 0
 ExpressionAt s line at a b count (Parts g end to) = ExpressionFormed s line at a b count g end to
 ExpressionAt s line at a b count NoParts = Unread expression line at

@@ -3,7 +3,8 @@ ghost use mathlib.Core.Path.{_≡_};
 ghost use mathlib.Core.Logic.{_≢_};
 ghost use Prim.Native.Nat.{_+_, _<_};
 ghost use lib.ListN.{length};
-ghost use Rattle.text_expressions.specs.Codes.{arrays, termCode, signKind, Wrote, WroteSign};
+ghost use Rattle.program.specs.Code.{codesKept};
+ghost use Rattle.text_expressions.specs.Codes.{termCode, signKind, Wrote, WroteSign};
 use program::rule::Operator;
 use text_terms::term::TermParts;
 
@@ -18,8 +19,8 @@ pub fn put_term(
     requires { ⌜ (at < length (now kinds)) × (at < length (now numbers)) × (at < length (now chains)) ⌝ }
     ensures { λ _.
         ⌜ Wrote
-        (arrays (now (kinds .entry)) (now (numbers .entry)) (now (chains .entry)))
-        (arrays (now (kinds .exit)) (now (numbers .exit)) (now (chains .exit))) at (at + 1) (termCode parts) ⌝ }
+        (codesKept (now (kinds .entry)) (now (numbers .entry)) (now (chains .entry)))
+        (codesKept (now (kinds .exit)) (now (numbers .exit)) (now (chains .exit))) at (at + 1) (termCode parts) ⌝ }
 {
     let number = parts.number;
     kinds[at] = parts.kind;

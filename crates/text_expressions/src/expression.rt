@@ -2,7 +2,8 @@
 ghost use Prim.Native.Nat.{_≤_};
 ghost use lib.ListN.{length};
 ghost use Rattle.register.specs.Shape.{Limits};
-ghost use Rattle.text_expressions.specs.Codes.{arrays, Roomy};
+ghost use Rattle.program.specs.Code.{codesKept};
+ghost use Rattle.text_expressions.specs.Codes.{Roomy};
 ghost use Rattle.text_expressions.specs.Reading.{ExpressionAt};
 use crate::join::Reading;
 use crate::reader;
@@ -28,11 +29,11 @@ pub fn read(
     chains: &mut [u64],
     count: usize,
 ) -> ExpressionRead
-    requires { ⌜ Limits sizes × (at ≤ length (now line)) × Roomy (arrays (now kinds) (now numbers) (now chains)) (now line) at count ⌝ }
+    requires { ⌜ Limits sizes × (at ≤ length (now line)) × Roomy (codesKept (now kinds) (now numbers) (now chains)) (now line) at count ⌝ }
     ensures { λ r.
         ⌜ ExpressionAt sizes (now (line .entry)) at
-        (arrays (now (kinds .entry)) (now (numbers .entry)) (now (chains .entry)))
-        (arrays (now (kinds .exit)) (now (numbers .exit)) (now (chains .exit))) count r ⌝ }
+        (codesKept (now (kinds .entry)) (now (numbers .entry)) (now (chains .entry)))
+        (codesKept (now (kinds .exit)) (now (numbers .exit)) (now (chains .exit))) count r ⌝ }
 {
     let before = summary::nothing();
     match reader::read_expression(line, at, sizes, 8, before, kinds, numbers, chains, count) {

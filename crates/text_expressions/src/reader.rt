@@ -2,9 +2,10 @@
 ghost use Prim.Native.Nat.{_≤_};
 ghost use lib.ListN.{length};
 ghost use Rattle.register.specs.Shape.{Limits};
+ghost use Rattle.program.specs.Code.{codesKept};
 ghost use Rattle.text_syntax.specs.Grammar.{expression, minimum, operand};
 ghost use Rattle.text_terms.specs.Term.{NoTerm};
-ghost use Rattle.text_expressions.specs.Codes.{arrays, Roomy};
+ghost use Rattle.text_expressions.specs.Codes.{Roomy};
 ghost use Rattle.text_expressions.specs.Reading.{ReadingAt, EndInside, GroupedBy};
 use crate::code;
 use crate::join;
@@ -32,11 +33,11 @@ pub fn read_expression(
     count: usize,
 ) -> Reading
     requires { ⌜ Limits sizes × (room ≤ 8) × (at ≤ length (now line)) × (before .operators ≤ at) ⌝ }
-    requires { ⌜ Roomy (arrays (now kinds) (now numbers) (now chains)) (now line) at count ⌝ }
+    requires { ⌜ Roomy (codesKept (now kinds) (now numbers) (now chains)) (now line) at count ⌝ }
     ensures { λ r.
         ⌜ ReadingAt expression sizes room before (now (line .entry)) at
-        (arrays (now (kinds .entry)) (now (numbers .entry)) (now (chains .entry)))
-        (arrays (now (kinds .exit)) (now (numbers .exit)) (now (chains .exit))) count r ⌝ }
+        (codesKept (now (kinds .entry)) (now (numbers .entry)) (now (chains .entry)))
+        (codesKept (now (kinds .exit)) (now (numbers .exit)) (now (chains .exit))) count r ⌝ }
 {
     let mut next = Pending {
         at,
@@ -69,11 +70,11 @@ fn read_minimum(
     count: usize,
 ) -> Reading
     requires { ⌜ Limits sizes × (room ≤ 8) × (at ≤ length (now line)) × (before .operators ≤ at) ⌝ }
-    requires { ⌜ Roomy (arrays (now kinds) (now numbers) (now chains)) (now line) at count ⌝ }
+    requires { ⌜ Roomy (codesKept (now kinds) (now numbers) (now chains)) (now line) at count ⌝ }
     ensures { λ r.
         ⌜ ReadingAt minimum sizes room before (now (line .entry)) at
-        (arrays (now (kinds .entry)) (now (numbers .entry)) (now (chains .entry)))
-        (arrays (now (kinds .exit)) (now (numbers .exit)) (now (chains .exit))) count r ⌝ }
+        (codesKept (now (kinds .entry)) (now (numbers .entry)) (now (chains .entry)))
+        (codesKept (now (kinds .exit)) (now (numbers .exit)) (now (chains .exit))) count r ⌝ }
 {
     let mut next = Pending {
         at,
@@ -106,11 +107,11 @@ fn read_operand(
     count: usize,
 ) -> Reading
     requires { ⌜ Limits sizes × (room ≤ 8) × (at ≤ length (now line)) × (before .operators ≤ at) ⌝ }
-    requires { ⌜ Roomy (arrays (now kinds) (now numbers) (now chains)) (now line) at count ⌝ }
+    requires { ⌜ Roomy (codesKept (now kinds) (now numbers) (now chains)) (now line) at count ⌝ }
     ensures { λ r.
         ⌜ ReadingAt operand sizes room before (now (line .entry)) at
-        (arrays (now (kinds .entry)) (now (numbers .entry)) (now (chains .entry)))
-        (arrays (now (kinds .exit)) (now (numbers .exit)) (now (chains .exit))) count r ⌝ }
+        (codesKept (now (kinds .entry)) (now (numbers .entry)) (now (chains .entry)))
+        (codesKept (now (kinds .exit)) (now (numbers .exit)) (now (chains .exit))) count r ⌝ }
 {
     let TermRead::Parts(parts, end) = term::read_term(line, at, sizes) else {
         return read_group(line, at, sizes, room, before, kinds, numbers, chains, count);
@@ -132,11 +133,11 @@ fn read_group(
     count: usize,
 ) -> Reading
     requires { ⌜ Limits sizes × (room ≤ 8) × (at ≤ length (now line)) × (before .operators ≤ at) ⌝ }
-    requires { ⌜ Roomy (arrays (now kinds) (now numbers) (now chains)) (now line) at count × NoTerm (now line) at ⌝ }
+    requires { ⌜ Roomy (codesKept (now kinds) (now numbers) (now chains)) (now line) at count × NoTerm (now line) at ⌝ }
     ensures { λ r.
         ⌜ ReadingAt operand sizes room before (now (line .entry)) at
-        (arrays (now (kinds .entry)) (now (numbers .entry)) (now (chains .entry)))
-        (arrays (now (kinds .exit)) (now (numbers .exit)) (now (chains .exit))) count r ⌝ }
+        (codesKept (now (kinds .entry)) (now (numbers .entry)) (now (chains .entry)))
+        (codesKept (now (kinds .exit)) (now (numbers .exit)) (now (chains .exit))) count r ⌝ }
 {
     let Place::At(inner) = place::open_round(line, at) else {
         return Reading::NoForm;

@@ -4,10 +4,11 @@ ghost use mathlib.Core.Bool.{true, false};
 ghost use Prim.Native.Nat.{_≤_};
 ghost use lib.ListN.{length};
 ghost use Rattle.register.specs.Shape.{Limits};
+ghost use Rattle.program.specs.Code.{codesKept};
 ghost use Rattle.text_syntax.specs.Lexing.{tokens};
 ghost use Rattle.text_syntax.specs.Grammar.{anyForm};
 ghost use Rattle.text_terms.specs.Place.{tokensFrom};
-ghost use Rattle.text_expressions.specs.Codes.{arrays, Roomy};
+ghost use Rattle.text_expressions.specs.Codes.{Roomy};
 ghost use Rattle.text_lines.specs.Line.{noParts, whenParts, alwaysParts, wordRead, loopRead, RuledBehind, ComparedBehind, testedBehind, LineAt};
 use chain_text::letters;
 use program::rule::Comparison;
@@ -96,12 +97,12 @@ fn read_ruled(
     chains: &mut [u64],
     count: usize,
 ) -> LineParts
-    requires { ⌜ Limits sizes × (at ≤ length (now line)) × Roomy (arrays (now kinds) (now numbers) (now chains)) (now line) at count
+    requires { ⌜ Limits sizes × (at ≤ length (now line)) × Roomy (codesKept (now kinds) (now numbers) (now chains)) (now line) at count
         × (length (now kinds) ≤ 65536) ⌝ }
     ensures { λ r.
         ⌜ RuledBehind sizes (now (line .entry)) at test
-        (arrays (now (kinds .entry)) (now (numbers .entry)) (now (chains .entry)))
-        (arrays (now (kinds .exit)) (now (numbers .exit)) (now (chains .exit))) count r ⌝ }
+        (codesKept (now (kinds .entry)) (now (numbers .entry)) (now (chains .entry)))
+        (codesKept (now (kinds .exit)) (now (numbers .exit)) (now (chains .exit))) count r ⌝ }
 {
     let ActionRead::Action(rule, asked, codes) = action::read(
         line,
@@ -148,12 +149,12 @@ fn read_compared(
     chains: &mut [u64],
     count: usize,
 ) -> LineParts
-    requires { ⌜ Limits sizes × (at ≤ length (now line)) × Roomy (arrays (now kinds) (now numbers) (now chains)) (now line) at count
+    requires { ⌜ Limits sizes × (at ≤ length (now line)) × Roomy (codesKept (now kinds) (now numbers) (now chains)) (now line) at count
         × (length (now kinds) ≤ 65536) ⌝ }
     ensures { λ r.
         ⌜ ComparedBehind sizes (now (line .entry)) at first
-        (arrays (now (kinds .entry)) (now (numbers .entry)) (now (chains .entry)))
-        (arrays (now (kinds .exit)) (now (numbers .exit)) (now (chains .exit))) count r ⌝ }
+        (codesKept (now (kinds .entry)) (now (numbers .entry)) (now (chains .entry)))
+        (codesKept (now (kinds .exit)) (now (numbers .exit)) (now (chains .exit))) count r ⌝ }
 {
     let SideRead::Side(seen, term, end, codes) = side::read(
         line,
@@ -183,12 +184,12 @@ fn read_tested(
     chains: &mut [u64],
     count: usize,
 ) -> LineParts
-    requires { ⌜ Limits sizes × (at ≤ length (now line)) × Roomy (arrays (now kinds) (now numbers) (now chains)) (now line) at count
+    requires { ⌜ Limits sizes × (at ≤ length (now line)) × Roomy (codesKept (now kinds) (now numbers) (now chains)) (now line) at count
         × (length (now kinds) ≤ 65536) ⌝ }
     ensures { λ r.
         ⌜ LineAt sizes (now (line .entry)) at (testedBehind (tokensFrom true (now (line .entry)) at))
-        (arrays (now (kinds .entry)) (now (numbers .entry)) (now (chains .entry)))
-        (arrays (now (kinds .exit)) (now (numbers .exit)) (now (chains .exit))) count count r ⌝ }
+        (codesKept (now (kinds .entry)) (now (numbers .entry)) (now (chains .entry)))
+        (codesKept (now (kinds .exit)) (now (numbers .exit)) (now (chains .exit))) count count r ⌝ }
 {
     let SideRead::Side(seen, term, end, codes) = side::read(
         line,
@@ -231,11 +232,11 @@ pub fn read_line(
     chains: &mut [u64],
     count: usize,
 ) -> LineParts
-    requires { ⌜ Limits sizes × Roomy (arrays (now kinds) (now numbers) (now chains)) (now line) 0 count × (length (now kinds) ≤ 65536) ⌝ }
+    requires { ⌜ Limits sizes × Roomy (codesKept (now kinds) (now numbers) (now chains)) (now line) 0 count × (length (now kinds) ≤ 65536) ⌝ }
     ensures { λ r.
         ⌜ LineAt sizes (now (line .entry)) 0 (anyForm (tokens (now (line .entry))))
-        (arrays (now (kinds .entry)) (now (numbers .entry)) (now (chains .entry)))
-        (arrays (now (kinds .exit)) (now (numbers .exit)) (now (chains .exit))) count count r ⌝ }
+        (codesKept (now (kinds .entry)) (now (numbers .entry)) (now (chains .entry)))
+        (codesKept (now (kinds .exit)) (now (numbers .exit)) (now (chains .exit))) count count r ⌝ }
 {
     let first = lexer::next_token(line, 0, false);
     let token = first.token;

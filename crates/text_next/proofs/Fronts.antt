@@ -10,13 +10,14 @@ use borrow.Author.Tests.{eqb-true, not-false, lt-ltb, le-ltb}
 use lib.ListN.{length, getD, take, drop, length-drop, drop-of-length-le}
 use lib.Seq.{drop-cons, take-append-seam, length-take-le}
 use Rattle.register.specs.declared.Sizes.{Sizes}
+use Rattle.program.specs.Code.{Codes}
 use Rattle.text_numerals.proofs.Spans.{starts-within, span-text, span-every, span-behind}
 use Rattle.text_syntax.specs.Lexing.{tokens}
 use Rattle.text_syntax.specs.Grammar.{anyForm, lineForm}
 use Rattle.text_rules.specs.Text.{isWithin, Piece, ended, cut, pieceForm, lines}
 use Rattle.text_rules.specs.LineRead.{no-form}
 use Rattle.text_rules.proofs.Pieces.{lines-ended, lines-cut}
-use Rattle.text_expressions.specs.Codes.{Arrays, Roomy}
+use Rattle.text_expressions.specs.Codes.{Roomy}
 use Rattle.text_lines.specs.Line.{LineAt, noParts}
 use Rattle.text_lines.specs.declared.line.LineParts.{LineParts}
 use Rattle.text_next.specs.Front.{lineBytes, firstForm, CodeRoom, LineNext}
@@ -65,7 +66,7 @@ lines-first b t = go (decLt (length (lineBytes (b ∷ t))) (length (b ∷ t)))
 
 -- what is read of the line at a place, by the form of its part up to byte 10
 module _ (s : Sizes) (t : List ℕ) (at end count : ℕ) (e : end ≡ at + length (lineBytes (drop at t))) (few : count ≤ at) where
-  pub next-none : (a b : Arrays) → length t ≤ end → LineNext s (firstForm (drop at t)) end a b count (noParts count)
+  pub next-none : (a b : Codes) → length t ≤ end → LineNext s (firstForm (drop at t)) end a b count (noParts count)
   next-none a b h = record {
     reads = rw (first-past t at (omega (arith, e))) no-form;
     leaves = tt;
@@ -76,14 +77,14 @@ module _ (s : Sizes) (t : List ℕ) (at end count : ℕ) (e : end ≡ at + lengt
   part-length : end < length t → length (take (end - at) (drop at t)) ≡ end - at
   part-length h = length-take-le (end - at) (drop at t) (omega (arith, e, length-drop at t))
 
-  pub next-roomy : (a : Arrays) → end < length t → CodeRoom (length t) a → Roomy a (take (end - at) (drop at t)) 0 count
+  pub next-roomy : (a : Codes) → end < length t → CodeRoom (length t) a → Roomy a (take (end - at) (drop at t)) 0 count
   next-roomy a h room = record {
     kinds = omega (arith, part-length h, e, room .in-kinds);
     numbers = omega (arith, part-length h, e, room .in-numbers);
     chains = omega (arith, part-length h, e, room .in-chains);
   }
 
-  pub next-line : (a b : Arrays) (r : LineParts) → end < length t
+  pub next-line : (a b : Codes) (r : LineParts) → end < length t
       → LineAt s (take (end - at) (drop at t)) 0 (anyForm (tokens (take (end - at) (drop at t)))) a b count count r
       → LineNext s (firstForm (drop at t)) end a b count r
   unfolding lineForm

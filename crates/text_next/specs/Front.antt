@@ -6,14 +6,13 @@ use mathlib.Core.Option.{Option, none}
 use lib.Dec.{ltb}
 use lib.ListN.{length}
 use Rattle.register.specs.declared.Sizes.{Sizes}
+use Rattle.program.specs.Code.{Codes}
 use Rattle.text_numerals.specs.Span.{starts, span}
 use Rattle.text_syntax.specs.Lexing.{tokens}
 use Rattle.text_syntax.specs.Written.{Line}
 use Rattle.text_syntax.specs.Grammar.{lineForm}
 use Rattle.text_rules.specs.Text.{isWithin}
 use Rattle.text_rules.specs.LineRead.{Reads}
-use Rattle.text_expressions.specs.Codes.{Arrays}
-use Rattle.text_sides.specs.Side.{codesFor}
 use Rattle.text_lines.specs.Line.{Leaves}
 use Rattle.text_lines.specs.declared.line.LineParts.{LineParts}
 
@@ -29,15 +28,15 @@ unfoldable pub firstForm : List ℕ → Option Line
 firstForm t = cond (ltb (length (lineBytes t)) (length t)) (lineForm (tokens (lineBytes t))) none
 
 -- room for the codes of a text of n bytes: one for each byte
-pub record CodeRoom (n : ℕ) (a : Arrays) : Type 0 where
+pub record CodeRoom (n : ℕ) (a : Codes) : Type 0 where
   pub in-kinds : n ≤ length (a .kinds)
   pub in-numbers : n ≤ length (a .numbers)
   pub in-chains : n ≤ length (a .chains)
   pub few : length (a .kinds) ≤ 65536
 
 -- what is read of the first line, which ends at `end`, and the codes that it leaves, from `count` on
-pub record LineNext (s : Sizes) (form : Option Line) (end : ℕ) (a b : Arrays) (count : ℕ) (r : LineParts) : Type 0 where
-  pub reads : Reads s (codesFor b) form (r .line)
+pub record LineNext (s : Sizes) (form : Option Line) (end : ℕ) (a b : Codes) (count : ℕ) (r : LineParts) : Type 0 where
+  pub reads : Reads s b form (r .line)
   pub leaves : Leaves a b count (r .codes) (r .line)
   pub more-codes : count ≤ r .codes
   pub few-codes : r .codes ≤ end

@@ -3,7 +3,7 @@ ghost use mathlib.Core.Path.{_≡_};
 ghost use Prim.Native.Nat.{_+_, _≤_, _<_};
 ghost use lib.ListN.{length, drop};
 ghost use Rattle.register.specs.Shape.{Limits};
-ghost use Rattle.text_expressions.specs.Codes.{arrays};
+ghost use Rattle.program.specs.Code.{codesKept};
 ghost use Rattle.text_next.specs.Front.{lineGoesOn, lineBytes, firstForm, CodeRoom, LineNext};
 use register::Sizes;
 use text_lines::line;
@@ -45,11 +45,11 @@ pub fn read_first(
     count: usize,
 ) -> LineParts
     requires { ⌜ Limits sizes × (at < length (now text)) × (end ≡ at + length (lineBytes (drop at (now text)))) × (count ≤ at)
-        × CodeRoom (length (now text)) (arrays (now kinds) (now numbers) (now chains)) ⌝ }
+        × CodeRoom (length (now text)) (codesKept (now kinds) (now numbers) (now chains)) ⌝ }
     ensures { λ r.
         ⌜ LineNext sizes (firstForm (drop at (now (text .entry)))) end
-        (arrays (now (kinds .entry)) (now (numbers .entry)) (now (chains .entry)))
-        (arrays (now (kinds .exit)) (now (numbers .exit)) (now (chains .exit))) count r ⌝ }
+        (codesKept (now (kinds .entry)) (now (numbers .entry)) (now (chains .entry)))
+        (codesKept (now (kinds .exit)) (now (numbers .exit)) (now (chains .exit))) count r ⌝ }
 {
     if text.len() <= end {
         return LineParts {

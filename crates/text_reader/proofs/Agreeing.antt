@@ -23,11 +23,11 @@ use Rattle.program.specs.declared.location.Places.{Places}
 use Rattle.program.specs.declared.location.Located.{Located}
 use Rattle.program.specs.declared.frame.Frame.{Frame}
 use Rattle.program.specs.Program as P
-use Rattle.program.specs.Code.{chain, number, operator, operatorOf, codeOf, codeAt, Codes, Arrays}
+use Rattle.program.specs.Code.{chain, number, operator, operatorOf, codeOf, codeAt, Codes, Arrays, SameBelow}
 use Rattle.program.specs.Stored.{rulesIn}
 use Rattle.program.specs.Terms.{TestTerms, RuleTerms, SlotTerms, TermInside, TermFormed, TermPlaced, TestPlaced, RulePlaced, SlotPlaced}
 use Rattle.program.specs.Kept.{stepsIn, AllLocated}
-use Rattle.program.proofs.Agreeing.{slot-map, SameBelow, formed-same, rule-same}
+use Rattle.program.proofs.Agreeing.{slot-map, formed-same, rule-same}
 use Rattle.text_plan.proofs.Placing.{WordPlaced, slot-located}
 use Rattle.text_reader.proofs.Lists.{each-both, map-same, each-take, each-drop}
 

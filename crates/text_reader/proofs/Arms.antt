@@ -14,6 +14,7 @@ use Rattle.laws.specs.Lists.{Each}
 use Rattle.laws.proofs.Bools.{and-both, true-false}
 use Rattle.plan_lines.specs.Held.{HoldsLines, Added, planOf}
 use Rattle.plan_lines.proofs.Appending.{holds-count}
+use Rattle.text_syntax.specs.Tree.{ruleOf}
 use Rattle.text_syntax.specs.Written as W
 use Rattle.text_syntax.specs.Written.{step, end, done, loop, rule}
 use Rattle.program.specs.declared.rule.Rule as C
@@ -28,7 +29,7 @@ use Rattle.program.specs.Terms.{SlotTerms, TermFrom, TermInside, TermFormed}
 use Rattle.text_rules.specs.declared.line.Checks.{Checks}
 use Rattle.text_rules.specs.declared.line.LineRead.the-variants as L
 use Rattle.text_rules.specs.Check.{State, isOutside, isUsed, isOpen, openRules, inPlace, hasRoom, planFits}
-use Rattle.text_rules.specs.Text.{settingIn, closeLoop, writtenRule, advance}
+use Rattle.text_rules.specs.Text.{settingIn, closeLoop, advance}
 use Rattle.program.specs.Passed.{Loops}
 use Rattle.text_rules.specs.declared.around.Around.{Around}
 use Rattle.text_rules.specs.declared.around.Around.the-variants.{Outside, Unused, Used}
@@ -181,7 +182,7 @@ module _ (s : Sizes) {k : Codes} {places : List ℕ} {n : ℕ} {slots : List Loc
     abbrev here : ℕ
     here = 32 * x .steps + x .tally .rules
 
-    module _ (z : Slot) (is : ruleIn k z ≡ writtenRule u a) (formed : SlotTerms (TermFormed k) z) (from : SlotTerms (TermFrom n) z)
+    module _ (z : Slot) (is : ruleIn k z ≡ ruleOf u a) (formed : SlotTerms (TermFormed k) z) (from : SlotTerms (TermFrom n) z)
         {m : ℕ} (l : n ≤ m) (inside : SlotTerms (TermInside m) z)
         {q : Added} {wanted′ : List Bool} {places′ : List ℕ} {at : Locations}
         (w : RulePlanned (k .kinds) (k .chains) z p wanted places q wanted′ places′ at) where

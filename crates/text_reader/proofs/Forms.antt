@@ -10,20 +10,18 @@ use Rattle.program.specs.declared.rule.Slot.{Slot}
 use Rattle.program.specs.Program as P
 use Rattle.program.specs.Program.{expressionReadings, testReadings, targetReadings, ruleReadings}
 use Rattle.program.specs.Passed.{ExpressionPasses, TestPasses, TargetPasses, RulePasses}
-use Rattle.program.specs.Code.{Codes}
+use Rattle.program.specs.Code.{Codes, SameBelow}
 use Rattle.program.specs.Stored.{ruleIn}
 use Rattle.program.specs.Terms.{SlotTerms, TermFrom, TermInside, TermFormed}
+use Rattle.text_syntax.specs.Tree.{ruleOf}
 use Rattle.text_syntax.specs.Written.{Condition, Action, Line, step, end, done, loop, rule}
 use Rattle.text_rules.specs.declared.line.Checks.{Checks}
 use Rattle.text_rules.specs.declared.line.LineRead.{LineRead}
 use Rattle.text_rules.specs.declared.line.LineRead.the-variants as L
 use Rattle.text_rules.specs.LineRead.{RuleRead, Reads, step-line, end-line, done-line, loop-line, rule-line}
 use Rattle.text_rules.specs.Check.{State}
-use Rattle.text_rules.specs.Text.{writtenRule}
 use Rattle.text_rules.proofs.Checked.{Clean}
 use Rattle.text_state.proofs.Standing.{clean-passes}
-use Rattle.text_expressions.specs.Codes.{Arrays}
-use Rattle.text_sides.specs.Side.{codesFor, KeptBefore}
 use Rattle.text_lines.specs.Line.{Leaves}
 use Rattle.text_plan.specs.Readings.{Short}
 
@@ -108,14 +106,14 @@ pub record Written (s : Sizes) (st : State) (k : Codes) (from to : ℕ) (l : Lin
   pub action : Action
   pub line-is : l ≡ rule condition action
   pub clean : Clean s st (rule condition action)
-  pub rule-is : ruleIn k x ≡ writtenRule condition action
+  pub rule-is : ruleIn k x ≡ ruleOf condition action
   pub formed : SlotTerms (TermFormed k) x
   pub behind : SlotTerms (TermFrom from) x
   pub inside : SlotTerms (TermInside to) x
 
-module _ {s : Sizes} {st : State} (a b : Arrays) (from to : ℕ) where
-  pub rule-form : {l : Line} {y : LineRead} → Reads s (codesFor b) (some l) y → Clean s st l → Leaves a b from to y
-      → {x : Slot} {c : Checks} → y ≡ L.Rule x c → Written s st (codesFor b) from to l x
+module _ {s : Sizes} {st : State} (a b : Codes) (from to : ℕ) where
+  pub rule-form : {l : Line} {y : LineRead} → Reads s b (some l) y → Clean s st l → Leaves a b from to y
+      → {x : Slot} {c : Checks} → y ≡ L.Rule x c → Written s st b from to l x
   unfolding tag
   rule-form step-line k v e = absurd (omega (arith, ap tag e))
   rule-form end-line k v e = absurd (omega (arith, ap tag e))
@@ -123,7 +121,7 @@ module _ {s : Sizes} {st : State} (a b : Arrays) (from to : ℕ) where
   rule-form (loop-line f) k v e = absurd (omega (arith, ap tag e))
   rule-form (rule-line c d z w) k v {x} e =
       let is : z ≡ x = cc in
-      let read : RuleRead (codesFor b) c d x = subst (RuleRead (codesFor b) c d) is (w (clean-passes k)) in
+      let read : RuleRead b c d x = subst (RuleRead b c d) is (w (clean-passes k)) in
       let left = v (clean-passes k) in
       record {
         condition = c;
@@ -137,7 +135,7 @@ module _ {s : Sizes} {st : State} (a b : Arrays) (from to : ℕ) where
       }
 
   -- the codes before it are as they were
-  pub codes-kept : {l : Line} {y : LineRead} → Reads s (codesFor b) (some l) y → Clean s st l → Leaves a b from to y → KeptBefore a b from
+  pub codes-kept : {l : Line} {y : LineRead} → Reads s b (some l) y → Clean s st l → Leaves a b from to y → SameBelow a b from
   codes-kept step-line k v = v
   codes-kept end-line k v = v
   codes-kept done-line k v = v

@@ -21,8 +21,6 @@ use Rattle.text_syntax.specs.Grammar.{lineForm}
 use Rattle.text_rules.specs.declared.line.Checks.{Checks}
 use Rattle.text_rules.specs.declared.line.LineRead.the-variants as L
 use Rattle.text_rules.specs.LineRead.{Reads}
-use Rattle.text_expressions.specs.Codes.{Arrays}
-use Rattle.text_sides.specs.Side.{codesFor}
 use Rattle.text_lines.specs.Line.{Leaves}
 use Rattle.text_lines.specs.declared.line.LineParts.{LineParts}
 use Rattle.program.specs.declared.rule.Slot.{Slot}
@@ -59,12 +57,12 @@ use Rattle.text_state.proofs.Standing.{Stands, start-stands, advance-stands}
 use Rattle.text_refusals.proofs.Refusals.{number, refusal-is, last-is}
 
 -- the state of the definition before line i, which begins at `at`, and what the code has of it, with n codes in the arrays a
-pub record Read (s : Sizes) (t : List ℕ) (plan : Added) (wanted : List Bool) (a : Arrays) (places : List ℕ) (slots : List Located)
+pub record Read (s : Sizes) (t : List ℕ) (plan : Added) (wanted : List Bool) (a : Codes) (places : List ℕ) (slots : List Located)
     (frames : List Frame) (x : S.State) (n at i : ℕ) : Type 0 where
   pub state : State
   pub reached : Reached s state
   pub stands : Stands x state
-  pub behind : Behind (codesFor a) places n slots frames plan wanted x state
+  pub behind : Behind a places n slots frames plan wanted x state
   pub lent : CodeArrays (a .kinds) (a .numbers) (a .chains) places
   pub rest : readFrom s start 1 (lines t) ≡ readFrom s state i (lines (drop at t))
   pub within : at ≤ length t
@@ -72,7 +70,7 @@ pub record Read (s : Sizes) (t : List ℕ) (plan : Added) (wanted : List Bool) (
   pub few-codes : n ≤ at
 
 -- before the first line
-pub begun : (s : Sizes) (t : List ℕ) {plan : Added} {wanted : List Bool} {a : Arrays} {places : List ℕ} {y : Located} {frames : List Frame} {x : S.State}
+pub begun : (s : Sizes) (t : List ℕ) {plan : Added} {wanted : List Bool} {a : Codes} {places : List ℕ} {y : Located} {frames : List Frame} {x : S.State}
     → (plan .full ≡ false) × HoldsLines (plan .plan) [] → length wanted ≡ 64 → CodeArrays (a .kinds) (a .numbers) (a .chains) places
     → y .slot ≡ emptySlot → length frames ≡ 32 → x ≡ startState → Read s t plan wanted a places (replicate 1024 y) frames x 0 0 1
 unfolding startState start openRules stepsIn rulesIn noRules
@@ -88,7 +86,7 @@ begun s t {a = a} {y = y} h lw lent ey lf e = record {
       rules-are = refl;
       framed = tt;
       placed = tt;
-      terms = each-replicate (SlotKept (codesFor a) 0) 1024 y (rw ey (tt, (tt, tt)));
+      terms = each-replicate (SlotKept a 0) 1024 y (rw ey (tt, (tt, tt)));
     };
     opened = open-none h lw;
   });
@@ -140,20 +138,20 @@ first-some t l h = go (ltb (length (lineBytes t)) (length t)) refl h
     go true e h = ltb-true (length (lineBytes t)) (length t) e
     go false e h = absurd (let z : _≡_ {A = ℕ} 0 1 = cc in omega arith)
 
-module _ (s : Sizes) {t : List ℕ} {plan : Added} {wanted : List Bool} {a : Arrays} {places : List ℕ} {slots : List Located}
+module _ (s : Sizes) {t : List ℕ} {plan : Added} {wanted : List Bool} {a : Codes} {places : List ℕ} {slots : List Located}
     {frames : List Frame} {x : S.State} {n at i : ℕ} (q : Read s t plan wanted a places slots frames x n at i) where
   -- the next line, where it passes
-  pub record Passes (b : Arrays) (r : LineParts) : Type 0 where
+  pub record Passes (b : Codes) (r : LineParts) : Type 0 where
     pub form : Line
     pub clean : Clean s (q .state) form
-    pub reads : Reads s (codesFor b) (some form) (r .line)
+    pub reads : Reads s b (some form) (r .line)
     pub leaves : Leaves a b n (r .codes) (r .line)
     pub more-codes : n ≤ r .codes
     pub few-codes : r .codes ≤ at + length (lineBytes (drop at t))
     pub inside : at + length (lineBytes (drop at t)) < length t
     pub onward : readFrom s start 1 (lines t) ≡ readFrom s (advance (q .state) form) (suc i) (lines (drop (at + length (lineBytes (drop at t)) + 1) t))
 
-  module _ {b : Arrays} (r : LineParts) {stop : ℕ} (e : stop ≡ at + length (lineBytes (drop at t))) (here : at < length t)
+  module _ {b : Codes} (r : LineParts) {stop : ℕ} (e : stop ≡ at + length (lineBytes (drop at t))) (here : at < length t)
       (l : LineNext s (firstForm (drop at t)) stop a b n r) where
     -- what follows it
     abbrev follows : State → Outcome Program
@@ -176,7 +174,7 @@ module _ (s : Sizes) {t : List ℕ} {plan : Added} {wanted : List Bool} {a : Arr
         record {
           form = p .0;
           clean = p .2;
-          reads = subst (λ (o : Option Line). Reads s (codesFor b) o (r .line)) (p .1) (l .reads);
+          reads = subst (λ (o : Option Line). Reads s b o (r .line)) (p .1) (l .reads);
           leaves = l .leaves;
           more-codes = l .more-codes;
           few-codes = omega (arith, l .few-codes, e);
@@ -187,23 +185,23 @@ module _ (s : Sizes) {t : List ℕ} {plan : Added} {wanted : List Bool} {a : Arr
         }
 
 -- the arrays and the plan behind each sort of line; m is the number of lines of the open step's plan
-module _ {s : Sizes} (lim : Limits s) {t : List ℕ} {plan : Added} {wanted : List Bool} {a : Arrays} {places : List ℕ} {slots : List Located}
+module _ {s : Sizes} (lim : Limits s) {t : List ℕ} {plan : Added} {wanted : List Bool} {a : Codes} {places : List ℕ} {slots : List Located}
     {frames : List Frame} {x : S.State} {n at i : ℕ} {q : Read s t plan wanted a places slots frames x n at i} where
-  module _ {b : Arrays} {r : LineParts} (p : Passes s q b r) (m : ℕ) where
+  module _ {b : Codes} {r : LineParts} (p : Passes s q b r) (m : ℕ) where
     -- what stood before the line, in the arrays behind it
-    same : Behind (codesFor b) places n slots frames plan wanted x (q .state)
+    same : Behind b places n slots frames plan wanted x (q .state)
     same = behind-same (q .behind) (record { same-codes = codes-kept a b n (r .codes) (p .reads) (p .clean) (p .leaves); same-places = λ j l. refl })
 
-    more : Behind (codesFor b) places (r .codes) slots frames plan wanted x (q .state)
+    more : Behind b places (r .codes) slots frames plan wanted x (q .state)
     more = behind-more same (p .more-codes)
 
-    pub arm-step : r .line ≡ L.Step → Behind (codesFor b) places (r .codes) slots frames plan wanted (advanceOf x m (r .line)) (advance (q .state) (p .form))
+    pub arm-step : r .line ≡ L.Step → Behind b places (r .codes) slots frames plan wanted (advanceOf x m (r .line)) (advance (q .state) (p .form))
     arm-step e =
         let is : p .form ≡ step = step-form (p .reads) e in
         rw (e, is) (at-step s (q .reached) (q .stands) more m (subst (Clean s (q .state)) is (p .clean)))
 
     pub arm-loop : {f : ℕ} {named : Bool} → r .line ≡ L.Loop f named
-        → Behind (codesFor b) places (r .codes) slots frames plan wanted (advanceOf x m (r .line)) (advance (q .state) (p .form))
+        → Behind b places (r .codes) slots frames plan wanted (advanceOf x m (r .line)) (advance (q .state) (p .form))
     arm-loop {f} {named} e =
         let v = loop-form (p .reads) e in
         rw (e, v .1) (at-loop s (q .reached) (q .stands) more m (v .0) f named (subst (Clean s (q .state)) (v .1) (p .clean)))
@@ -220,7 +218,7 @@ module _ {s : Sizes} (lim : Limits s) {t : List ℕ} {plan : Added} {wanted : Li
 
       pub arm-end : {marks : List Bool} → length marks ≡ 64
           → let o = plan .plan in
-          Behind (codesFor b) places (r .codes) slots (set frames (x .steps) (frameOf x o wanted))
+          Behind b places (r .codes) slots (set frames (x .steps) (frameOf x o wanted))
           (addedOf (o .keys) (o .rounds) (o .backs) (o .reads) 0 (plan .full)) marks (advanceOf x m (r .line)) (advance (q .state) (p .form))
       arm-end l =
           rw (e, end-form (p .reads) e)
@@ -234,12 +232,12 @@ module _ {s : Sizes} (lim : Limits s) {t : List ℕ} {plan : Added} {wanted : Li
       arm-done-steps = done-steps s (q .reached) (q .stands) more m done-clean
 
       pub arm-done : (d : Frame)
-          → Behind (codesFor b) places (r .codes) slots (set frames (x .steps - 1) (lastFrame (getD frames (x .steps - 1) d))) plan wanted
+          → Behind b places (r .codes) slots (set frames (x .steps - 1) (lastFrame (getD frames (x .steps - 1) d))) plan wanted
           (advanceOf x m (r .line)) (advance (q .state) (p .form))
       arm-done d = rw (e, done-form (p .reads) e) (at-done s (q .reached) (q .stands) more m done-clean d)
 
     module _ {y : Slot} {ch : Checks} (e : r .line ≡ L.Rule y ch) where
-      abbrev written : Written s (q .state) (codesFor b) n (r .codes) (p .form) y
+      abbrev written : Written s (q .state) b n (r .codes) (p .form) y
       written = rule-form a b n (r .codes) (p .reads) (p .clean) (p .leaves) e
 
       pub arm-steps : x .steps < 32
@@ -250,7 +248,7 @@ module _ {s : Sizes} (lim : Limits s) {t : List ℕ} {plan : Added} {wanted : Li
 
       pub arm-short : Short (slotWords (b .kinds) (b .chains) y)
       arm-short =
-          rw (slot-words (codesFor b) y (written .formed), written .rule-is)
+          rw (slot-words b y (written .formed), written .rule-is)
           (rule-short s _ (rule-passes s lim (q .state) (written .condition) (written .action) (written .clean)))
 
       pub arm-inside : {k : ℕ} → length t ≤ 8192 → k ≡ 8192 → SlotTerms (TermInside k) y
@@ -258,7 +256,7 @@ module _ {s : Sizes} (lim : Limits s) {t : List ℕ} {plan : Added} {wanted : Li
 
       pub arm-rule : {o : Added} {wanted′ : List Bool} {places′ : List ℕ} {at′ : Locations}
           → RulePlanned (b .kinds) (b .chains) y plan wanted places o wanted′ places′ at′
-          → Behind (codesFor b) places′ (r .codes) (set slots (32 * x .steps + x .tally .rules) (record { slot = y; at = at′ })) frames o wanted′
+          → Behind b places′ (r .codes) (set slots (32 * x .steps + x .tally .rules) (record { slot = y; at = at′ })) frames o wanted′
           (advanceOf x m (r .line)) (advance (q .state) (p .form))
       arm-rule h =
           rw (e, written .line-is)
@@ -270,10 +268,10 @@ module _ {s : Sizes} (lim : Limits s) {t : List ℕ} {plan : Added} {wanted : Li
     end-lines e = end-count s (q .reached) (q .stands) more m (subst (Clean s (q .state)) e (p .clean))
 
   -- one line further
-  pub again : {b : Arrays} {r : LineParts} (p : Passes s q b r) {slots′ : List Located} {frames′ : List Frame} {plan′ : Added} {wanted′ : List Bool}
+  pub again : {b : Codes} {r : LineParts} (p : Passes s q b r) {slots′ : List Located} {frames′ : List Frame} {plan′ : Added} {wanted′ : List Bool}
       {places′ : List ℕ} {x′ : S.State} {stop : ℕ} → x′ ≡ advanceOf x (plan .plan .count) (r .line) → stop ≡ at + length (lineBytes (drop at t))
       → CodeArrays (b .kinds) (b .numbers) (b .chains) places′
-      → Behind (codesFor b) places′ (r .codes) slots′ frames′ plan′ wanted′ (advanceOf x (plan .plan .count) (r .line)) (advance (q .state) (p .form))
+      → Behind b places′ (r .codes) slots′ frames′ plan′ wanted′ (advanceOf x (plan .plan .count) (r .line)) (advance (q .state) (p .form))
       → Read s t plan′ wanted′ b places′ slots′ frames′ x′ (r .codes) (stop + 1) (i + 1)
   again p ex es lent b = rw (ex, es) (record {
     state = advance (q .state) (p .form);
@@ -293,7 +291,7 @@ pub answer-refused : {k : Codes} {places : List ℕ} {o : Outcome Program} (n i 
 unfolding checkOutcome
 answer-refused {k} n i p h e = record { outcome-is = refuse-none n i (O.done (programOf k p)) h ∙ sym e; complete = λ z. absurd (h z) }
 
-module _ {s : Sizes} {t : List ℕ} {plan : Added} {wanted : List Bool} {a : Arrays} {places : List ℕ} {slots : List Located}
+module _ {s : Sizes} {t : List ℕ} {plan : Added} {wanted : List Bool} {a : Codes} {places : List ℕ} {slots : List Located}
     {frames : List Frame} {x : S.State} {n at i : ℕ} (q : Read s t plan wanted a places slots frames x n at i) where
   pub small : (x .steps ≤ 32) × (x .tally .rules ≤ 32)
   small = (omega (arith, q .reached .few, q .stands .steps-are), omega (arith, q .reached .rules .few, q .stands .tally-is .rules-are))
@@ -301,7 +299,7 @@ module _ {s : Sizes} {t : List ℕ} {plan : Added} {wanted : List Bool} {a : Arr
   program : C.Program
   program = record { slots = slots; frames = frames; steps = x .steps; lines = x .lines }
 
-  program-is : programOf (codesFor a) program ≡ q .state .steps
+  program-is : programOf a program ≡ q .state .steps
   unfolding programOf program
   program-is = q .behind .kept .steps-are
 
@@ -321,7 +319,7 @@ module _ {s : Sizes} {t : List ℕ} {plan : Added} {wanted : List Bool} {a : Arr
   }
 
   pub answer-read : length t ≤ 8192 → length t ≤ at
-      → Answers (codesFor a) places (readFrom s start 1 (lines t))
+      → Answers a places (readFrom s start 1 (lines t))
       (record { refusal = lastRefusal x; line = i; program = record { slots = slots; frames = frames; steps = x .steps; lines = x .lines } })
   unfolding checkOutcome program lines readFrom closedText unless
   answer-read o h =
@@ -333,7 +331,7 @@ module _ {s : Sizes} {t : List ℕ} {plan : Added} {wanted : List Bool} {a : Arr
         complete = λ z. record {
           slots-length = kept .slots-length;
           framed = rw program-is (kept .framed);
-          located = all-located (codesFor a) places n (codes-inside o) slots (take (x .steps) frames) (kept .terms) (kept .placed);
+          located = all-located a places n (codes-inside o) slots (take (x .steps) frames) (kept .terms) (kept .placed);
           steps-are = rw program-is (q .stands .steps-are);
           lines-are = rw program-is (q .stands .lines-are);
         };

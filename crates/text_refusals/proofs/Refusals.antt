@@ -24,7 +24,6 @@ use Rattle.program.specs.Stored.{targetIn, ruleIn}
 use Rattle.text_rules.specs.declared.line.Checks.{Checks}
 use Rattle.text_rules.specs.declared.line.LineRead.{LineRead}
 use Rattle.text_rules.specs.LineRead.{lineChecks, allPass, RuleRead, Reads, no-form, step-line, end-line, done-line, loop-line, rule-line}
-use Rattle.text_rules.specs.Text.{writtenRule}
 use Rattle.program.specs.declared.rule.Sort.the-variants.{Least, Total}
 use Rattle.program.specs.Program.{Rule, stepPlan}
 use Rattle.text_rules.specs.Check.{State, isOutside, isOpen, openRules, inPlace, hasRoom, oneSort, sortsAgree, planFits, lineRefusal}
@@ -55,7 +54,7 @@ not-not false = refl
 
 -- where a rule that is read writes
 read-target : {k : Codes} {c : W.Condition} {a : W.Action} {y : Slot} → RuleRead k c a y → targetIn (y .rule) ≡ targetOf a
-unfolding ruleIn writtenRule ruleOf
+unfolding ruleIn ruleOf
 read-target w = ap (λ (r : Rule). r .target) (w .rule-is)
 
 -- whether its field has taken the other sort, by where it writes

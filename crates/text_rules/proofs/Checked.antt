@@ -28,7 +28,6 @@ use Rattle.program.specs.declared.rule.Sort.{Sort}
 use Rattle.program.specs.declared.rule.Sort.the-variants.{Least, Total}
 use Rattle.program.specs.Program as P
 use Rattle.text_rules.specs.Check.{State, inPlace, hasRoom, sortsAgree, planFits, lineRefusal}
-use Rattle.text_rules.specs.Text.{writtenRule}
 use Rattle.program.specs.Passed.{isReferenceWord, takesReferences, isReferenceExpression, ExpressionPasses, TestPasses, RemotePasses, TargetPasses, RulePasses}
 use Rattle.laws.proofs.Lists.{each-front, each-back}
 
@@ -318,8 +317,8 @@ module _ (s : Sizes) (lim : Limits s) where
   target-field (W.remote k f c e) = refl
 
   -- a rule that passes, as the program has it
-  pub rule-passes : (st : State) (c : W.Condition) (a : W.Action) → Clean s st (rule c a) → RulePasses s (writtenRule c a)
-  unfolding named fieldNamed kinded kindsAgree termsPass expressions writtenRule ruleOf
+  pub rule-passes : (st : State) (c : W.Condition) (a : W.Action) → Clean s st (rule c a) → RulePasses s (ruleOf c a)
+  unfolding named fieldNamed kinded kindsAgree termsPass expressions ruleOf
   rule-passes st c a k =
       let es = conditionExpressions c ++ actionExpressions a in
       let n = and-both (names s (target a)) (everyExpression (everyTerm (termNamed s)) es) (k .is-named) in

@@ -13,10 +13,10 @@ use Rattle.laws.specs.Outcome as O
 use Rattle.register.specs.declared.Sizes.{Sizes}
 use Rattle.program.specs.Program.{Program}
 use Rattle.text_syntax.specs.Written.{Line, step, end, done, loop, rule}
-use Rattle.text_syntax.specs.Tree.{plainLine}
+use Rattle.text_syntax.specs.Tree.{plainLine, ruleOf}
 use Rattle.text_syntax.proofs.Trees.{rule-plain}
 use Rattle.text_rules.specs.Check.{State, isOutside, isOpen, lineRefusal}
-use Rattle.text_rules.specs.Text.{Piece, lines, pieceForm, writtenRule, advance, lineOutcome, closedText, readFrom, start, textProgram}
+use Rattle.text_rules.specs.Text.{Piece, lines, pieceForm, advance, lineOutcome, closedText, readFrom, start, textProgram}
 use Rattle.text_rules.proofs.Texts.{SpellsText, spelled-text}
 
 -- what is read once all these lines have passed
@@ -25,7 +25,7 @@ advanced st [] = st
 advanced st (l ∷ ls) = advanced (advance st l) ls
 
 advance-plain : (st : State) (l : Line) → advance st (plainLine l) ≡ advance st l
-unfolding advance plainLine writtenRule
+unfolding advance plainLine ruleOf
 advance-plain st step = refl
 advance-plain st end = refl
 advance-plain st done = refl

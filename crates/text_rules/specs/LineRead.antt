@@ -9,12 +9,12 @@ use Rattle.program.specs.declared.rule.Slot.{Slot}
 use Rattle.program.specs.Code.{Codes}
 use Rattle.program.specs.Stored.{ruleIn}
 use Rattle.program.specs.Terms.{SlotTerms, TermFormed}
+use Rattle.text_syntax.specs.Tree.{ruleOf}
 use Rattle.text_syntax.specs.Written.{Condition, Action, Line, step, end, done, loop, rule}
 use Rattle.text_syntax.specs.Parts.{named, kinded, short, numbersInRange, shallow, fewOperators}
 use Rattle.text_rules.specs.declared.line.Checks.{Checks}
 use Rattle.text_rules.specs.declared.line.LineRead.{LineRead}
 use Rattle.text_rules.specs.declared.line.LineRead.the-variants.{Step, End, Done, Loop, Rule, NoForm}
-use Rattle.text_rules.specs.Text.{writtenRule}
 
 -- what 9 to 12, 24 and 25 ask of a line
 unfoldable pub lineChecks : Sizes → Line → Checks
@@ -25,7 +25,7 @@ allPass c = c .named && (c .kinded && (c .short && (c .ranged && (c .shallow && 
 
 -- a rule in the array is the one that is written; k are the codes beside the rules
 pub record RuleRead (k : Codes) (c : Condition) (a : Action) (x : Slot) : Type 0 where
-  pub rule-is : ruleIn k x ≡ writtenRule c a
+  pub rule-is : ruleIn k x ≡ ruleOf c a
   pub formed : SlotTerms (TermFormed k) x
 
 -- what is read of a line, by its form; of a rule that does not pass, its checks alone

@@ -11,7 +11,7 @@ use Rattle.register.specs.Load.{load}
 use Rattle.register.specs.declared.Sizes.{Sizes}
 use Rattle.chain_text.specs.Text.{letterField}
 use Rattle.plan_theory.specs.Plan.{Fact, result}
-use Rattle.text_syntax.specs.Written.{Condition, Action, Line, step, end, done, loop, rule}
+use Rattle.text_syntax.specs.Written.{Line, step, end, done, loop, rule}
 use Rattle.text_syntax.specs.Lexing.{tokens}
 use Rattle.text_syntax.specs.Grammar.{lineForm}
 use Rattle.text_syntax.specs.Tree.{ruleOf}
@@ -45,10 +45,6 @@ lines (b ∷ t) = cond (eqb b 10) (ended [] ∷ lines t) (onto b (lines t))
 unfoldable pub pieceForm : Piece → Option Line
 pieceForm (ended t) = lineForm (tokens t)
 pieceForm (cut t) = none
-
--- a written rule as a rule of the program
-unfoldable pub writtenRule : Condition → Action → Rule
-writtenRule c a = ruleOf c a
 
 -- where the next step stands, whether or not it will be the last of its loop
 unfoldable pub settingIn : Around → Setting
@@ -85,7 +81,7 @@ advance st done = record { steps = closeLoop (st .steps); around = Outside; open
 advance st (rule c a) = record {
   steps = st .steps;
   around = st .around;
-  open-rules = some (openRules st ++ (writtenRule c a ∷ []));
+  open-rules = some (openRules st ++ (ruleOf c a ∷ []));
 }
 
 -- line k of the text: "lowest number first"

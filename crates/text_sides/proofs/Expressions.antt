@@ -10,23 +10,22 @@ use Rattle.laws.proofs.Bools.{and-both}
 use Rattle.register.specs.Shape.{Limits}
 use Rattle.register.specs.declared.Sizes.{Sizes}
 use Rattle.program.specs.declared.term.Term.{Term}
-use Rattle.program.specs.Code.{postfix}
+use Rattle.program.specs.Code.{postfix, Codes, codesOf, SameBelow}
 use Rattle.text_syntax.specs.Parts.{depth}
 use Rattle.text_syntax.specs.Tree.{treeOf}
 use Rattle.text_syntax.specs.Flat as F
 use Rattle.text_syntax.specs.Flat.{summary}
 use Rattle.text_rules.specs.LineRead.{allPass}
 use Rattle.text_expressions.specs.declared.summary.Summary.{Summary}
-use Rattle.text_expressions.specs.Codes.{Arrays, codesBetween}
 use Rattle.text_expressions.specs.Reading.{ExpressionFormed}
 use Rattle.text_expressions.proofs.Whole.{whole-postfix}
 use Rattle.text_sides.specs.Checks.{summaryChecks}
-use Rattle.text_sides.specs.Side.{InArrays, termHeld, codesLeft, KeptBefore, SideFormed}
+use Rattle.text_sides.specs.Side.{InArrays, termHeld, codesLeft, SideFormed}
 use Rattle.text_sides.proofs.Passing.{all-passed}
 use Rattle.text_sides.proofs.Sides.{left-least, left-most}
 use Rattle.text_sides.proofs.Held.{term-holds}
 
-module _ {s : Sizes} {line : List ℕ} {at : ℕ} {a b : Arrays} {count : ℕ} {g : Summary} {end to : ℕ} (w : ExpressionFormed s line at a b count g end to) where
+module _ {s : Sizes} {line : List ℕ} {at : ℕ} {a b : Codes} {count : ℕ} {g : Summary} {end to : ℕ} (w : ExpressionFormed s line at a b count g end to) where
   -- its codes stand in the arrays
   pub codes-inside : length (b .kinds) ≤ 65536 → (count < 65536) × (to < 65536) × InArrays b to
   codes-inside h =
@@ -41,13 +40,13 @@ module _ {s : Sizes} {line : List ℕ} {at : ℕ} {a b : Arrays} {count : ℕ} {
       )
 
   -- if it passes, they are those of its tree
-  pub passed-codes : Limits s → allPass (summaryChecks g) ≡ true → codesBetween b count to ≡ postfix (treeOf (w .written))
+  pub passed-codes : Limits s → allPass (summaryChecks g) ≡ true → codesOf b count to ≡ postfix (treeOf (w .written))
   passed-codes l h =
       let p = all-passed (summaryChecks g) h in
       whole-postfix l w (p .named) (and-both (g .kinded) (not (g .reference && g .measure)) (p .kinded) .0) (p .short) (p .ranged)
       (leb-true (g .depth) 8 (p .shallow))
 
-  pub passed-kept : allPass (summaryChecks g) ≡ true → KeptBefore a b count
+  pub passed-kept : allPass (summaryChecks g) ≡ true → SameBelow a b count
   unfolding summary
   passed-kept h =
       let d = leb-true (g .depth) 8 (all-passed (summaryChecks g) h .shallow) in

@@ -16,14 +16,14 @@ use Rattle.program.specs.declared.term.Term.{Term}
 use Rattle.program.specs.declared.term.Term.the-variants.{Chain, Number, Tree}
 use Rattle.program.specs.declared.rule.Operator.{Operator}
 use Rattle.program.specs.Program as P
-use Rattle.program.specs.Code.{Code, chain, number, operator, postfix, operatorOf, codeOf, codeAt, codesFrom, treeIn, decoded}
+use Rattle.program.specs.Code.{Code, chain, number, operator, postfix, operatorOf, codeOf, codeAt, codesFrom, treeIn, decoded, Codes, codesOf}
 use Rattle.program.specs.Stored.{termIn}
 use Rattle.program.specs.Terms.{TermFormed, TermFrom, TermInside}
 use Rattle.program.proofs.Codes.{decoded-postfix, postfix-formed, codes-none}
 use Rattle.text_syntax.specs.Written.{Expression}
 use Rattle.text_syntax.specs.Tree.{treeOf}
-use Rattle.text_expressions.specs.Codes.{Arrays, codeIn, codesBetween}
-use Rattle.text_sides.specs.Side.{codesFor, singleIn, termHeld, codesLeft, Holds}
+use Rattle.text_expressions.specs.Codes.{codeIn}
+use Rattle.text_sides.specs.Side.{singleIn, termHeld, codesLeft, Holds}
 
 -- an expression has codes
 postfix-some : (e : P.Expression) → 1 ≤ length (postfix e)
@@ -74,14 +74,14 @@ three-codes c d k (P.operation o x y) h = go (postfix x) (postfix y) refl refl h
     go (a ∷ v ∷ cs) (b ∷ ds) p q h =
         absurd (omega (arith, ap length h, length-append cs (b ∷ (ds ++ (operator o ∷ []))), length-append ds (operator o ∷ [])))
 
-module _ (b : Arrays) where
+module _ (b : Codes) where
   -- the term of one code, which is no tree
-  pub single-is : (at : ℕ) (e : P.Expression) → codeIn b at ∷ [] ≡ postfix e → termIn (codesFor b) (singleIn b at) ≡ e
+  pub single-is : (at : ℕ) (e : P.Expression) → codeIn b at ∷ [] ≡ postfix e → termIn b (singleIn b at) ≡ e
   unfolding codeAt codeOf singleIn termIn
   single-is at e h = go _ _ _ (eqb (getD (b .kinds) at 0) 0) (eqb (getD (b .kinds) at 0) 1) h
     where
       go : (w : ℕ) (z : ℤ) (o : Operator) (i j : Bool) → cond i (chain (unpack w)) (cond j (number z) (operator o)) ∷ [] ≡ postfix e
-          → termIn (codesFor b) (cond i (Chain w) (Number z)) ≡ e
+          → termIn b (cond i (Chain w) (Number z)) ≡ e
       go w z o true j h = one-code _ e h
       go w z o false true h = one-code _ e h
       go w z o false false h = absurd (one-code _ e h)
@@ -99,12 +99,12 @@ module _ (b : Arrays) where
       go w z k false true h = absurd (let z : _≡_ {A = ℕ} 0 1 = cc in omega arith)
       go w z k false false h = cc
 
-  module _ (from to : ℕ) (e : Expression) (l : from ≤ to) (h : codesBetween b from to ≡ postfix (treeOf e)) where
+  module _ (from to : ℕ) (e : Expression) (l : from ≤ to) (h : codesOf b from to ≡ postfix (treeOf e)) where
     single-holds : to ≡ from + 1 → Holds b from from e (singleIn b from)
     unfolding codesFrom
     single-holds q = record {
       term-is = single-is from (treeOf e) (let n : to - from ≡ 1 = omega arith in sym (ap (codesFrom (b .kinds) (b .numbers) (b .chains) from) n) ∙ h);
-      formed = single-plain (TermFormed (codesFor b)) (λ w. tt) (λ z. tt) from;
+      formed = single-plain (TermFormed b) (λ w. tt) (λ z. tt) from;
       behind = single-plain (TermFrom from) (λ w. tt) (λ z. tt) from;
       inside = single-plain (TermInside from) (λ w. tt) (λ z. tt) from;
     }

@@ -13,8 +13,7 @@ use Rattle.program.specs.declared.term.Term.the-variants.{Chain, Number, Tree}
 use Rattle.program.specs.declared.rule.Operator.{Operator}
 use Rattle.program.specs.declared.rule.Operator.the-variants.{Smaller}
 use Rattle.program.specs.declared.rule.Rule.the-variants.{Set, Combine}
-use Rattle.program.specs.Code.{operatorOf}
-use Rattle.text_expressions.specs.Codes.{Arrays}
+use Rattle.program.specs.Code.{operatorOf, Codes}
 use Rattle.text_sides.specs.Side.{singleIn, termHeld, ruleHeld, codesLeft}
 
 pub left-same : (from to size : ℕ) → to ≡ from + size → from ≡ codesLeft from to size
@@ -41,27 +40,27 @@ pub smaller-left : (k : ℕ) → k ≢ 2 → k ≢ 3 → Smaller ≡ operatorOf 
 unfolding operatorOf
 smaller-left k p m = rw (ne-eqb k 2 p, ne-eqb k 3 m)
 
-pub single-chain : (a : Arrays) (at : ℕ) → getD (a .kinds) at 0 ≡ 0 → Chain (getD (a .chains) at 0) ≡ singleIn a at
+pub single-chain : (a : Codes) (at : ℕ) → getD (a .kinds) at 0 ≡ 0 → Chain (getD (a .chains) at 0) ≡ singleIn a at
 unfolding singleIn
 single-chain a at e = rw (eq-eqb (getD (a .kinds) at 0) 0 e)
 
-pub single-number : (a : Arrays) (at : ℕ) → getD (a .kinds) at 0 ≢ 0 → Number (getD (a .numbers) at (pos 0)) ≡ singleIn a at
+pub single-number : (a : Codes) (at : ℕ) → getD (a .kinds) at 0 ≢ 0 → Number (getD (a .numbers) at (pos 0)) ≡ singleIn a at
 unfolding singleIn
 single-number a at e = rw (ne-eqb (getD (a .kinds) at 0) 0 e)
 
-pub held-single : (a : Arrays) (from to : ℕ) → to ≡ from + 1 → singleIn a from ≡ termHeld a from to
+pub held-single : (a : Codes) (from to : ℕ) → to ≡ from + 1 → singleIn a from ≡ termHeld a from to
 unfolding termHeld
 held-single a from to e = rw (eq-eqb to (from + 1) e)
 
-pub held-tree : (a : Arrays) (from to : ℕ) → to ≢ from + 1 → Tree from to ≡ termHeld a from to
+pub held-tree : (a : Codes) (from to : ℕ) → to ≢ from + 1 → Tree from to ≡ termHeld a from to
 unfolding termHeld
 held-tree a from to e = rw (ne-eqb to (from + 1) e)
 
-pub held-pair : (a : Arrays) (f from to : ℕ) {o : Operator} {x y : Term} → to ≡ from + 3 → x ≡ singleIn a from → y ≡ singleIn a (from + 1)
+pub held-pair : (a : Codes) (f from to : ℕ) {o : Operator} {x y : Term} → to ≡ from + 3 → x ≡ singleIn a from → y ≡ singleIn a (from + 1)
     → o ≡ operatorOf (getD (a .kinds) (from + 2) 0) → Combine f o x y ≡ ruleHeld a f from to
 unfolding ruleHeld
 held-pair a f from to e p q h = rw (eq-eqb to (from + 3) e, p, q, h)
 
-pub held-set : (a : Arrays) (f from to : ℕ) {x : Term} → to ≢ from + 3 → x ≡ termHeld a from to → Set f x ≡ ruleHeld a f from to
+pub held-set : (a : Codes) (f from to : ℕ) {x : Term} → to ≢ from + 3 → x ≡ termHeld a from to → Set f x ≡ ruleHeld a f from to
 unfolding ruleHeld
 held-set a f from to e p = rw (ne-eqb to (from + 3) e, p)

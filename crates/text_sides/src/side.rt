@@ -3,8 +3,8 @@ ghost use mathlib.Core.Path.{_≡_};
 ghost use Prim.Native.Nat.{_+_, _≤_, _<_};
 ghost use lib.ListN.{length, getD};
 ghost use Rattle.register.specs.Shape.{Limits};
-ghost use Rattle.program.specs.Code.{operatorOf};
-ghost use Rattle.text_expressions.specs.Codes.{arrays, Roomy};
+ghost use Rattle.program.specs.Code.{operatorOf, codesKept};
+ghost use Rattle.text_expressions.specs.Codes.{Roomy};
 ghost use Rattle.text_sides.specs.Side.{InArrays, singleIn, termHeld, ruleHeld, codesLeft, SideAt};
 use program::rule::Operator;
 use program::rule::Rule;
@@ -16,8 +16,8 @@ use text_expressions::summary::Summary;
 
 // The term whose one code stands at `at`.
 pub fn single(kinds: &[u8], numbers: &[i32], chains: &[u64], at: usize) -> Term
-    requires { ⌜ InArrays (arrays (now kinds) (now numbers) (now chains)) (at + 1) ⌝ }
-    ensures { λ r. ⌜ r ≡ singleIn (arrays (now (kinds .entry)) (now (numbers .entry)) (now (chains .entry))) at ⌝ }
+    requires { ⌜ InArrays (codesKept (now kinds) (now numbers) (now chains)) (at + 1) ⌝ }
+    ensures { λ r. ⌜ r ≡ singleIn (codesKept (now (kinds .entry)) (now (numbers .entry)) (now (chains .entry))) at ⌝ }
 {
     if kinds[at] == 0 {
         return Term::Chain(chains[at]);
@@ -27,8 +27,8 @@ pub fn single(kinds: &[u8], numbers: &[i32], chains: &[u64], at: usize) -> Term
 
 // The term whose codes stand from..to.
 pub fn term_in(kinds: &[u8], numbers: &[i32], chains: &[u64], from: usize, to: usize) -> Term
-    requires { ⌜ (from < 65536) × (to < 65536) × InArrays (arrays (now kinds) (now numbers) (now chains)) to ⌝ }
-    ensures { λ r. ⌜ r ≡ termHeld (arrays (now (kinds .entry)) (now (numbers .entry)) (now (chains .entry))) from to ⌝ }
+    requires { ⌜ (from < 65536) × (to < 65536) × InArrays (codesKept (now kinds) (now numbers) (now chains)) to ⌝ }
+    ensures { λ r. ⌜ r ≡ termHeld (codesKept (now (kinds .entry)) (now (numbers .entry)) (now (chains .entry))) from to ⌝ }
 {
     if to == from + 1 {
         return single(kinds, numbers, chains, from);
@@ -60,8 +60,8 @@ pub fn set_in(
     from: usize,
     to: usize,
 ) -> Rule
-    requires { ⌜ (from < 65536) × (to < 65536) × InArrays (arrays (now kinds) (now numbers) (now chains)) to ⌝ }
-    ensures { λ r. ⌜ r ≡ ruleHeld (arrays (now (kinds .entry)) (now (numbers .entry)) (now (chains .entry))) field from to ⌝ }
+    requires { ⌜ (from < 65536) × (to < 65536) × InArrays (codesKept (now kinds) (now numbers) (now chains)) to ⌝ }
+    ensures { λ r. ⌜ r ≡ ruleHeld (codesKept (now (kinds .entry)) (now (numbers .entry)) (now (chains .entry))) field from to ⌝ }
 {
     if to == from + 3 {
         let x = single(kinds, numbers, chains, from);
@@ -103,12 +103,12 @@ pub fn read(
     chains: &mut [u64],
     count: usize,
 ) -> SideRead
-    requires { ⌜ Limits sizes × (at ≤ length (now line)) × Roomy (arrays (now kinds) (now numbers) (now chains)) (now line) at count
+    requires { ⌜ Limits sizes × (at ≤ length (now line)) × Roomy (codesKept (now kinds) (now numbers) (now chains)) (now line) at count
         × (length (now kinds) ≤ 65536) ⌝ }
     ensures { λ r.
         ⌜ SideAt sizes (now (line .entry)) at
-        (arrays (now (kinds .entry)) (now (numbers .entry)) (now (chains .entry)))
-        (arrays (now (kinds .exit)) (now (numbers .exit)) (now (chains .exit))) count r ⌝ }
+        (codesKept (now (kinds .entry)) (now (numbers .entry)) (now (chains .entry)))
+        (codesKept (now (kinds .exit)) (now (numbers .exit)) (now (chains .exit))) count r ⌝ }
 {
     let ExpressionRead::Parts(seen, end, to) = expression::read(
         line,

@@ -13,6 +13,7 @@ use lib.Seq.{getD-set-same, getD-set-other}
 use Rattle.register.specs.Shape.{Limits}
 use Rattle.register.specs.declared.Sizes.{Sizes}
 use Rattle.chain.proofs.Fields.{field-below}
+use Rattle.text_syntax.specs.Tree.{ruleOf}
 use Rattle.text_syntax.specs.Written.{Line, end}
 use Rattle.text_syntax.specs.Parts.{named, fieldNamed}
 use Rattle.text_rules.proofs.Passing.{close-length}
@@ -26,7 +27,7 @@ use Rattle.program.specs.Program as P
 use Rattle.program.specs.Program.{Target, Rule, Step, stepPlan, writes, isRemote, hasRemote, mostLines, isLeast, isTotal, someTarget}
 use Rattle.text_rules.specs.Check.{isOpen, openRules}
 use Rattle.text_rules.specs.Check as K
-use Rattle.text_rules.specs.Text.{writtenRule, closeLoop, withStep, advance, start}
+use Rattle.text_rules.specs.Text.{closeLoop, withStep, advance, start}
 use Rattle.text_rules.specs.LineRead.{lineChecks, allPass, Reads, step-line, end-line, done-line, loop-line, rule-line}
 use Rattle.text_rules.specs.declared.line.LineRead.{LineRead}
 use Rattle.text_rules.proofs.Checked.{Clean, rule-passes}
@@ -187,7 +188,7 @@ module _ (s : Sizes) (lim : Limits s) {x : State} {st : K.State} (h : Stands x s
   }
   advance-stands (loop-line f) k e = record { steps-are = h .steps-are; lines-are = h .lines-are; around-is = refl; in-step = refl; tally-is = counts-none }
   advance-stands {codes} (rule-line c a y w) k e =
-      let r : Rule = writtenRule c a in
+      let r : Rule = ruleOf c a in
       let passed = rule-passes s lim st c a k in
       record {
         steps-are = h .steps-are;

@@ -9,9 +9,8 @@ use lib.ListN.{length}
 use Rattle.register.specs.Shape.{Limits}
 use Rattle.register.specs.declared.Sizes.{Sizes}
 use Rattle.laws.specs.Outcome.{refused}
+use Rattle.program.specs.Code.{Codes, codesKept}
 use Rattle.text_rules.specs.Text.{advance}
-use Rattle.text_expressions.specs.Codes.{Arrays, arrays}
-use Rattle.text_sides.specs.Side.{codesFor}
 use Rattle.text_plan.specs.Readings.{addedOf}
 use Rattle.text_state.specs.State.{advanceOf}
 use Rattle.text_reader.specs.Answers.{CodeArrays}
@@ -24,7 +23,7 @@ use Rattle.text_reader.proofs.read_program.Tie as tie
 
 abbrev Inv-loop : tie.InvT-loop
 Inv-loop text sizes keys₀ rounds₀ backs₀ reads₀ count₀ full₀ wanted₀ kinds₀ numbers₀ chains₀ places₀ refusal₀ line₀ slots₀ frames₀ state₀ codes₀ at₀ keys rounds backs reads count full wanted kinds numbers chains places refusal line slots frames state codes at =
-    Read sizes text (addedOf keys rounds backs reads count full) wanted (arrays kinds numbers chains) places slots frames state codes at line × (refusal ≡ 0)
+    Read sizes text (addedOf keys rounds backs reads count full) wanted (codesKept kinds numbers chains) places slots frames state codes at line × (refusal ≡ 0)
 
 abbrev μ-loop : tie.MeasureT-loop
 μ-loop text sizes keys₀ rounds₀ backs₀ reads₀ count₀ full₀ wanted₀ kinds₀ numbers₀ chains₀ places₀ refusal₀ line₀ slots₀ frames₀ state₀ codes₀ at₀ keys rounds backs reads count full wanted kinds numbers chains places refusal line slots frames state codes at =
@@ -50,8 +49,8 @@ limits : (c : tie.Else1 Inv-loop μ-loop) → Limits (sizes c)
 limits c = entry c .pre .0
 
 -- the arrays behind it
-abbrev behind : (c : tie.After-read-first Inv-loop μ-loop) → Arrays
-behind c = let l = c .read-first .last in arrays (l .1 .1 .1 .1 .0) (l .1 .1 .1 .1 .1 .0) (l .1 .1 .1 .1 .1 .1 .0)
+abbrev behind : (c : tie.After-read-first Inv-loop μ-loop) → Codes
+behind c = let l = c .read-first .last in codesKept (l .1 .1 .1 .1 .0) (l .1 .1 .1 .1 .1 .0) (l .1 .1 .1 .1 .1 .1 .0)
 
 passed : (c : tie.Else1 Inv-loop μ-loop) → Passes (sizes c) (so-far c .loop .inv .0) (behind (read-at c)) (read-at c .read-first .result)
 passed c =
@@ -88,7 +87,7 @@ joined : (c : tie.At-match-came Inv-loop μ-loop)
     → let d = c .before .before in
     let m = c .match in
     let r = read-at d .read-first .result in
-    Behind (codesFor (behind (read-at d))) (m .places) (r .codes) (m .slots) (m .frames)
+    Behind (behind (read-at d)) (m .places) (r .codes) (m .slots) (m .frames)
     (addedOf (m .keys) (m .rounds) (m .backs) (m .reads) (m .count) (m .full)) (m .wanted)
     (advanceOf (so-far d .loop .state) (so-far d .loop .count) (r .line)) (advance (so-far d .loop .inv .0 .state) (passed d .form))
 joined c =

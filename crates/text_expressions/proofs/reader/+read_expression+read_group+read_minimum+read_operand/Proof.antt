@@ -10,11 +10,11 @@ use borrow.Fn.Kinds.{In}
 use borrow.Fn.PlainCycle.{Measures, is, falls, and}
 use lib.ListN.{length}
 use denote.Ref.{now}
+use Rattle.program.specs.Code.{Codes, codesKept}
 use Rattle.text_syntax.specs.Token.{openRound}
 use Rattle.text_syntax.specs.Grammar.{expression, minimum, operand, minimumFrom, expressionFrom}
 use Rattle.text_terms.specs.Place.{Passing, Passes}
 use Rattle.text_terms.specs.Term.{TermAt}
-use Rattle.text_expressions.specs.Codes.{Arrays, arrays}
 use Rattle.text_expressions.specs.declared.join.Joining.the-variants.{Next}
 use Rattle.text_expressions.proofs.Joining.{sum-joins, smaller-joins, Joined, joined-start, joined-room, joined-ready, JoinedTo, joined-by, term-operand, group-none, group-full, group-closed, reading-inside}
 use Rattle.text_expressions.proofs.reader.read_expression.Reads as read-expression
@@ -116,8 +116,8 @@ group-calls t = (
 
 abbrev expression-joined : read-expression-lts.InvT-loop
 expression-joined line at sizes room kinds₀ numbers₀ chains₀ count next₀ kinds numbers chains next =
-    Joined minimum expressionFrom expression sizes room (next₀ .seen) line at (arrays kinds₀ numbers₀ chains₀) count next
-    (arrays kinds numbers chains)
+    Joined minimum expressionFrom expression sizes room (next₀ .seen) line at (codesKept kinds₀ numbers₀ chains₀) count next
+    (codesKept kinds numbers chains)
 
 abbrev expression-left : read-expression-lts.MeasureT-loop
 expression-left line at sizes room kinds₀ numbers₀ chains₀ count next₀ kinds numbers chains next = length line - next .at
@@ -149,8 +149,8 @@ module _ (t : ℕ) where
 
   abbrev expression-arrays :
       (c : read-expression-lts.After-read-minimum (expression-calls t) (read-expression-at t) read-expression.Post expression-joined expression-left)
-      → Arrays
-  expression-arrays c = let p = c .read-minimum .last .1 .1 .1 .1 .1 in arrays (p .0) (p .1 .0) (p .1 .1 .0)
+      → Codes
+  expression-arrays c = let p = c .read-minimum .last .1 .1 .1 .1 .1 in codesKept (p .0) (p .1 .0) (p .1 .1 .0)
 
   expression-joined-requires : read-expression-lts.Need-joined-requires (expression-calls t) (read-expression-at t) read-expression.Post
       expression-joined expression-left
@@ -230,7 +230,7 @@ module _ (t : ℕ) where
 
 abbrev minimum-joined : read-minimum-lts.InvT-loop
 minimum-joined line at sizes room kinds₀ numbers₀ chains₀ count next₀ kinds numbers chains next =
-    Joined operand minimumFrom minimum sizes room (next₀ .seen) line at (arrays kinds₀ numbers₀ chains₀) count next (arrays kinds numbers chains)
+    Joined operand minimumFrom minimum sizes room (next₀ .seen) line at (codesKept kinds₀ numbers₀ chains₀) count next (codesKept kinds numbers chains)
 
 abbrev minimum-left : read-minimum-lts.MeasureT-loop
 minimum-left line at sizes room kinds₀ numbers₀ chains₀ count next₀ kinds numbers chains next = length line - next .at
@@ -259,8 +259,8 @@ module _ (t : ℕ) where
   minimum-element c = c .before .before .before .before .before .before .before
 
   abbrev minimum-arrays :
-      (c : read-minimum-lts.After-read-operand (minimum-calls t) (read-minimum-at t) read-minimum.Post minimum-joined minimum-left) → Arrays
-  minimum-arrays c = let p = c .read-operand .last .1 .1 .1 .1 .1 in arrays (p .0) (p .1 .0) (p .1 .1 .0)
+      (c : read-minimum-lts.After-read-operand (minimum-calls t) (read-minimum-at t) read-minimum.Post minimum-joined minimum-left) → Codes
+  minimum-arrays c = let p = c .read-operand .last .1 .1 .1 .1 .1 in codesKept (p .0) (p .1 .0) (p .1 .1 .0)
 
   minimum-joined-requires : read-minimum-lts.Need-joined-requires (minimum-calls t) (read-minimum-at t) read-minimum.Post minimum-joined minimum-left
   minimum-joined-requires c κs =
@@ -450,12 +450,12 @@ module _ (t : ℕ) where
       (group-calls t) (read-group-at t) read-group.Post
   group-inner c = c .before .before .before .before .before
 
-  abbrev group-old : (c : read-group-lts.After-read-expression (group-calls t) (read-group-at t) read-group.Post) → Arrays
-  group-old c = let a = c .before .before .before .before .before .before .before .before .before .before .before .before .args in arrays
+  abbrev group-old : (c : read-group-lts.After-read-expression (group-calls t) (read-group-at t) read-group.Post) → Codes
+  group-old c = let a = c .before .before .before .before .before .before .before .before .before .before .before .before .args in codesKept
       (now (a .kinds)) (now (a .numbers)) (now (a .chains))
 
-  abbrev group-new : (c : read-group-lts.After-read-expression (group-calls t) (read-group-at t) read-group.Post) → Arrays
-  group-new c = let p = c .read-expression .last .1 .1 .1 .1 .1 in arrays (p .0) (p .1 .0) (p .1 .1 .0)
+  abbrev group-new : (c : read-group-lts.After-read-expression (group-calls t) (read-group-at t) read-group.Post) → Codes
+  group-new c = let p = c .read-expression .last .1 .1 .1 .1 .1 in codesKept (p .0) (p .1 .0) (p .1 .1 .0)
 
   group-close-group-requires : read-group-lts.Need-close-group-requires (group-calls t) (read-group-at t) read-group.Post
   group-close-group-requires c κs =
