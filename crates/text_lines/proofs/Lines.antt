@@ -172,7 +172,7 @@ module _ (s : Sizes) (line : List ℕ) (at : ℕ) (x : FirstSide) (a b : Codes) 
       record {
         test-is = ap₂ (λ (u v : P.Expression). P.when u (x .comparison) v) (sym (term-same a m j (x .term) (p .inside)) ∙ p .term-is) (q .term-is);
         formed = (formed-same a m j (x .term) (p .inside) (p .formed), q .formed);
-        behind = (p .behind, term-behind l y (q .behind));
+        behind = (p .behind, from-less l y (q .behind));
         inside = (inside-more (d .more-codes) (x .term) (p .inside), q .inside);
       },
       kept-on a m j o l k,
