@@ -1,11 +1,16 @@
 -- One turn of the run's loop: what the step at hand asks for, until its readings are gathered.
 use Prim.Native.Nat.{ℕ, zero, suc, _+_, _*_, _≤_, _<_}
 use mathlib.Core.Path.{_≡_, refl, sym, ap, subst, _∙_}
+use mathlib.Core.Bool.{Bool, true, _&&_}
 use mathlib.Core.List.{List, [], _∷_, map}
 use native.Mathlib.Omega.{arith}
 use native.Mathlib.Nat.{mul-le-mul-right}
 use lib.IntN.{ℤ}
 use lib.ListN.{length, getD, take, set, length-set}
+use lib.Seq.{getD-set-same, take-suc-set}
+use Rattle.laws.proofs.Bools.{and-both}
+use Rattle.laws.proofs.Lists.{each-append}
+use Rattle.step_expressions.specs.Plain.{plainSlot}
 use Rattle.register.specs.File.{cellCount, cellsOfFile}
 use Rattle.register.specs.Shape.{Limits}
 use Rattle.register.specs.declared.Sizes.{Sizes}
@@ -28,7 +33,7 @@ use Rattle.scratch.proofs.Placed.{kept-again}
 use Rattle.gather_follow.specs.Filled.{Filled}
 use Rattle.step_cells.specs.Work.{Room, HoldsCells, Same, Small}
 use Rattle.step_cells.proofs.Working.{room-same, small-held}
-use Rattle.step_rules.specs.Ready.{RuleReady, AllReady, LocalDone, LocalAnswer}
+use Rattle.step_rules.specs.Ready.{RuleReady, AllReady, AllPlain, LocalDone, LocalAnswer}
 use Rattle.step_rules.proofs.Locals.{ready-at}
 use Rattle.step_cells.specs.declared.stop.Stop.{Stop}
 use Rattle.run_loop.specs.Column.{Space, Entered}
@@ -47,22 +52,40 @@ lines-most [] i d h = absurd (omega arith)
 lines-most (x ∷ xs) zero d h = omega arith
 lines-most (x ∷ xs) (suc i) d h = omega (arith, lines-most xs i d (omega arith))
 
--- the frame and the rules that are held are those of a step
-pub record Held (slots : List Located) (frames : List Frame) (step : ℕ) (f : Frame) (rules : List Located) : Type 0 where
+-- the frame and the rules that are held are those of a step, and a flag tells whether these are plain
+pub record Held (slots : List Located) (frames : List Frame) (step : ℕ) (f : Frame) (rules : List Located) (plain : Bool) : Type 0 where
   pub frame-is : f ≡ getD frames step noFrame
   pub rules-are : Taken slots step (f .rules) rules (f .rules)
+  pub plain-are : AllPlain plain (take (f .rules) rules)
 
-module _ {slots : List Located} {frames : List Frame} {step : ℕ} {f g : Frame} {rules rules′ : List Located} where
+module _ {slots : List Located} {frames : List Frame} {step : ℕ} {f g : Frame} {rules rules′ : List Located} {plain plain′ : Bool} where
   -- they are taken anew
-  pub held-anew : {k : ℕ} → g ≡ getD frames step noFrame → Taken slots step (g .rules) rules k → g .rules ≤ k → rules′ ≡ rules → f ≡ g
-      → Held slots frames step f rules′
-  held-anew {k} e h l p q =
+  pub held-anew : {k : ℕ} → g ≡ getD frames step noFrame → Taken slots step (g .rules) rules k × AllPlain plain (take k rules) → g .rules ≤ k
+      → rules′ ≡ rules → f ≡ g → plain′ ≡ plain → Held slots frames step f rules′ plain′
+  held-anew {k} e (h, a) l p q r =
       let all : k ≡ g .rules = omega (arith, h .k≤) in
-      rw (p, q) (record { frame-is = e; rules-are = subst (Taken slots step (g .rules) rules) all h })
+      rw (p, q, r) (record {
+        frame-is = e;
+        rules-are = subst (Taken slots step (g .rules) rules) all h;
+        plain-are = subst (λ (i : ℕ). AllPlain plain (take i rules)) all a;
+      })
 
   -- they are those of the step before, which is the same step
-  pub held-still : {taken : ℕ} → Held slots frames taken g rules → taken ≡ step → rules′ ≡ rules → f ≡ g → Held slots frames step f rules′
-  held-still h e p q = rw (← e, p, q) h
+  pub held-still : {taken : ℕ} → Held slots frames taken g rules plain → taken ≡ step → rules′ ≡ rules → f ≡ g → plain′ ≡ plain
+      → Held slots frames step f rules′ plain′
+  held-still h e p q r = rw (← e, p, q, r) h
+
+abbrev IsPlain : Located → Type 0
+IsPlain x = plainSlot (x .slot) ≡ true
+
+-- one plain rule more
+pub plain-more : {plain plain′ : Bool} (rules : List Located) (k : ℕ) (x y : Located) → k < length rules → plain′ ≡ plain && plainSlot (getD (set rules k x) k y .slot)
+    → AllPlain plain (take k rules) → AllPlain plain′ (take (k + 1) (set rules k x))
+plain-more {plain} rules k x y h q a e =
+    let next : k + 1 ≡ suc k = omega arith in
+    let same = getD-set-same rules k x y h in
+    let (before, here) = and-both plain (plainSlot (getD (set rules k x) k y .slot)) (sym q ∙ e) in
+    rw (next, take-suc-set rules k x h) (each-append IsPlain (take k rules) (x ∷ []) (a before) (subst IsPlain same here, tt))
 
 -- The loop's turn for step `step` of the program p: the run stands before it, and the budget allows it.
 pub record Turn (m : Machine) (s : Sizes) (codes : Codes) (chained : List ℕ) (p : R.Program) (budget : ℕ) (file : List ℕ) (step first finished : ℕ) (counts : Counts)

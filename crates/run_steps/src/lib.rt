@@ -18,6 +18,7 @@ use run_loop;
 use step_cells;
 use step_cells::stop::Stop;
 use step_commit;
+use step_expressions::plain::stay_plain;
 use step_rules::local;
 use step_rules::remote;
 
@@ -60,7 +61,7 @@ fn out_of_range(finished: u16, counts: Counts, row: usize, column: usize) -> Run
 }
 
 // The steps, over working cells that hold the register's. The function holds the program's arrays and takes a step's frame and
-// rules out without a call, once for a step that is done again and again.
+// rules out without a call, once for a step that is done again and again; it sees then whether they are all plain.
 fn run_steps(
     out: &mut [u8],
     values: &mut [i64],
@@ -87,6 +88,7 @@ fn run_steps(
     let base = at + sizes.records;
     let mut rules = [slots[0]; 32];
     let mut frame = frames[0];
+    let mut plain = true;
     let mut taken = steps;
     let mut step = 0;
     let mut first = steps;
@@ -98,8 +100,10 @@ fn run_steps(
         }
         if taken != step {
             frame = frames[step];
+            plain = true;
             for k in 0..frame.rules {
                 rules[k] = slots[32 * step + k];
+                plain = stay_plain(plain, rules[k]);
             }
             taken = step;
         }
@@ -122,19 +126,23 @@ fn run_steps(
         let mut stop = Stop::Nowhere;
         'records: for u in 0..sizes.records {
             for k in 0..used {
-                stop = local::apply_rule(
-                    out,
-                    values,
-                    marks,
-                    sizes,
-                    base,
-                    u,
-                    kinds,
-                    numbers,
-                    chains,
-                    places,
-                    rules[k],
-                );
+                if plain {
+                    stop = local::apply_plain(out, values, marks, sizes, base, u, rules[k]);
+                } else {
+                    stop = local::apply_rule(
+                        out,
+                        values,
+                        marks,
+                        sizes,
+                        base,
+                        u,
+                        kinds,
+                        numbers,
+                        chains,
+                        places,
+                        rules[k],
+                    );
+                }
                 if let Stop::At(_, _) = stop {
                     break 'records;
                 }
@@ -157,6 +165,7 @@ fn run_steps(
                 places,
                 rules,
                 used,
+                plain,
             );
         }
         let fields = frame.fields;

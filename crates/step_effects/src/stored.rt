@@ -9,16 +9,16 @@ ghost use Rattle.program.specs.Program.{operation as operationOn, targetField};
 ghost use Rattle.program.specs.Stored.{ruleIn, targetIn, expressionIn, termIn};
 ghost use Rattle.step_terms.specs.Found.{readsOf, RuleFound, RuleReads};
 ghost use Rattle.step_expressions.specs.Evaluated.{evaluated};
-ghost use Rattle.step_effects.specs.Answers.{isPlain, plainTest, plainAmount, doneBy, writeOf};
+ghost use Rattle.step_effects.specs.Answers.{plainAmount, doneBy, writeOf};
 use program::location::Located;
 use program::location::Places;
 use program::rule::Operator;
 use program::rule::Rule;
-use program::rule::Test;
 use program::term::Term;
 use register::Sizes;
 use step_expressions::operation;
 use step_expressions::operation::Evaluated;
+use step_expressions::plain;
 use step_expressions::term;
 use step_expressions::term::Tested;
 
@@ -29,28 +29,6 @@ pub enum Write {
     OutOfRange(u64),
 }
 
-fn is_plain(term: Term) -> bool
-    ensures { λ r. ⌜ r ≡ isPlain term ⌝ }
-{
-    match term {
-        Term::Chain(_) => true,
-        Term::Number(_) => true,
-        Term::Tree(_, _) => false,
-    }
-}
-
-fn is_plain_test(test: Test) -> bool
-    ensures { λ r. ⌜ r ≡ plainTest test ⌝ }
-{
-    let Test::When(x, _, y) = test else {
-        return true;
-    };
-    if !is_plain(x) {
-        return false;
-    }
-    is_plain(y)
-}
-
 // Whether a rule is a remote one with an amount of one term.
 fn is_plain_amount(rule: Rule) -> bool
     ensures { λ r. ⌜ r ≡ plainAmount rule ⌝ }
@@ -58,7 +36,7 @@ fn is_plain_amount(rule: Rule) -> bool
     match rule {
         Rule::Set(_, _) => false,
         Rule::Combine(_, _, _, _) => false,
-        Rule::Remote(_, _, _, x) => is_plain(x),
+        Rule::Remote(_, _, _, x) => plain::is_plain(x),
     }
 }
 
@@ -237,7 +215,7 @@ pub fn local_write(
     let slot = located.slot;
     let rule = slot.rule;
     let test = slot.test;
-    if is_plain_amount(rule) && is_plain_test(test) {
+    if is_plain_amount(rule) && plain::is_plain_test(test) {
         return Write::Nothing;
     }
     match term::test_at(

@@ -4,3 +4,4 @@ pub mod Operating
 pub mod Testing
 pub mod Joining
 pub mod Reading
+pub mod Plainly

@@ -2,3 +2,4 @@
 pub mod Evaluated
 pub mod Tests
 pub mod Codes
+pub mod Plain

@@ -2,4 +2,5 @@
 // them is told one answer: unfilled, a value, or that a sum leaves the range.
 pub mod evaluate;
 pub mod operation;
+pub mod plain;
 pub mod term;

@@ -74,7 +74,7 @@ pub fn term_value(
     }
 }
 
-fn compare(comparison: Comparison, a: i32, b: i32) -> bool
+pub fn compare(comparison: Comparison, a: i32, b: i32) -> bool
     ensures { λ r. ⌜ r ≡ compareOf comparison a b ⌝ }
 {
     match comparison {

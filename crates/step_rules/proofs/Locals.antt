@@ -1,7 +1,7 @@
 -- The local rules of a step, record by record and rule by rule: what the working cells hold so far.
 use Prim.Native.Nat.{ℕ, zero, suc, _+_, _<_}
 use mathlib.Core.Path.{_≡_, refl, sym, ap, ap₂, subst, _∙_}
-use mathlib.Core.Bool.{true, false}
+use mathlib.Core.Bool.{Bool, true, false}
 use mathlib.Core.List.{List, [], _∷_, _++_, map, map-append}
 use mathlib.Core.Option.{none, some}
 use native.Mathlib.Omega.{arith}
@@ -32,9 +32,12 @@ use Rattle.machine.specs.Step.{sumOffence}
 use Rattle.machine.proofs.Stops.{sum-at}
 use Rattle.step_terms.specs.Found.{followed}
 use Rattle.step_effects.specs.Answers.{writeOf}
+use Rattle.step_expressions.specs.Plain.{plainSlot}
+use Rattle.step_expressions.proofs.Plainly.{plain-reads}
+use Rattle.step_effects.specs.declared.stored.Write.{Write}
 use Rattle.step_effects.specs.declared.stored.Write.the-variants.{Nothing, Store, OutOfRange}
 use Rattle.step_cells.specs.Work.{Room, HoldsCells, Same, Put, Small}
-use Rattle.step_rules.specs.Ready.{RuleReady, AllReady, LocalRule, RuleStops, LocalDone}
+use Rattle.step_rules.specs.Ready.{RuleReady, PlainReady, AllReady, AllPlain, WritesField, LocalRule, RuleStops, LocalDone}
 use Rattle.step_cells.specs.declared.stop.Stop.the-variants.{Nowhere, At}
 use Rattle.step_cells.proofs.Working.{same-refl, same-then, same-put, holds-put, small-put}
 use Rattle.step_rules.proofs.Writing.{told}
@@ -52,11 +55,16 @@ module _ (s : Sizes) (cells : List Cell) (u : ℕ) (r : Rule) where
 
   -- the field that it stores to, or whose sum it forms
   module _ (field : hasField s (targetField (r .target)) ≡ true) where
-    pub stores-field : {f : ℕ} {z : ℤ} → writeOf read r ≡ Store f z → hasField s f ≡ true
+    stores-field : {f : ℕ} {z : ℤ} → writeOf read r ≡ Store f z → hasField s f ≡ true
     stores-field e = ap (hasField s) (told read r e .field-is) ∙ field
 
-    pub offends-field : {f : ℕ} → writeOf read r ≡ OutOfRange f → hasField s f ≡ true
+    offends-field : {f : ℕ} → writeOf read r ≡ OutOfRange f → hasField s f ≡ true
     offends-field e = ap (hasField s) (told read r e .field-is) ∙ field
+
+    pub writes-field : (w : Write) → writeOf read r ≡ w → WritesField s w
+    writes-field Nothing e = tt
+    writes-field (Store f z) e = stores-field e
+    writes-field (OutOfRange f) e = offends-field e
 
   -- and what it leaves
   module _ (base : ℕ) (values : List ℤ) (marks : List ℕ) where
@@ -91,6 +99,12 @@ module _ (s : Sizes) (cells : List Cell) (u : ℕ) (r : Rule) where
 abbrev pub ruleAt : Codes → Located → Rule
 ruleAt codes x = ruleIn codes (x .slot)
 
+-- a ready rule that is plain
+pub plain-ready : {s : Sizes} {cells : List Cell} {values : List ℤ} {marks : List ℕ} {codes : Codes} {chained : List ℕ} {x : Located}
+    → plainSlot (x .slot) ≡ true → RuleReady s cells values marks codes chained x → PlainReady s cells values marks x
+plain-ready {s} {cells} {values} {marks} {codes} {chained} {x} h r =
+    record { found = λ u l. plain-reads s cells values marks u codes chained x h (r .found u l); field = r .field; targets = r .targets }
+
 -- rule k of the places
 module _ (codes : Codes) (places : List Located) (k : ℕ) (x : Located) (h : k < length places) where
   -- is the one behind the first k
@@ -114,6 +128,12 @@ module _ (codes : Codes) (places : List Located) (k : ℕ) (x : Located) (h : k 
   ready-at {s} {cells} {values} {marks} {chained} {n} l r =
       subst (RuleReady s cells values marks codes chained) (getD-take n places k x l)
       (each-at (RuleReady s cells values marks codes chained) (take n places) k x (omega (arith, length-take n places)) r)
+
+  -- and is plain where they all are
+  pub plain-at : {plain : Bool} {n : ℕ} → k < n → AllPlain plain (take n places) → plain ≡ true → plainSlot (getD places k x .slot) ≡ true
+  plain-at {n = n} l a e =
+      subst (λ (y : Located). plainSlot (y .slot) ≡ true) (getD-take n places k x l)
+      (each-at (λ y. plainSlot (y .slot) ≡ true) (take n places) k x (omega (arith, length-take n places)) (a e))
 
   -- and no sum of it leaves the range where none of theirs does
   pub in-range-at : (s : Sizes) (read : List ℕ → Reading) {n : ℕ} → k < n → sumColumn s read (rulesIn codes n places) ≡ none

@@ -10,7 +10,7 @@ ghost use Rattle.program.specs.Code.{codesKept};
 ghost use Rattle.program.specs.Stored.{ruleIn};
 ghost use Rattle.register.specs.declared.cells.Cell.the-variants.{WorkedOut};
 ghost use Rattle.step_cells.specs.Work.{Room, Put};
-ghost use Rattle.step_rules.specs.Ready.{RuleReady, LocalRule};
+ghost use Rattle.step_rules.specs.Ready.{RuleReady, PlainReady, LocalRule, WritesField, Performed, PlainLocal};
 use chain::follow;
 use program::location::Located;
 use register::Sizes;
@@ -18,6 +18,7 @@ use register::cells;
 use scratch;
 use step_cells;
 use step_cells::stop::Stop;
+use step_effects::plain;
 use step_effects::stored;
 use step_effects::stored::Write;
 
@@ -36,6 +37,28 @@ fn store(
 {
     let place = step_cells::place(sizes, base, u, field);
     scratch::put(values, marks, place, integers::widen(value), 2);
+}
+
+// What a rule asks for in record u: a value is stored, or the step stops where a sum leaves the range.
+fn perform(
+    values: &mut [i64],
+    marks: &mut [u8],
+    sizes: Sizes,
+    base: usize,
+    u: usize,
+    write: Write,
+) -> Stop
+    requires { ⌜ Limits sizes × (u < sizes .records) × WritesField sizes write × Room base (cellCount sizes) (now values) (now marks) ⌝ }
+    ensures { λ r. ⌜ Performed sizes base u write (now (values .entry)) (now (marks .entry)) (now (values .exit)) (now (marks .exit)) r ⌝ }
+{
+    match write {
+        Write::Nothing => Stop::Nowhere,
+        Write::Store(field, value) => {
+            store(values, marks, sizes, base, u, field, value);
+            Stop::Nowhere
+        }
+        Write::OutOfRange(field) => Stop::At(u, follow::column(sizes, field as usize)),
+    }
 }
 
 // One rule at record u of the register in `out`.
@@ -59,7 +82,7 @@ pub fn apply_rule(
         (ruleIn (codesKept (now (kinds .entry)) (now (numbers .entry)) (now (chains .entry))) (rule .slot))
         (now (values .entry)) (now (marks .entry)) (now (values .exit)) (now (marks .exit)) r ⌝ }
 {
-    match stored::local_write(
+    let write = stored::local_write(
         cells::values_part(out, sizes),
         cells::marks_part(out, sizes),
         &values[..base],
@@ -71,12 +94,33 @@ pub fn apply_rule(
         chains,
         places,
         rule,
-    ) {
-        Write::Nothing => Stop::Nowhere,
-        Write::Store(field, value) => {
-            store(values, marks, sizes, base, u, field, value);
-            Stop::Nowhere
-        }
-        Write::OutOfRange(field) => Stop::At(u, follow::column(sizes, field as usize)),
-    }
+    );
+    perform(values, marks, sizes, base, u, write)
+}
+
+// The same for a plain rule, which needs no codes.
+pub fn apply_plain(
+    out: &[u8],
+    values: &mut [i64],
+    marks: &mut [u8],
+    sizes: Sizes,
+    base: usize,
+    u: usize,
+    rule: Located,
+) -> Stop
+    requires { ⌜ Limits sizes × (length (now out) ≡ 12 + 5 * cellCount sizes) × (u < sizes .records) × Room base (cellCount sizes) (now values) (now marks) ⌝ }
+    requires { ⌜ PlainReady sizes (cellsOfFile sizes (now out)) (take base (now values)) (take base (now marks)) rule ⌝ }
+    ensures { λ r. ⌜ PlainLocal sizes (cellsOfFile sizes (now (out .entry))) base u (rule .slot)
+        (now (values .entry)) (now (marks .entry)) (now (values .exit)) (now (marks .exit)) r ⌝ }
+{
+    let write = plain::local_write(
+        cells::values_part(out, sizes),
+        cells::marks_part(out, sizes),
+        &values[..base],
+        &marks[..base],
+        sizes,
+        u,
+        rule,
+    );
+    perform(values, marks, sizes, base, u, write)
 }

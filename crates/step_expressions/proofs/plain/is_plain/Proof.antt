@@ -1,10 +1,10 @@
--- `step_effects::stored::is_plain` meets its contract.
+-- `step_expressions::plain::is_plain` meets its contract.
 -- Assumes nothing.
 use mathlib.Core.Path.{sym, ap}
-use Rattle.step_effects.specs.Answers.{isPlain}
+use Rattle.step_expressions.specs.Plain.{isPlain}
 use borrow.Author.Needs.{needs}
-use Rattle.step_effects.proofs.stored.is_plain.Statement.{statement}
-use Rattle.step_effects.proofs.stored.is_plain.Tie as tie
+use Rattle.step_expressions.proofs.plain.is_plain.Statement.{statement}
+use Rattle.step_expressions.proofs.plain.is_plain.Tie as tie
 
 enum-told : tie.Need-enum-told
 enum-told c = search needs
