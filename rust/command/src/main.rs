@@ -14,6 +14,7 @@ mod gaps;
 mod gaps_svg;
 mod inspect;
 mod json;
+mod misfit;
 mod pack;
 mod plan;
 mod plan_svg;
