@@ -21,7 +21,7 @@ pub fn place(sizes: Sizes, kind: Kind, line: &[u8], alone: bool) -> usize {
         // A line that has a form is refused for its missing line break.
         Ok(_) if kind == Kind::Form => return line.len(),
         Ok(scan) => scan.parts,
-        Err(furthest) => return furthest,
+        Err(misfit) => return misfit.at,
     };
     let first = |wanted: &dyn Fn(&Part) -> bool| {
         let part = parts.iter().find(|part| wanted(part));

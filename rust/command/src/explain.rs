@@ -4,7 +4,7 @@ use crate::failure::Failure;
 use crate::pointer::Place;
 use crate::scan::Scan;
 use crate::style::{Look, Style};
-use crate::{caret, faulty, json};
+use crate::{caret, faulty, json, misfit};
 use plot::{Kind, Refusal, Register, Sizes};
 use std::io;
 
@@ -50,10 +50,18 @@ fn rules_advice(sizes: Sizes, text: &[u8], kind: Kind, place: Option<Place<'_>>)
         (Kind::Place, None) => {
             "The text ends here, and a step or a loop is not closed by end or done."
         }
+        (Kind::Form, Some(Place { line, .. })) => form_advice(line),
         (Kind::FieldKind, Some(Place { line, at, .. })) => kind_advice(line, at),
         (kind, _) => return advice(kind, sizes),
     };
     advice.to_owned()
+}
+
+/// What to do about a line that has no form.
+fn form_advice(line: &[u8]) -> &'static str {
+    let misfit = Scan::line(line).err();
+    let advice = misfit.and_then(|misfit| misfit.advice(line));
+    advice.unwrap_or(Kind::Form.advice())
 }
 
 /// Whether this place is in or behind what was meant as a number and is none.
@@ -89,7 +97,7 @@ pub fn reading(register: &Register, chain: &str, record: usize, refusal: Refusal
     let line = chain.as_bytes();
     let at = caret::place(sizes, refusal.kind, line, true);
     let advice = match refusal.kind {
-        Kind::Form => "A chain is u, or a field letter and a chain in square brackets: M[A[u]].",
+        Kind::Form => misfit::CHAIN,
         Kind::FieldKind => kind_advice(line, at),
         kind => &advice(kind, sizes),
     };

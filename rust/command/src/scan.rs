@@ -1,6 +1,8 @@
 //! A line of a rules text taken apart, as far as it has one of the forms. The
 //! library decides; this only finds the place to point at.
 
+use crate::misfit::{Misfit, Wanted};
+
 /// What stands between two places of a line.
 #[derive(Clone, Copy, Debug, PartialEq, Eq)]
 pub struct Part {
@@ -47,32 +49,39 @@ pub enum PartSort {
 pub struct Scan<'a> {
     line: &'a [u8],
     at: usize,
+    /// What has to stand where it does not fit.
+    wanted: Wanted,
     /// The parts so far.
     pub parts: Vec<Part>,
 }
 
 impl<'a> Scan<'a> {
     fn new(line: &'a [u8]) -> Scan<'a> {
-        let parts = Vec::new();
-        Scan { line, at: 0, parts }
+        Scan {
+            line,
+            at: 0,
+            wanted: Wanted::Line,
+            parts: Vec::new(),
+        }
     }
 
     /// Takes a whole line apart; where it has no form, the furthest place that
     /// fits one.
-    pub fn line(line: &'a [u8]) -> Result<Scan<'a>, usize> {
+    pub fn line(line: &'a [u8]) -> Result<Scan<'a>, Misfit> {
         let forms: [fn(&mut Scan<'a>) -> bool; 4] =
             [Scan::keyword, Scan::open_loop, Scan::tested, Scan::action];
         let scans = forms.map(|form| Scan::by(line, form));
         let furthest = scans.iter().filter_map(|scan| scan.as_ref().err()).max();
-        let furthest = furthest.copied().unwrap_or(0);
+        let furthest = furthest.copied().unwrap_or_default();
         scans.into_iter().find_map(Result::ok).ok_or(furthest)
     }
 
     /// The same for a chain that stands alone.
-    pub fn chain_alone(line: &'a [u8]) -> Result<Scan<'a>, usize> {
+    pub fn chain_alone(line: &'a [u8]) -> Result<Scan<'a>, Misfit> {
         let scan = Scan::by(line, |scan| scan.chain(PartSort::Chain))?;
+        let wanted = Wanted::Chain;
         match line.iter().position(|&byte| byte == b' ') {
-            Some(space) => Err(space),
+            Some(at) => Err(Misfit { at, wanted }),
             None => Ok(scan),
         }
     }
@@ -82,13 +91,36 @@ impl<'a> Scan<'a> {
         Scan::by(bytes, Scan::number).is_ok()
     }
 
-    fn by(line: &'a [u8], form: impl FnOnce(&mut Scan<'a>) -> bool) -> Result<Scan<'a>, usize> {
+    fn by(line: &'a [u8], form: impl FnOnce(&mut Scan<'a>) -> bool) -> Result<Scan<'a>, Misfit> {
         let mut scan = Scan::new(line);
-        let fits = form(&mut scan) && scan.at == line.len();
-        match fits && !line.ends_with(b" ") {
-            true => Ok(scan),
-            false => Err(scan.at),
+        let fits = form(&mut scan);
+        let spaces = line.iter().rev().take_while(|byte| **byte == b' ');
+        let end = line.len() - spaces.count();
+        let Scan { at, wanted, .. } = scan;
+        match fits {
+            true if at == end && end == line.len() => Ok(scan),
+            true => Err(Misfit {
+                at: at.min(end),
+                wanted: scan.behind(),
+            }),
+            false => Err(Misfit { at, wanted }),
         }
+    }
+
+    /// What has to stand behind the last part.
+    fn behind(&self) -> Wanted {
+        match self.parts.last().map(|part| part.sort) {
+            Some(PartSort::Chain | PartSort::Number) => Wanted::End,
+            _ => Wanted::Line,
+        }
+    }
+
+    /// What has to stand where something was not taken.
+    fn wants(&mut self, wanted: Wanted, taken: bool) -> bool {
+        if !taken {
+            self.wanted = wanted;
+        }
+        taken
     }
 
     fn keyword(&mut self) -> bool {
@@ -96,16 +128,25 @@ impl<'a> Scan<'a> {
     }
 
     fn open_loop(&mut self) -> bool {
-        self.sign(&["loop "]) && self.written()
+        self.word("loop ") && self.written()
     }
 
     fn tested(&mut self) -> bool {
-        self.sign(&["if "])
-            && self.expression()
-            && self.sign(&["<", "==", "!="])
-            && self.expression()
-            && self.part(PartSort::TestEnd, |scan| scan.any(&[":"]))
-            && self.action()
+        self.word("if ") && self.test() && self.action()
+    }
+
+    fn test(&mut self) -> bool {
+        self.expression() && self.test_sign() && self.expression() && self.test_end()
+    }
+
+    fn test_sign(&mut self) -> bool {
+        let taken = self.sign(&["<", "==", "!="]);
+        self.wants(Wanted::Test, taken)
+    }
+
+    fn test_end(&mut self) -> bool {
+        let taken = self.part(PartSort::TestEnd, |scan| scan.any(&[":"]));
+        self.wants(Wanted::Test, taken)
     }
 
     fn action(&mut self) -> bool {
@@ -122,7 +163,7 @@ impl<'a> Scan<'a> {
     }
 
     fn remote(&mut self) -> bool {
-        let begun = self.sign(&["remote "])
+        let begun = self.word("remote ")
             && self.written()
             && self.sign(&["["])
             && self.chain(PartSort::Target)
@@ -158,24 +199,29 @@ impl<'a> Scan<'a> {
             }
             operators += 1;
             match &self.line[self.at..] {
-                [b'<', b'?', b'=', ..] | [b'+', b'=', ..] => return open == 0,
+                [b'<', b'?', b'=', ..] | [b'+', b'=', ..] => break,
                 [b'<', b'?', ..] => self.counted(PartSort::Smaller, operators, "<?"),
                 [b'+', ..] => self.counted(PartSort::Sum, operators, "+"),
                 [b'-', ..] => self.counted(PartSort::Sum, operators, "-"),
-                _ => return open == 0,
+                _ => break,
             }
         }
+        self.wants(Wanted::Closing, open == 0)
     }
 
     fn term(&mut self) -> bool {
         match self.line.get(self.at) {
-            Some(b'-' | b'0'..=b'9') => self.part(PartSort::Number, Scan::number),
-            _ => self.chain(PartSort::Chain),
+            Some(b'-' | b'0'..=b'9') => {
+                let taken = self.part(PartSort::Number, Scan::number);
+                self.wants(Wanted::Digits, taken)
+            }
+            Some(b'u' | b'A'..=b'Z') => self.chain(PartSort::Chain),
+            _ => self.wants(Wanted::Operand, false),
         }
     }
 
     fn chain(&mut self, sort: PartSort) -> bool {
-        self.part(sort, |scan| {
+        let taken = self.part(sort, |scan| {
             let mut depth = 0;
             while scan.capital() {
                 depth += 1;
@@ -189,7 +235,8 @@ impl<'a> Scan<'a> {
                     scan.spaces();
                     scan.any(&["]"])
                 })
-        })
+        });
+        self.wants(Wanted::Chain, taken)
     }
 
     /// Digits, or metres: digits, a point and two digits.
@@ -239,6 +286,16 @@ impl<'a> Scan<'a> {
         let fitting = |text: &&str| text.bytes().zip(rest).take_while(|(a, b)| a == *b).count();
         self.at += texts.iter().map(fitting).max().unwrap_or(0);
         false
+    }
+
+    /// A word with the space that it keeps, and further spaces.
+    fn word(&mut self, word: &str) -> bool {
+        let start = self.at;
+        let taken = self.sign(&[word]);
+        if self.line[start..self.at] == *word.trim_end().as_bytes() {
+            self.wanted = Wanted::Space;
+        }
+        taken
     }
 
     /// One of these signs or words, and the spaces behind it.

@@ -57,9 +57,9 @@ pub enum Kind {
     Budget,
     /// 21: a sum or total is out of range.
     Range,
-    /// 24: groups stand more than 8 deep. The library does not answer it yet.
+    /// 24: groups stand more than 8 deep.
     Groups,
-    /// 25: an expression has more than 64 operators. The library does not answer it yet.
+    /// 25: an expression has more than 64 operators.
     Operators,
     /// A number that this crate does not know.
     Other(u32),
@@ -67,15 +67,6 @@ pub enum Kind {
 
 /// A kind, what it means, and what to do.
 type Row = (Kind, &'static str, &'static str);
-
-/// What to do about a line that has no form.
-const FORM_ADVICE: &str = match cfg!(feature = "m105") {
-    true => {
-        "Spaces are free between words and signs, but not at the ends of a line, nor behind the minus of a number; \
-         if, remote and loop keep one behind them. Each bracket is closed, and each line ends in a line break."
-    }
-    false => "Spaces stand exactly as the forms show them, and each line ends in a line break.",
-};
 
 /// The kinds in the order of their numbers, which [`NUMBERS`] has.
 #[rustfmt::skip]
@@ -93,7 +84,7 @@ const KINDS: [Row; 23] = [
     (Kind::TextLength, "the rules text is too long",
      "A rules text has at most 8192 bytes."),
     (Kind::Form, "this does not have the right form",
-     FORM_ADVICE),
+     "Lines are step, end, loop F, done, and rules: F[u] := X, remote F[C] <?= X, remote F[C] += X, or if X < Y: before one."),
     (Kind::Place, "a line is out of place, or the text ends too early",
      "Rules stand between step and end, steps may stand between loop and done, and a loop holds at least one step."),
     (Kind::Field, "a letter names no field of this register",
@@ -187,8 +178,8 @@ impl Kind {
 pub struct Refusal {
     /// What it is about.
     pub kind: Kind,
-    /// The line, counted from 1, for the numbers 7 to 15; else 0. Where a text
-    /// ends too early it is one past the last line.
+    /// The line, counted from 1, for the numbers 7 to 15, 24 and 25; else 0.
+    /// Where a text ends too early it is one past the last line.
     pub line: u64,
 }
 

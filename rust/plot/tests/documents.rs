@@ -23,11 +23,6 @@ fn constant(kind: Kind) -> String {
     letters.collect()
 }
 
-/// The kinds that the documents have: those of M-105 come when the library has it.
-fn documented() -> impl Iterator<Item = Kind> {
-    Kind::all().filter(|kind| cfg!(feature = "m105") || kind.number() <= 21)
-}
-
 /// The number and the comment of a name in the header.
 fn in_header(header: &str, name: &str) -> (usize, String) {
     let mut lines = header.lines().map(str::trim);
@@ -42,15 +37,12 @@ fn in_header(header: &str, name: &str) -> (usize, String) {
 #[test]
 fn refusals_of_the_header() {
     let header = document("include/plot.h");
-    for kind in documented() {
+    for kind in Kind::all() {
         let name = format!("PLOT_REFUSAL_{}", constant(kind));
         let expected = (kind.number() as usize, kind.meaning().to_owned());
         assert_eq!(in_header(&header, &name), expected);
     }
-    assert_eq!(
-        header.matches("PLOT_REFUSAL_").count(),
-        documented().count()
-    );
+    assert_eq!(header.matches("PLOT_REFUSAL_").count(), Kind::all().count());
 }
 
 #[test]
@@ -88,7 +80,7 @@ fn places_and_lengths_of_the_header() {
 #[test]
 fn refusals_of_the_manual() {
     let manual = document("docs/MANUAL.md");
-    for kind in documented() {
+    for kind in Kind::all() {
         let row = format!("\n| {} | {} | ", kind.number(), kind.meaning());
         assert_eq!(manual.matches(&row).count(), 1, "{row}");
     }

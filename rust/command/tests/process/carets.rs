@@ -41,15 +41,11 @@ fn fits(refusal: u32, sizes: Sizes, line: &[u8], place: usize) -> bool {
 fn each_refusal_points_at_its_place() {
     let folder = Folder::new("carets");
     let mut random = Random::new(36);
-    let expressions: &[u32] = match cfg!(feature = "m105") {
-        true => &[24, 25],
-        false => &[],
-    };
-    for refusal in (6..=15).chain(expressions.iter().copied()) {
+    for refusal in (6..=15).chain([24, 25]) {
         for _ in 0..PAIRS {
-            let (sizes, pair) = match refusal {
-                24 | 25 => neighbours::expression_pair(&mut random, refusal),
-                _ => neighbours::pair(&mut random, refusal),
+            let (sizes, pair) = match random.percent(50) {
+                true => neighbours::pair(&mut random, refusal),
+                false => neighbours::expression_pair(&mut random, refusal),
             };
             folder.write("register", registers::file(&mut random, sizes));
             folder.write("rules", &pair.refused);
@@ -75,7 +71,6 @@ fn each_refusal_points_at_its_place() {
     }
 }
 
-#[cfg(feature = "m105")]
 #[test]
 fn places_in_expressions() {
     let nested = |groups: usize| format!("{}1{}", "(".repeat(groups), ")".repeat(groups));
@@ -124,7 +119,7 @@ fn points_at(name: &str, lines: &[(&str, usize)]) {
 fn places_by_hand() {
     let lines = [
         ("M[u] = 5", 6),
-        ("M[u] := 5 ", 11),
+        ("M[u] := 5 ", 10),
         ("M[u] := 007", 10),
         ("M[u] := 5 * 5", 11),
         ("M[A[u]] := 5", 3),

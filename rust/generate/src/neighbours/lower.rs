@@ -1,6 +1,6 @@
 //! Two faults on one line, of which the lower number is answered.
 
-use super::{Pair, has_expressions, try_pair};
+use super::{Pair, try_pair};
 use crate::mutations::lines;
 use crate::random::Random;
 use reference::register::Sizes;
@@ -8,6 +8,8 @@ use reference::text::MAX_BYTES;
 
 /// The refusal numbers of a line in the order in which they are asked.
 const ORDER: [u32; 11] = [7, 8, 9, 10, 11, 12, 24, 25, 13, 14, 15];
+/// How many of them a line can have by itself, 8 among them.
+const BY_ITSELF: usize = 8;
 
 fn rank(number: u32) -> usize {
     let place = ORDER.iter().position(|one| *one == number);
@@ -23,14 +25,9 @@ pub fn lower(
     number: u32,
     pair: &Pair,
 ) -> Option<(Vec<u8>, (u32, usize))> {
-    // Faults that a line can have by itself, and 8; 24 and 25 in texts with expressions.
-    let several = match has_expressions(&pair.refused) {
-        true => 8,
-        false => 6,
-    };
     let mut lines = lines(&pair.refused);
     let line = &mut lines[pair.line - 1];
-    let (text, made) = match random.pick(&ORDER[..several]) {
+    let (text, made) = match random.pick(&ORDER[..BY_ITSELF]) {
         8 => out_of_place(line),
         lower if rank(lower) < rank(number) => {
             *line = try_pair(random, lower, sizes, line)?.refused;

@@ -47,13 +47,13 @@ impl Pair {
     }
 }
 
-/// A pair for a refusal number from 6 to 15, and the sizes of a register. For the
-/// other numbers the refused text is not so long that 6 would come first.
+/// A pair for a refusal number from 6 to 15, 24 or 25, and the sizes of a register. But
+/// for 6 the refused text is not so long that 6 would come first.
 pub fn pair(random: &mut Random, number: u32) -> (Sizes, Pair) {
     pair_of_shape(random, number, texts::shape)
 }
 
-/// The same, also for 24 and 25, in texts with expressions.
+/// The same in texts with expressions.
 pub fn expression_pair(random: &mut Random, number: u32) -> (Sizes, Pair) {
     pair_of_shape(random, number, texts::right_expression_shape)
 }
@@ -81,7 +81,7 @@ fn pair_of_shape(
 fn try_pair(random: &mut Random, number: u32, sizes: Sizes, text: &[u8]) -> Option<Pair> {
     match number {
         6 => limits::length(random, sizes, text),
-        7 if has_expressions(text) && random.percent(50) => expressions::form(random, text),
+        7 if random.percent(50) => expressions::form(random, text),
         7 => form::form(random, text),
         8 => place::place(random, sizes, text),
         9 => line::field(random, sizes, text),
@@ -95,11 +95,6 @@ fn try_pair(random: &mut Random, number: u32, sizes: Sizes, text: &[u8]) -> Opti
         25 => expressions::operators(random, sizes, text),
         _ => panic!("no text is refused by {number}"),
     }
-}
-
-/// Whether a text holds more than the forms of document 01.
-fn has_expressions(text: &[u8]) -> bool {
-    text.contains(&b'(') || text.windows(3).any(|bytes| bytes == b"<? ")
 }
 
 /// The line of a place, counted from 1.

@@ -30,7 +30,7 @@ fn case(name: &'static str, register: Vec<u8>, text: Vec<u8>, budget: u16) -> Ca
 
 /// The runs that are timed by both machines.
 pub fn cases() -> Vec<Case> {
-    let mut cases = vec![
+    vec![
         case("32 rules of 16 hops", far_about(), long_rules(), 1),
         case("8 chains of 16 hops, 15 common", full(), in_common(), 1),
         case(
@@ -47,15 +47,16 @@ pub fn cases() -> Vec<Case> {
         ),
         case("65,535 steps, 16 records", few(), counting(), 65_535),
         case("100 steps, records of 16 fields", full(), counting(), 100),
-    ];
-    if cfg!(feature = "m105") {
-        let text = rules_of_16_operators();
-        cases.push(Case {
+        Case {
             at_most: 1.2,
-            ..case("32 rules of 16 operators", far_about(), text, 1)
-        });
-    }
-    cases
+            ..case(
+                "32 rules of 16 operators",
+                far_about(),
+                rules_of_16_operators(),
+                1,
+            )
+        },
+    ]
 }
 
 /// So many steps of so many rules each over all records.

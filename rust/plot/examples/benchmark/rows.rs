@@ -12,17 +12,13 @@ use std::hint::black_box;
 
 /// All rows, in the order they are printed.
 pub fn rows() -> Vec<Row> {
-    let mut rows = vec![
+    vec![
         load(),
         path_of_16_hops(),
         check_text("check 8,192 bytes, plain", 1.5, plain_text()),
         check_text("check 8,192 bytes, dense", 1.5, dense_text()),
-    ];
-    if cfg!(feature = "m105") {
-        let name = "check 8,192 bytes, expressions";
-        rows.push(check_text(name, 1.2, expression_text()));
-    }
-    rows
+        check_text("check 8,192 bytes, expressions", 1.2, expression_text()),
+    ]
 }
 
 /// Loading the largest register, by the cheapest reading of it.

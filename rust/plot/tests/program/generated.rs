@@ -18,26 +18,12 @@ pub fn folders() -> Vec<Folder> {
         let inputs = [(&pair.refused, &text), (&pair.accepted, &text)];
         folders.extend(neighbouring(number, 0, inputs));
     }
-    for number in 6..=15 {
+    for number in (6..=15).chain([24, 25]) {
         let (sizes, pair) = neighbours::pair(&mut random, number);
         let records = random.below(3);
         let register = registers::file(&mut random, Sizes { records, ..sizes });
         let inputs = [(&register, &pair.refused), (&register, &pair.accepted)];
         folders.extend(neighbouring(number, pair.line, inputs));
-    }
-    if cfg!(feature = "m105") {
-        for number in [24, 25] {
-            let (sizes, pair) = neighbours::expression_pair(&mut random, number);
-            let register = registers::file(
-                &mut random,
-                Sizes {
-                    records: 2,
-                    ..sizes
-                },
-            );
-            let inputs = [(&register, &pair.refused), (&register, &pair.accepted)];
-            folders.extend(neighbouring(number, pair.line, inputs));
-        }
     }
     folders
 }

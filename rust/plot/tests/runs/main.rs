@@ -4,7 +4,6 @@ mod bindings;
 #[path = "../common/mod.rs"]
 mod common;
 mod compare;
-#[cfg(feature = "m105")]
 mod expressions;
 mod generated;
 mod inspections;

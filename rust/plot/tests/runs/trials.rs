@@ -99,7 +99,6 @@ pub fn out_of_range(random: &mut Random) -> Trial {
 }
 
 /// The same with expressions, in any spacing.
-#[cfg(feature = "m105")]
 pub fn with_expressions(random: &mut Random) -> Trial {
     let case = Case::with_expressions(random);
     let budget = budget(random);
@@ -107,7 +106,6 @@ pub fn with_expressions(random: &mut Random) -> Trial {
 }
 
 /// One step whose sums are mostly out of range.
-#[cfg(feature = "m105")]
 pub fn near_the_range(random: &mut Random) -> Trial {
     let case = Case::near_the_range(random);
     Trial::new(random, case, 1)
@@ -147,11 +145,11 @@ pub fn damaged(random: &mut Random) -> Trial {
     trial
 }
 
-/// A case refused by some number from 6 to 15, or one that is damaged anywhere.
+/// A case refused by some number of a text, or one that is damaged anywhere.
 fn damaged_case(random: &mut Random) -> Case {
     let mut case = Case::small(random);
     if random.percent(50) {
-        let number = random.between(6, 15) as u32;
+        let number = random.pick(&[6, 7, 8, 9, 10, 11, 12, 13, 14, 15, 24, 25]);
         let (sizes, pair) = neighbours::pair(random, number);
         case = Case::new(random, sizes);
         case.text = pair.refused;

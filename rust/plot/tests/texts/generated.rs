@@ -34,7 +34,6 @@ fn count(random: &mut Random, tally: &mut Tally, register: &[u8], text: &[u8]) -
 }
 
 #[test]
-#[cfg_attr(not(feature = "m105"), ignore = "M-105 not in the library yet")]
 fn texts_and_their_mutations_agree() {
     let mut random = Random::new(10);
     let mut tally = Tally::default();
@@ -73,7 +72,6 @@ fn texts_and_their_mutations_agree() {
 }
 
 #[test]
-#[cfg_attr(not(feature = "m105"), ignore = "M-105 not in the library yet")]
 fn random_bytes_and_lines_agree() {
     let mut random = Random::new(11);
     let mut tally = Tally::default();

@@ -5,7 +5,6 @@ mod bindings;
 mod common;
 mod compare;
 mod edges;
-#[cfg(feature = "m105")]
 mod expressions;
 mod forms;
 mod generated;

@@ -82,7 +82,6 @@ fn shape(random: &mut Random) -> Shape {
 }
 
 #[test]
-#[cfg_attr(not(feature = "m105"), ignore = "M-105 not in the library yet")]
 fn texts_in_metres_and_their_changes_agree() {
     let mut random = Random::new(19);
     let mut tally = Tally::default();
