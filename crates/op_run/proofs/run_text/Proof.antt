@@ -2,7 +2,7 @@
 -- Assumes nothing.
 use Prim.Native.Nat.{ℕ, _≤_}
 use mathlib.Core.Path.{_≡_, sym, ap, ap₂, _∙_}
-use mathlib.Core.Bool.{false}
+use mathlib.Core.Bool.{Bool, false}
 use native.Mathlib.Omega.{arith}
 use borrow.Author.Needs.{needs}
 use denote.Ref.{now}
@@ -11,7 +11,8 @@ use Rattle.laws.specs.Outcome.{Outcome, done, refused}
 use Rattle.register.specs.File.{sizesOf, cellsOfFile}
 use Rattle.register.specs.declared.Sizes.{Sizes}
 use Rattle.register.proofs.Bounds.{limits}
-use Rattle.program.specs.Program.{mostLines}
+use Rattle.register.proofs.Roundtrip.{Bytes}
+use Rattle.program.specs.Program.{Program, mostLines}
 use Rattle.text_rules.specs.Text.{check}
 use Rattle.program.specs.Code.{Codes, codesKept}
 use Rattle.program.specs.Kept.{programOf, Complete}
@@ -51,7 +52,16 @@ module _ (c : tie.Else1) where
   abbrev codes : Codes
   codes = let l = was-read .read .last in codesKept (l .1 .1 .0) (l .1 .1 .1 .0) (l .1 .1 .1 .1 .0)
 
-  checked : check (now (entry .args .file)) (now (entry .args .text)) ≡ done (programOf codes kept)
+  abbrev program : Program
+  program = programOf codes kept
+
+  abbrev short : Sizes → ℕ → Bool
+  short s n = let a = entry .args in isShort (scratch s n) (length (now (a .values))) (length (now (a .marks)))
+
+  bytes : Bytes (now (entry .args .file))
+  bytes i = let f = was-read .before .before .before .before .before .before .before .before .shared-slice-known .given i in f .fits
+
+  checked : check (now (entry .args .file)) (now (entry .args .text)) ≡ done program
   checked = answered-program (was-read .read .ensures) (c .if1 .left)
 
   complete : Complete codes (was-read .read .last .1 .1 .1 .1 .1 .0) kept
@@ -68,25 +78,21 @@ module _ (c : tie.After-is-short) where
   abbrev first : tie.Else1
   first = sized .before .before
 
-  short-is : let a = entry first .args in
-      c .is-short .result ≡ isShort (scratch (sizesOf (now (a .file))) (mostLines (programOf (codes first) (kept first)))) (length (now (a .values))) (length (now (a .marks)))
+  short-is : c .is-short .result ≡ short first (sizesOf (now (entry first .args .file))) (mostLines (program first))
   short-is =
-      let a = entry first .args in
-      c .is-short .ensures
-      ∙ ap₂ (λ (s : Sizes) (n : ℕ). isShort (scratch s n) (length (now (a .values))) (length (now (a .marks))))
-      (sized .sizes-of .ensures) (complete first .lines-are)
+      let told : c .is-short .result ≡ short first (sized .sizes-of .result) (kept first .lines) = c .is-short .ensures in
+      told ∙ ap₂ (short first) (sized .sizes-of .ensures) (complete first .lines-are)
 
 -- none is, and the register is copied
 module _ (c : tie.After-copy) where
   abbrev asked : tie.After-is-short
   asked = c .before .before .before
 
-  long-enough : let a = entry (first asked) .args in
-      isShort (scratch (sizesOf (now (a .file))) (mostLines (programOf (codes (first asked)) (kept (first asked))))) (length (now (a .values))) (length (now (a .marks))) ≡ false
+  long-enough : let x = first asked in short x (sizesOf (now (entry x .args .file))) (mostLines (program x)) ≡ false
   long-enough = sym (short-is asked) ∙ c .before .before .if3 .left
 
   ran : let a = entry (first asked) .args in let s = sizesOf (now (a .file)) in
-      outcome (entry (first asked)) ≡ done (run s (direct s) (programOf (codes (first asked)) (kept (first asked))) (a .budget) (cellsOfFile s (now (a .file))))
+      outcome (entry (first asked)) ≡ done (run s (direct s) (program (first asked)) (a .budget) (cellsOfFile s (now (a .file))))
   ran = run-done _ _ _ _ (checked (first asked)) (sized asked .before .if2 .left) long-enough
 
 -- the run over the copy
@@ -95,10 +101,10 @@ module _ (c : tie.After-run-program) where
   copied = c .before .before .before .before .before .before .before .before .before .before
 
   ended : let x = first (asked copied) in let a = entry x .args in
-      Ends (a .machine) (sizesOf (now (a .file))) (programOf (codes x) (kept x)) (a .budget) (now (a .file)) (c .run-program .last .0) (c .run-program .result)
+      Ends (a .machine) (sizesOf (now (a .file))) (program x) (a .budget) (now (a .file)) (c .run-program .last .0) (c .run-program .result)
   ended =
       let x = first (asked copied) in
-      over-copy (programOf (codes x) (kept x)) (entry x .args .budget) (sized (asked copied) .sizes-of .ensures) (copied .copy .ensures) (c .run-program .ensures)
+      over-copy (program x) (entry x .args .budget) (sized (asked copied) .sizes-of .ensures) (copied .copy .ensures) (c .run-program .ensures)
 
 slice-aggregate-read : tie.Need-slice-aggregate-read
 slice-aggregate-read c = search needs
@@ -171,7 +177,7 @@ run-program-requires c κs =
     let a = entry x .args in
     let enough = room _ _ _ (long-enough p) in
     rw (p .before .before .before .before .before .sizes-of .ensures, p .copy .ensures) (
-      register (now (a .file)) (now (a .text)) (checked x) (λ i. let f = was-read x .before .before .before .before .before .before .before .before .shared-slice-known .given i in f .fits),
+      register (now (a .file)) (now (a .text)) (checked x) (bytes x),
       record { lines≤ = line-limit x; values-room = rw (complete x .lines-are) (enough .0); marks-room = rw (complete x .lines-are) (enough .1) },
       complete x,
       passed (now (a .file)) (now (a .text)) (checked x),
@@ -197,7 +203,8 @@ returns-4 c =
     let p = copied g in
     let a = entry (first (asked p)) .args in
     run-answered (a .machine) (now (a .file)) (now (a .out)) (now (a .values)) (now (a .marks)) (ran p)
-    (rw (c .before .before .copy2 .ensures) (refusal-answered (ended g) (g .run-program .kept .1 .0) (g .run-program .kept .1 .1 .0) (c .before .before .before .before .if4 .taken)))
+    (rw (c .before .before .copy2 .ensures)
+    (refusal-answered (ended g) (g .run-program .kept .1 .0) (g .run-program .kept .1 .1 .0) (c .before .before .before .before .if4 .taken)))
 
 same-length-4 : tie.Need-same-length-4
 same-length-4 c = search needs
