@@ -157,8 +157,16 @@ fn send(
         return Sent::Nothing;
     };
     let second = at.second;
-    let Reading::Value(amount) = plain::term_value(cells, filled, values, marks, sizes, u, x, second)
-    else {
+    let Reading::Value(amount) = plain::term_value(
+        cells,
+        filled,
+        values,
+        marks,
+        sizes,
+        u,
+        x,
+        second,
+    ) else {
         return Sent::Nothing;
     };
     Sent::One(Message {

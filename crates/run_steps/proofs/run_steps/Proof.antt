@@ -436,9 +436,10 @@ apply-plain-requires c κs =
     let h = holdingOfRuling r in
     let same = same-then (records r .records .inv .same) (r .before .loop3 .inv .done .same) in
     let inside : r .before .loop3 .k < length (h .if2 .rules) = omega (arith, at-hand r, held h .rules-are .length-is) in
-    let plain = plain-at (codesKept [] [] []) _ _ _ inside (r .loop3-test .taken) (held h .plain-are) (t .if3 .taken) in
-    ((limits (turn h), out-whole (turn h), r .before .before .records-test .taken, room-still (prepared g) same),
-      plain-ready plain (rule-ready (prepared g) same _ _ (r .loop3-test .taken)))
+    let plain = plain-at (codesKept [] [] []) _ _ _ inside (r .loop3-test .taken) (held h .plain-are) (t .if3 .taken) in (
+      (limits (turn h), out-whole (turn h), r .before .before .records-test .taken, room-still (prepared g) same),
+      plain-ready plain (rule-ready (prepared g) same _ _ (r .loop3-test .taken)),
+    )
 
 mul-apply-rule : Of tie.Need-mul-apply-rule
 mul-apply-rule c = record { fits = omega (arith, at-hand (ruling c)) }
