@@ -5,3 +5,4 @@ pub mod Testing
 pub mod Joining
 pub mod Reading
 pub mod Plainly
+pub mod Waiting

@@ -75,10 +75,10 @@ module _ (k : ℕ) (z : ℤ) (p : ℕ) where
       go false false f g e = ⊎-elim (λ q. f refl (omega arith)) (λ q. g refl (omega arith)) (lt-or-le k 1)
 
 -- two lists with a first code
-first-code : {c d : Code} {l m : List Code} → c ∷ l ≡ d ∷ m → (c ≡ d) × (l ≡ m)
+pub first-code : {c d : Code} {l m : List Code} → c ∷ l ≡ d ∷ m → (c ≡ d) × (l ≡ m)
 first-code e = (cc, cc)
 
-no-code : {c : Code} {l : List Code} → [] ≡ c ∷ l → ⊥
+pub no-code : {c : Code} {l : List Code} → [] ≡ c ∷ l → ⊥
 no-code e = absurd (let z : _≡_ {A = ℕ} 0 1 = cc in omega arith)
 
 -- what is left to read of an expression, and what its part so far comes to
@@ -96,23 +96,23 @@ module _ (s : Sizes) (cells : List Cell) (values : List ℤ) (marks : List ℕ) 
     from-on i = codesIn kinds numbers chains i to
 
     -- by its kind, a code is a term or an operator
-    term-at : (i : ℕ) (x : Expression) {c : Code} → codeAt kinds numbers chains i ≡ c → TermCode x c → getD kinds i 0 < 2
+    pub term-at : (i : ℕ) (x : Expression) {c : Code} → codeAt kinds numbers chains i ≡ c → TermCode x c → getD kinds i 0 < 2
     unfolding codeAt
     term-at i = term-kind (getD kinds i 0) (getD numbers i (pos 0)) (getD chains i 0)
 
-    no-end-at : (i : ℕ) (l : List Code) → getD kinds i 0 < 2 → Ends (codeAt kinds numbers chains i ∷ l) → ⊥
+    pub no-end-at : (i : ℕ) (l : List Code) → getD kinds i 0 < 2 → Ends (codeAt kinds numbers chains i ∷ l) → ⊥
     unfolding codeAt
     no-end-at i = term-no-end (getD kinds i 0) (getD numbers i (pos 0)) (getD chains i 0)
 
-    operator-at : (i : ℕ) (op : Operator) → codeAt kinds numbers chains i ≡ operator op → operatorOf (getD kinds i 0) ≡ op
+    pub operator-at : (i : ℕ) (op : Operator) → codeAt kinds numbers chains i ≡ operator op → operatorOf (getD kinds i 0) ≡ op
     unfolding codeAt
     operator-at i = operator-kind (getD kinds i 0) (getD numbers i (pos 0)) (getD chains i 0)
 
-    more : (i : ℕ) → i < to → from-on i ≡ codeAt kinds numbers chains i ∷ from-on (i + 1)
+    pub more : (i : ℕ) → i < to → from-on i ≡ codeAt kinds numbers chains i ∷ from-on (i + 1)
     more i h = let q : suc i ≡ i + 1 = omega arith in codes-first kinds numbers chains i to h ∙ ap (λ (j : ℕ). codeAt kinds numbers chains i ∷ from-on j) q
 
     -- a code that is a term comes to what the record finds
-    term-value : (i : ℕ) → i < to → CodesFound s cells values marks u kinds chains places i to → (x : Expression) {c : Code}
+    pub term-value : (i : ℕ) → i < to → CodesFound s cells values marks u kinds chains places i to → (x : Expression) {c : Code}
         → codeAt kinds numbers chains i ≡ c → TermCode x c → termAt s cells values marks u kinds numbers places i ≡ evaluated (followed s cells u) x
     unfolding codeAt termAt evaluated value overflows ofReading
     term-value i h found (reading w) e t =

@@ -11,6 +11,8 @@ use Rattle.program.specs.Code.{Code, chain, number, operator, postfix, codesIn,
 use Rattle.step_terms.specs.Found.{Reaches, WordFound, followed}
 use Rattle.step_expressions.specs.declared.operation.Evaluated.{Evaluated}
 use Rattle.step_expressions.specs.declared.evaluate.Part.{Part}
+use Rattle.step_expressions.specs.declared.evaluate.Tried.{Tried}
+use Rattle.step_expressions.specs.declared.evaluate.Tried.the-variants as T
 use Rattle.step_expressions.specs.Evaluated.{evaluated}
 
 -- the place of each chain of the codes from..to leads somewhere
@@ -46,3 +48,8 @@ abbrev pub Evaluates : Sizes → List Cell → List ℤ → List ℕ → ℕ →
 Evaluates s cells values marks u kinds numbers places from to r =
     (chains : List ℕ) → CodesFound s cells values marks u kinds chains places from to → (e : Expression)
     → codesIn kinds numbers chains from to ≡ postfix e → r ≡ evaluated (followed s cells u) e
+
+-- the same where the expression is not left open
+abbrev pub Tries : Sizes → List Cell → List ℤ → List ℕ → ℕ → List ℕ → List ℤ → List ℕ → ℕ → ℕ → Tried → Type 0
+Tries s cells values marks u kinds numbers places from to T.Open = Unit {0}
+Tries s cells values marks u kinds numbers places from to (T.Value v) = Evaluates s cells values marks u kinds numbers places from to v

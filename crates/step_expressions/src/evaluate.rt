@@ -5,7 +5,7 @@ ghost use Rattle.register.specs.Cells.{cellsOf};
 ghost use Rattle.register.specs.Shape.{Parts};
 ghost use Rattle.program.specs.Code.{Arrays, operatorOf, locationAt};
 ghost use Rattle.step_expressions.specs.Evaluated.{termAt};
-ghost use Rattle.step_expressions.specs.Codes.{Reached, BeginsWith, Evaluates};
+ghost use Rattle.step_expressions.specs.Codes.{Reached, BeginsWith, Evaluates, Tries};
 use crate::operation;
 use crate::operation::Evaluated;
 use program::location::Location;
@@ -151,6 +151,77 @@ fn expression(
     Part { value, end: at }
 }
 
+// What an expression comes to; or it is left open, for too many operands wait in it.
+pub enum Tried {
+    Open,
+    Value(Evaluated),
+}
+
+// The expression whose codes are those from..to: an operand waits until what follows it is worked out. By 24 there are at most eight
+// groups around one another, in each of which, and outside of them, two operands wait: one for a sum and one for a smaller.
+fn shallow(
+    cells: &[u8],
+    filled: &[u8],
+    values: &[i64],
+    marks: &[u8],
+    sizes: Sizes,
+    u: usize,
+    kinds: &[u8],
+    numbers: &[i32],
+    places: &[u8],
+    from: usize,
+    to: usize,
+) -> Tried
+    requires { ⌜ Parts sizes (now cells) (now filled) × (u < sizes .records) × Arrays (now kinds) (now numbers) (now places) to × (from < to) ⌝ }
+    requires { ⌜ Reached sizes (now values) (now marks) u (now kinds) (now places) from to ⌝ }
+    ensures { λ r. ⌜ Tries sizes (cellsOf (now (cells .entry)) (now (filled .entry))) (now (values .entry)) (now (marks .entry)) u
+        (now (kinds .entry)) (now (numbers .entry)) (now (places .entry)) from to r ⌝ }
+{
+    let mut waiting = [Evaluated::Missing; 18];
+    let mut count = 0;
+    let mut value = term_at(
+        cells,
+        filled,
+        values,
+        marks,
+        sizes,
+        u,
+        kinds,
+        numbers,
+        places,
+        from,
+    );
+    for at in from + 1..to {
+        if 1 < kinds[at] {
+            if count == 0 {
+                return Tried::Open;
+            }
+            count -= 1;
+            let x = waiting[count];
+            value = operation::join(operator_of(kinds[at]), x, value);
+        } else {
+            if count == 18 {
+                return Tried::Open;
+            }
+            waiting[count] = value;
+            count += 1;
+            value = term_at(
+                cells,
+                filled,
+                values,
+                marks,
+                sizes,
+                u,
+                kinds,
+                numbers,
+                places,
+                at,
+            );
+        }
+    }
+    Tried::Value(value)
+}
+
 // The expression whose codes are those from..to.
 pub fn evaluate(
     cells: &[u8],
@@ -170,6 +241,21 @@ pub fn evaluate(
     ensures { λ r. ⌜ Evaluates sizes (cellsOf (now (cells .entry)) (now (filled .entry))) (now (values .entry)) (now (marks .entry)) u
         (now (kinds .entry)) (now (numbers .entry)) (now (places .entry)) from to r ⌝ }
 {
+    if let Tried::Value(value) = shallow(
+        cells,
+        filled,
+        values,
+        marks,
+        sizes,
+        u,
+        kinds,
+        numbers,
+        places,
+        from,
+        to,
+    ) {
+        return value;
+    }
     let part = expression(
         cells,
         filled,
