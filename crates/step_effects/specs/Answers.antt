@@ -20,7 +20,7 @@ use Rattle.machine.specs.Local.{offends}
 use Rattle.machine.specs.Remote.{sentTo, ruleMessages}
 use Rattle.step_expressions.specs.declared.operation.Evaluated.{Evaluated}
 use Rattle.step_expressions.specs.declared.operation.Evaluated.the-variants as E
-use Rattle.step_expressions.specs.Evaluated.{evaluated}
+use Rattle.step_expressions.specs.Evaluated.{ofReading, evaluated}
 use Rattle.step_expressions.specs.Plain.{isPlain}
 use Rattle.step_effects.specs.declared.stored.Write.{Write}
 use Rattle.step_effects.specs.declared.stored.Write.the-variants as W
@@ -44,6 +44,10 @@ unfoldable pub doneBy : Target → Evaluated → Write
 doneBy t E.Missing = targetWrite t Missing
 doneBy t (E.Value z) = targetWrite t (Value z)
 doneBy t E.OutOfRange = W.OutOfRange (targetField t)
+
+-- what a rule comes to: its expression where its test holds, or that a sum of either leaves the range
+unfoldable pub effectOf : (List ℕ → Reading) → Rule → Evaluated
+effectOf read r = cond (offends read r) E.OutOfRange (cond (holds read (r .test)) (ofReading (value read (r .expression))) E.Missing)
 
 -- what a rule stores
 unfoldable pub writeOf : (List ℕ → Reading) → Rule → Write
