@@ -1,6 +1,6 @@
 -- What a rule stores and sends, by what the code found for its test.
 use Prim.Native.Nat.{ℕ, _<_}
-use mathlib.Core.Path.{_≡_, refl, sym, ap, ap₂, subst, _∙_}
+use mathlib.Core.Path.{_≡_, refl, sym, ap, ap₂, _∙_}
 use mathlib.Core.Bool.{Bool, true, false, cond, not, _&&_, _||_}
 use mathlib.Core.List.{List, []}
 use native.Mathlib.Omega.{arith}
@@ -23,13 +23,10 @@ use Rattle.program.specs.Code.{Codes}
 use Rattle.program.specs.Program.{Target, own, remote, operation, isRemote, targetField}
 use Rattle.program.specs.Stored.{termIn, testIn, targetIn, expressionIn, ruleIn}
 use Rattle.program.specs.declared.rule.Operator.{Operator}
-use Rattle.program.specs.declared.location.Places.{Places}
 use Rattle.integers.specs.Range.{sumOf}
 use Rattle.integers.specs.declared.Sum.{Sum}
-use Rattle.register.specs.declared.Sizes.{Sizes}
-use Rattle.register.specs.declared.cells.Cell.{Cell}
 use Rattle.machine.specs.Value.{operate, value, overflows, holds}
-use Rattle.machine.specs.Local.{testOverflows, offends}
+use Rattle.machine.specs.Local.{offends}
 use Rattle.machine.specs.declared.message.Message.{Message}
 use Rattle.machine.specs.Remote.{sentTo, sentBy, ruleMessages}
 use Rattle.machine.proofs.Folding.{ruleMessages-local}
@@ -39,12 +36,12 @@ use Rattle.step_expressions.specs.declared.term.Tested.{Tested}
 use Rattle.step_expressions.specs.declared.term.Tested.the-variants.{Holds, Fails, OutOfRange}
 use Rattle.step_expressions.specs.Evaluated.{ofReading, ofSum, joined, evaluated}
 use Rattle.step_expressions.specs.Tests.{answered, tested}
-use Rattle.step_expressions.specs.Plain.{isPlain, plainTest, PlainRuleFound}
+use Rattle.step_expressions.specs.Plain.{isPlain, plainTest, plainRule}
 use Rattle.step_expressions.proofs.Operating.{values-joined, operation-joined}
 use Rattle.step_expressions.proofs.Sides.{both-first, both-second}
 use Rattle.step_expressions.proofs.Testing.{test-tells}
-use Rattle.step_expressions.proofs.Plainly.{plain-formed, plain-tested, plain-evaluated, term-plain}
-use Rattle.step_effects.specs.Answers.{plainAmount, targetWrite, doneBy, effectOf, writeOf}
+use Rattle.step_expressions.proofs.Plainly.{plain-formed, plain-tested, plain-evaluated}
+use Rattle.step_effects.specs.Answers.{targetWrite, doneBy, effectOf, writeOf}
 use Rattle.step_effects.specs.declared.stored.Write.{Write}
 use Rattle.step_effects.specs.declared.stored.Write.the-variants as W
 
@@ -81,20 +78,20 @@ module _ (read : List ℕ → Reading) (k : Codes) where
     formed : overflows read (expressionIn k r) ≡ false
     unstored : (x : Reading) → targetWrite (targetIn r) x ≡ W.Nothing
 
-  plain-amount : (r : Rule) → plainAmount r ≡ true → Amount r
-  unfolding plainAmount expressionIn targetIn targetWrite
-  plain-amount (Set f x) h = true-false h refl
-  plain-amount (Combine f op x y) h = true-false h refl
-  plain-amount (Remote sort f c x) h = record { formed = plain-formed read k x h; unstored = λ x. refl }
+  plain-amount : (r : Rule) → isRemote (targetIn r) ≡ true → plainRule r ≡ true → Amount r
+  unfolding isRemote plainRule expressionIn targetIn targetWrite
+  plain-amount (Set f x) e h = true-false e refl
+  plain-amount (Combine f op x y) e h = true-false e refl
+  plain-amount (Remote sort f c x) e h = record { formed = plain-formed read k x h; unstored = λ x. refl }
 
   module _ (x : Slot) where
     abbrev test : Bool
     test = holds read (testIn k (x .test))
 
     -- it stores nothing here, and no sum of it leaves the range
-    pub write-plain : plainAmount (x .rule) ≡ true → plainTest (x .test) ≡ true → W.Nothing ≡ writeOf read (ruleIn k x)
+    pub write-plain : isRemote (targetIn (x .rule)) ≡ true → plainRule (x .rule) ≡ true → plainTest (x .test) ≡ true → W.Nothing ≡ writeOf read (ruleIn k x)
     unfolding writeOf ruleIn offends
-    write-plain h t = let a = plain-amount (x .rule) h in sym (go _ test (plain-tested read k (x .test) t) (a .formed) (a .unstored _))
+    write-plain e h t = let a = plain-amount (x .rule) e h in sym (go _ test (plain-tested read k (x .test) t) (a .formed) (a .unstored _))
       where
         go : {o v : Bool} {w : Write} (n : Write) (h : Bool) → o ≡ false → v ≡ false → w ≡ W.Nothing → cond (o || h && v) n (cond h w W.Nothing) ≡ W.Nothing
         go n true a b c = rw (a, b, c)
@@ -242,13 +239,7 @@ module _ (read : List ℕ → Reading) (k : Codes) where
     unfolding ofReading
     sum-written p q hv hw e = ap (doneBy (own f)) (values-joined op (ap ofReading p) (ap ofReading q) hv hw e refl) ∙ joined-is
 
--- the terms of a plain rule
-module _ (s : Sizes) (cells : List Cell) (values : List ℤ) (marks : List ℕ) (u : ℕ) (p : Places) where
-  pub set-plain : {r : Rule} (f : ℕ) (x : Term) → r ≡ Set f x → PlainRuleFound s cells values marks u p r → isPlain x ≡ true
-  set-plain f x e h = term-plain s cells values marks u (p .first) x (subst (PlainRuleFound s cells values marks u p) e h)
-
-  pub amount-plain : (r : Rule) → isRemote (targetIn r) ≡ true → PlainRuleFound s cells values marks u p r → plainAmount r ≡ true
-  unfolding isRemote targetIn plainAmount
-  amount-plain (Set f x) e h = true-false e refl
-  amount-plain (Combine f op x y) e h = true-false e refl
-  amount-plain (Remote k f c x) e h = term-plain s cells values marks u (p .second) x (h .1)
+-- the term of a plain rule that stores it
+pub set-plain : (r : Rule) (f : ℕ) (x : Term) → r ≡ Set f x → plainRule r ≡ true → isPlain x ≡ true
+unfolding plainRule
+set-plain r f x e h = sym (ap plainRule e) ∙ h

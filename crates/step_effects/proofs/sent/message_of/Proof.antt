@@ -15,7 +15,7 @@ use Rattle.program.specs.Program.{isRemote}
 use Rattle.program.specs.Stored.{targetIn}
 use Rattle.machine.specs.Remote.{sentTo}
 use Rattle.step_expressions.specs.declared.operation.Evaluated.{Evaluated}
-use Rattle.step_expressions.specs.declared.operation.Evaluated.the-variants.{Missing, Value, OutOfRange}
+use Rattle.step_expressions.specs.declared.operation.Evaluated.the-variants.{Value}
 use Rattle.step_expressions.proofs.operation.Evaluated as E
 use Rattle.step_expressions.proofs.Sides.{both-values, named}
 use Rattle.step_effects.specs.Answers.{messagesIn}
