@@ -1,6 +1,6 @@
 -- What the answers of the code mean.
 use mathlib.Core.Path.{_≡_}
-use mathlib.Core.Bool.{Bool, true, false, cond}
+use mathlib.Core.Bool.{cond}
 use mathlib.Core.List.{List, [], _∷_}
 use Prim.Native.Nat.{ℕ}
 use Rattle.chain.specs.declared.reading.Reading.{Reading}
@@ -8,7 +8,6 @@ use Rattle.chain.specs.declared.reading.Reading.the-variants.{Missing, Value}
 use Rattle.chain.specs.Word.{unpack}
 use Rattle.program.specs.declared.term.Term.{Term}
 use Rattle.program.specs.declared.rule.Rule as D
-use Rattle.program.specs.declared.rule.Rule.the-variants.{Set, Combine, Remote}
 use Rattle.program.specs.declared.rule.Sort.{Sort}
 use Rattle.program.specs.declared.rule.Slot.{Slot}
 use Rattle.program.specs.Code.{Codes}
@@ -20,18 +19,11 @@ use Rattle.machine.specs.Local.{offends}
 use Rattle.machine.specs.Remote.{sentTo, ruleMessages}
 use Rattle.step_expressions.specs.declared.operation.Evaluated.{Evaluated}
 use Rattle.step_expressions.specs.declared.operation.Evaluated.the-variants as E
-use Rattle.step_expressions.specs.Evaluated.{evaluated}
-use Rattle.step_expressions.specs.Plain.{isPlain}
+use Rattle.step_expressions.specs.Evaluated.{ofReading, evaluated}
 use Rattle.step_effects.specs.declared.stored.Write.{Write}
 use Rattle.step_effects.specs.declared.stored.Write.the-variants as W
 use Rattle.step_effects.specs.declared.sent.Sent.{Sent}
 use Rattle.step_effects.specs.declared.sent.Sent.the-variants as S
-
--- a remote rule whose amount is a plain term
-unfoldable pub plainAmount : D.Rule → Bool
-plainAmount (Set f x) = false
-plainAmount (Combine f op x y) = false
-plainAmount (Remote k f c x) = isPlain x
 
 -- a reading for a target: a missing one stores nothing, and a remote rule stores nothing here
 unfoldable pub targetWrite : Target → Reading → Write
@@ -44,6 +36,10 @@ unfoldable pub doneBy : Target → Evaluated → Write
 doneBy t E.Missing = targetWrite t Missing
 doneBy t (E.Value z) = targetWrite t (Value z)
 doneBy t E.OutOfRange = W.OutOfRange (targetField t)
+
+-- what a rule comes to: its expression where its test holds, or that a sum of either leaves the range
+unfoldable pub effectOf : (List ℕ → Reading) → Rule → Evaluated
+effectOf read r = cond (offends read r) E.OutOfRange (cond (holds read (r .test)) (ofReading (value read (r .expression))) E.Missing)
 
 -- what a rule stores
 unfoldable pub writeOf : (List ℕ → Reading) → Rule → Write

@@ -9,7 +9,7 @@ ghost use Rattle.program.specs.Program.{operation as operationOn, targetField};
 ghost use Rattle.program.specs.Stored.{ruleIn, targetIn, expressionIn, termIn};
 ghost use Rattle.step_terms.specs.Found.{readsOf, RuleFound, RuleReads};
 ghost use Rattle.step_expressions.specs.Evaluated.{evaluated};
-ghost use Rattle.step_effects.specs.Answers.{plainAmount, doneBy, writeOf};
+ghost use Rattle.step_effects.specs.Answers.{doneBy, effectOf, writeOf};
 use program::location::Located;
 use program::location::Places;
 use program::rule::Operator;
@@ -18,7 +18,6 @@ use program::term::Term;
 use register::Sizes;
 use step_expressions::operation;
 use step_expressions::operation::Evaluated;
-use step_expressions::plain;
 use step_expressions::term;
 use step_expressions::term::Tested;
 
@@ -27,17 +26,6 @@ pub enum Write {
     Nothing,
     Store(u64, i32),
     OutOfRange(u64),
-}
-
-// Whether a rule is a remote one with an amount of one term.
-fn is_plain_amount(rule: Rule) -> bool
-    ensures { λ r. ⌜ r ≡ plainAmount rule ⌝ }
-{
-    match rule {
-        Rule::Set(_, _) => false,
-        Rule::Combine(_, _, _, _) => false,
-        Rule::Remote(_, _, _, x) => plain::is_plain(x),
-    }
 }
 
 // The field that a rule writes.
@@ -193,7 +181,65 @@ fn expression(
     }
 }
 
-// What a rule stores in record u. A remote one is asked for only where a sum of it may leave the range.
+// What a rule comes to at record u: its expression where its test holds.
+pub fn effect(
+    cells: &[u8],
+    filled: &[u8],
+    values: &[i64],
+    marks: &[u8],
+    sizes: Sizes,
+    u: usize,
+    kinds: &[u8],
+    numbers: &[i32],
+    chains: &[u64],
+    places: &[u8],
+    located: Located,
+) -> Evaluated
+    requires { ⌜ Parts sizes (now cells) (now filled) × (u < sizes .records) × RuleReads sizes (cellsOf (now cells) (now filled)) (now values) (now marks) u
+        (codesKept (now kinds) (now numbers) (now chains)) (now places) located ⌝ }
+    ensures { λ r. ⌜ r ≡ effectOf (readsOf sizes (now (cells .entry)) (now (filled .entry)) u)
+        (ruleIn (codesKept (now (kinds .entry)) (now (numbers .entry)) (now (chains .entry))) (located .slot)) ⌝ }
+{
+    let slot = located.slot;
+    let rule = slot.rule;
+    let test = slot.test;
+    match term::test_at(
+        cells,
+        filled,
+        values,
+        marks,
+        sizes,
+        u,
+        kinds,
+        numbers,
+        chains,
+        places,
+        test,
+        located.at.test,
+    ) {
+        Tested::Fails => Evaluated::Missing,
+        Tested::OutOfRange => Evaluated::OutOfRange,
+        Tested::Holds => {
+            let at = located.at.rule;
+            expression(
+                cells,
+                filled,
+                values,
+                marks,
+                sizes,
+                u,
+                kinds,
+                numbers,
+                chains,
+                places,
+                rule,
+                at,
+            )
+        }
+    }
+}
+
+// What a rule stores in record u. A remote one is asked for the sums that it forms.
 pub fn local_write(
     cells: &[u8],
     filled: &[u8],
@@ -214,11 +260,7 @@ pub fn local_write(
 {
     let slot = located.slot;
     let rule = slot.rule;
-    let test = slot.test;
-    if is_plain_amount(rule) && plain::is_plain_test(test) {
-        return Write::Nothing;
-    }
-    match term::test_at(
+    let value = effect(
         cells,
         filled,
         values,
@@ -229,28 +271,7 @@ pub fn local_write(
         numbers,
         chains,
         places,
-        test,
-        located.at.test,
-    ) {
-        Tested::Fails => Write::Nothing,
-        Tested::OutOfRange => Write::OutOfRange(field_of(rule)),
-        Tested::Holds => {
-            let at = located.at.rule;
-            let value = expression(
-                cells,
-                filled,
-                values,
-                marks,
-                sizes,
-                u,
-                kinds,
-                numbers,
-                chains,
-                places,
-                rule,
-                at,
-            );
-            write_value(rule, value)
-        }
-    }
+        located,
+    );
+    write_value(rule, value)
 }

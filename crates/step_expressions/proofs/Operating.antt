@@ -20,7 +20,7 @@ use Rattle.program.specs.Program.{Expression, operation}
 use Rattle.machine.specs.Value.{both, operate, combined, value, readingInRange, overflows}
 use Rattle.step_expressions.specs.declared.operation.Evaluated.{Evaluated}
 use Rattle.step_expressions.specs.declared.operation.Evaluated.the-variants.{Missing, Value, OutOfRange}
-use Rattle.step_expressions.specs.Evaluated.{ofReading, readingOf, ofSum, evaluated, joined}
+use Rattle.step_expressions.specs.Evaluated.{ofReading, ofSum, evaluated, joined}
 
 -- an operation on two values, for the operator that was matched
 pub operate-kept : {k l : Operator} {a b : ℤ} {s : Sum} → SFits w32 a → SFits w32 b → k ≡ l → s ≡ sumOf (operate l (toZ w32 (ofZ w32 a)) (toZ w32 (ofZ w32 b)))
@@ -72,13 +72,3 @@ module _ (op : Operator) where
   pub operation-joined : (read : List ℕ → Reading) (x y : Expression) → evaluated read (operation op x y) ≡ joined op (evaluated read x) (evaluated read y)
   unfolding evaluated value overflows
   operation-joined read x y = answers-joined (overflows read x) (overflows read y) (value read x) (value read y)
-
-module _ (read : List ℕ → Reading) where
-  -- the value of an expression none of whose sums leaves the range
-  pub value-told : (e : Expression) → overflows read e ≡ false → readingOf (evaluated read e) ≡ value read e
-  unfolding evaluated ofReading readingOf
-  value-told e h = rw h (go (value read e))
-    where
-      go : (x : Reading) → readingOf (ofReading x) ≡ x
-      go R.Missing = refl
-      go (R.Value z) = refl

@@ -69,6 +69,12 @@ module _ (s : Sizes) (cells : List Cell) (values : List ℤ) (marks : List ℕ) 
   test-plain p Always f = refl
   test-plain p (When x c y) f = simp (term-plain (p .first) x (f .0), term-plain (p .second) y (f .1))
 
+  pub rule-plain : (p : Places) (r : Rule) → PlainRuleFound s cells values marks u p r → plainRule r ≡ true
+  unfolding plainRule
+  rule-plain p (Set g x) f = term-plain (p .first) x f
+  rule-plain p (Combine g op x y) f = simp (term-plain (p .first) x (f .0), term-plain (p .second) y (f .1))
+  rule-plain p (Remote sort g c x) f = term-plain (p .second) x (f .1)
+
   -- a rule that is found, and is plain
   module _ (k : Codes) (places : List ℕ) where
     found-plain : (at : Location) (x : Term) → isPlain x ≡ true → TermFound s cells values marks u k places at x → PlainFound s cells values marks u at x

@@ -24,12 +24,6 @@ unfoldable pub ofReading : Reading → Evaluated
 ofReading R.Missing = Missing
 ofReading (R.Value z) = Value z
 
--- the reading of an answer that is not out of range
-unfoldable pub readingOf : Evaluated → Reading
-readingOf Missing = R.Missing
-readingOf (Value z) = R.Value z
-readingOf OutOfRange = R.Missing
-
 unfoldable pub ofSum : Sum → Evaluated
 ofSum (S.InRange z) = Value z
 ofSum S.OutOfRange = OutOfRange

@@ -3,7 +3,7 @@ ghost use mathlib.Core.Path.{_≡_};
 ghost use Rattle.integers.specs.Range.{sumOf};
 ghost use Rattle.program.specs.declared.rule.Operator.the-variants.{Smaller};
 ghost use Rattle.machine.specs.Value.{operate as operateOn};
-ghost use Rattle.step_expressions.specs.Evaluated.{ofReading, readingOf, ofSum, joined};
+ghost use Rattle.step_expressions.specs.Evaluated.{ofReading, ofSum, joined};
 use chain::reading::Reading;
 use integers::Sum;
 use program::rule::Operator;
@@ -21,17 +21,6 @@ pub fn of_reading(reading: Reading) -> Evaluated
     match reading {
         Reading::Missing => Evaluated::Missing,
         Reading::Value(value) => Evaluated::Value(value),
-    }
-}
-
-// The value of an expression none of whose sums leaves the range.
-pub fn reading_of(value: Evaluated) -> Reading
-    ensures { λ r. ⌜ r ≡ readingOf value ⌝ }
-{
-    match value {
-        Evaluated::Missing => Reading::Missing,
-        Evaluated::Value(z) => Reading::Value(z),
-        Evaluated::OutOfRange => Reading::Missing,
     }
 }
 

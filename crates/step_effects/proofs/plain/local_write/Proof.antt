@@ -1,36 +1,27 @@
 -- `step_effects::plain::local_write` meets its contract.
 -- Assumes nothing.
-use mathlib.Core.Path.{_≡_, sym, ap, _∙_}
+use mathlib.Core.Path.{_≡_, sym, _∙_}
 use mathlib.Core.Bool.{true}
-use Prim.Native.Nat.{ℕ}
 use denote.Ref.{now}
 use Rattle.register.specs.Cells.{cellsOf}
-use Rattle.program.specs.declared.term.Term.{Term}
-use Rattle.program.specs.declared.rule.Rule.the-variants.{Set}
-use Rattle.program.specs.Program.{own, isRemote}
+use Rattle.program.specs.Program.{isRemote}
 use Rattle.program.specs.Stored.{targetIn, expressionIn}
-use Rattle.step_expressions.specs.Evaluated.{ofReading}
-use Rattle.step_expressions.specs.Plain.{isPlain, plainTest}
-use Rattle.step_expressions.proofs.Plainly.{test-plain}
-use Rattle.step_effects.specs.Answers.{plainAmount, doneBy}
-use Rattle.step_effects.proofs.Answering.{write-plain, write-unheld, write-held, plain-stored, set-plain, amount-plain}
+use Rattle.step_expressions.specs.Plain.{plainTest, plainRule}
+use Rattle.step_expressions.proofs.Plainly.{test-plain, rule-plain}
+use Rattle.step_effects.proofs.Answering.{write-plain, write-unheld, write-held, plain-stored, set-plain}
 use borrow.Author.Needs.{needs}
 use Rattle.step_effects.proofs.plain.local_write.Statement.{statement}
 use Rattle.step_effects.proofs.plain.local_write.Tie as tie
 
--- the test is plain, and so are the amount of a remote rule and a term that is stored
+-- the test and the rule are plain
 module _ (c : tie.Start) where
   test : plainTest (c .args .located .slot .test) ≡ true
   test = test-plain (c .args .sizes) (cellsOf (now (c .args .cells)) (now (c .args .filled))) (now (c .args .values)) (now (c .args .marks)) (c .args .u)
       (c .args .located .at .test) (c .args .located .slot .test) (c .pre .2 .test)
 
-  amount : isRemote (targetIn (c .args .located .slot .rule)) ≡ true → plainAmount (c .args .located .slot .rule) ≡ true
-  amount e = amount-plain (c .args .sizes) (cellsOf (now (c .args .cells)) (now (c .args .filled))) (now (c .args .values)) (now (c .args .marks)) (c .args .u)
-      (c .args .located .at .rule) (c .args .located .slot .rule) e (c .pre .2 .rule)
-
-  single : (f : ℕ) (x : Term) → c .args .located .slot .rule ≡ Set f x → isPlain x ≡ true
-  single f x e = set-plain (c .args .sizes) (cellsOf (now (c .args .cells)) (now (c .args .filled))) (now (c .args .values)) (now (c .args .marks)) (c .args .u)
-      (c .args .located .at .rule) f x e (c .pre .2 .rule)
+  rule : plainRule (c .args .located .slot .rule) ≡ true
+  rule = rule-plain (c .args .sizes) (cellsOf (now (c .args .cells)) (now (c .args .filled))) (now (c .args .values)) (now (c .args .marks)) (c .args .u)
+      (c .args .located .at .rule) (c .args .located .slot .rule) (c .pre .2 .rule)
 
 is-remote-requires : tie.Need-is-remote-requires
 is-remote-requires c κs = search needs
@@ -38,7 +29,7 @@ is-remote-requires c κs = search needs
 returns : tie.Need-returns
 returns c k =
     let s = c .before .before .before .before .before .before in
-    write-plain _ _ _ (amount s (sym (c .before .is-remote .ensures) ∙ c .if1 .taken)) (test s)
+    write-plain _ _ _ (sym (c .before .is-remote .ensures) ∙ c .if1 .taken) (rule s) (test s)
 
 -- the entry, from where the test is known
 abbrev start : tie.After-holds → tie.Start
@@ -80,7 +71,7 @@ returns-3 c k =
     let r = c .before .before .before in
     let e = r .before .before .before in
     let s = start (e .before) in
-    let plain = single s _ _ (r .rule .given .1) in
+    let plain = set-plain _ _ _ (r .rule .given .1) (rule s) in
     rw (c .write-reading .ensures, c .before .term-value .ensures k)
     (plain-stored _ _ _ _ plain ∙ write-held _ _ _ (e .before .holds .ensures k) (test s) (e .if2 .left) (r .rule .given .1))
 
@@ -94,7 +85,7 @@ returns-5 : tie.Need-returns-5
 unfolding isRemote targetIn
 returns-5 c k =
     let s = start (c .before .before .before .before) in
-    write-plain _ _ _ (amount s (rw (c .enum-told .given .1))) (test s)
+    write-plain _ _ _ (rw (c .enum-told .given .1)) (rule s) (test s)
 
 pub local-write-spec : {M : Type 1} → statement M
 local-write-spec =

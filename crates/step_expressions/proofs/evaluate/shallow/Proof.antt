@@ -1,7 +1,7 @@
 -- `step_expressions::evaluate::shallow` meets its contract: a term waits until its operator comes.
 -- Assumes nothing.
 use Prim.Native.Nat.{suc, _-_, _<_}
-use mathlib.Core.Path.{_≡_, refl, _∙_}
+use mathlib.Core.Path.{_≡_, refl}
 use mathlib.Core.Logic.{⊎-elim}
 use native.Mathlib.Omega.{arith}
 use borrow.Author.Needs.{needs}
