@@ -19,3 +19,4 @@ pub mod scraps;
 pub mod tally;
 pub mod texts;
 pub mod tokens;
+pub mod written;

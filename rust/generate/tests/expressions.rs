@@ -8,6 +8,7 @@ use generate::on_failure::OnFailure;
 use generate::random::Random;
 use generate::tally::Tally;
 use generate::tokens::{CHANGES, changed, respaced, tokens};
+use generate::written::expressions;
 use generate::{registers, texts};
 use reference::direct::run_direct;
 use reference::messages::run_messages;
@@ -30,26 +31,6 @@ fn outcome(program: &Result<Program, Refusal>) -> (u32, usize) {
     match program {
         Ok(_) => (0, 0),
         Err(refusal) => (refusal.reason.number(), refusal.line),
-    }
-}
-
-/// The expressions of a line by their tokens.
-fn expressions(line: &[u8]) -> Vec<Vec<&[u8]>> {
-    const ENDS: [&[u8]; 8] = [b":=", b"<?=", b"+=", b"if", b"<", b"==", b"!=", b":"];
-    let places = tokens(line);
-    let spelled: Vec<&[u8]> = places.into_iter().map(|token| &line[token]).collect();
-    let written = spelled
-        .iter()
-        .any(|token| [b":=" as &[u8], b"<?=", b"+="].contains(token));
-    let parts: Vec<Vec<&[u8]>> = spelled
-        .split(|token| ENDS.contains(token))
-        .map(<[&[u8]]>::to_vec)
-        .collect();
-    match (parts.len(), written) {
-        (2, true) => vec![parts[1].clone()],
-        // Before `if` stands nothing, before the sign of a write what is written.
-        (5, true) => vec![parts[1].clone(), parts[2].clone(), parts[4].clone()],
-        _ => Vec::new(),
     }
 }
 
@@ -134,7 +115,7 @@ fn trees_are_those_of_a_second_reader() {
         let lines = text.split(|&byte| byte == b'\n');
         let second: Vec<Vec<Node>> = lines
             .flat_map(expressions)
-            .map(|tokens| second_reading(&tokens))
+            .map(|written| second_reading(&written.tokens))
             .collect();
         let rules = program.steps().flat_map(|step| &step.rules);
         let first: Vec<Vec<Node>> = rules
@@ -152,26 +133,14 @@ fn trees_are_those_of_a_second_reader() {
     tally.require(10, &operators);
 }
 
-/// How deep the groups of an expression are, and how many operators it has.
-fn size(tokens: &[&[u8]]) -> (usize, usize) {
-    let mut open = 0_usize;
-    let depths = tokens.iter().map(|token| {
-        open += usize::from(*token == b"(");
-        open -= usize::from(*token == b")");
-        open
-    });
-    let signs = [b"+" as &[u8], b"-", b"<?"];
-    let operators = tokens.iter().filter(|token| signs.contains(token)).count();
-    (depths.max().unwrap_or(0), operators)
-}
-
 /// 24 or 25 of a text that is right but for these, and the line. Counts the sizes of
 /// all expressions.
 fn made(tally: &mut Tally, text: &[u8]) -> Option<(u32, usize)> {
     let mut made = None;
     for (line, number) in text.split(|&byte| byte == b'\n').zip(1..) {
         let expressions = expressions(line);
-        let sizes: Vec<(usize, usize)> = expressions.iter().map(|one| size(one)).collect();
+        let sizes = expressions.iter().map(|one| (one.depth(), one.operators()));
+        let sizes: Vec<(usize, usize)> = sizes.collect();
         for (depth, operators) in &sizes {
             tally.count(&format!("depth {depth:>2}"));
             tally.count(&format!("operators {operators:>2}"));

@@ -15,6 +15,7 @@ use reference::text::read_text;
 const RUNS: usize = 30_000;
 /// Runs of one step whose sums are mostly out of range.
 const NEAR_THE_RANGE: usize = 30_000;
+const _: () = assert!(RUNS + NEAR_THE_RANGE >= 50_000);
 /// How often 21 comes from each place at least, and from no other in that step.
 const LEAST: u64 = 300;
 
@@ -25,6 +26,7 @@ fn runs_with_expressions_agree() {
     for _ in 0..RUNS {
         let trial = trials::with_expressions(&mut random);
         let left = compare(&mut random, &trial);
+        tally.count("runs");
         tally.count(&refusal_name(left.number));
         tally.count(match left.answer[lent::LETTERS] {
             0 => "no letters",
@@ -44,6 +46,7 @@ fn sums_out_of_range_agree() {
         let trial = trials::near_the_range(&mut random);
         let left = compare(&mut random, &trial);
         let _failing = trial.on_failure();
+        tally.count("runs");
         tally.count(&refusal_name(left.number));
         let register = Register::load(&trial.register).expect("it loads");
         let program = read_text(&trial.text, &register.sizes).expect("it passes");

@@ -11,6 +11,7 @@ use generate::on_failure::OnFailure;
 use generate::random::Random;
 use generate::tally::Tally;
 use generate::tokens::{CHANGES, changed, respaced, tokens};
+use generate::written::expressions;
 use generate::{registers, texts};
 use reference::program::Program;
 use reference::refusal::Refusal;
@@ -113,6 +114,37 @@ fn count(tally: &mut Tally, program: &Result<Program, Refusal>) {
     tally.count(&outcome(program));
 }
 
+/// Counts how the expressions of a text are written: groups, operators, kinds, spaces.
+fn count_forms(tally: &mut Tally, text: &[u8]) {
+    for written in text.split(|&byte| byte == b'\n').flat_map(expressions) {
+        tally.count(&depth_name(written.depth()));
+        tally.count(&operators_name(written.operators()));
+        tally.count(match written.is_reference() {
+            true => "of references",
+            false => "of measures",
+        });
+        if written.has_spare_brackets() {
+            tally.count("spare brackets");
+        }
+    }
+    let gaps = text.split(|&byte| byte != b' ').map(<[u8]>::len);
+    let widest = gaps.max().unwrap_or(0).min(5);
+    tally.count(&gap_name(widest));
+}
+
+fn depth_name(depth: usize) -> String {
+    format!("groups {depth:>2} deep")
+}
+
+fn operators_name(operators: usize) -> String {
+    format!("operators {operators:>2}")
+}
+
+/// The widest gap of a text; 5 and more are one.
+fn gap_name(spaces: usize) -> String {
+    format!("at most {spaces} spaces")
+}
+
 #[test]
 fn texts_with_expressions_agree() {
     let mut random = Random::new(60);
@@ -127,6 +159,8 @@ fn texts_with_expressions_agree() {
         let spaced = respaced(&mut random, &text);
         let again = compare(&mut random, &register, &spaced);
         count(&mut tally, &again);
+        count_forms(&mut tally, &text);
+        count_forms(&mut tally, &spaced);
         if plain != again {
             tally.count("the spacing shows");
         }
@@ -146,6 +180,10 @@ fn texts_with_expressions_agree() {
     tally.require(TEXTS, &["texts"]);
     tally.require(LEAST, &["accepted"]);
     tally.require(LEAST, &[6, 7, 9, 10, 24, 25].map(refusal_name));
+    tally.require(1_000, &["of references", "of measures", "spare brackets"]);
+    tally.require(1_000, &[1, 2, 3, 4, 5].map(gap_name));
+    tally.require(1_000, &(0..=12).map(depth_name).collect::<Vec<_>>());
+    tally.require(LEAST / 4, &(0..=80).map(operators_name).collect::<Vec<_>>());
     let changes = CHANGES.map(|(name, _)| [true, false].map(|passes| format!("{name}, {passes}")));
     tally.require(LEAST / 4, &changes.concat());
 }
