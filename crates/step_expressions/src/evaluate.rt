@@ -198,7 +198,7 @@ fn shallow(
             }
             count -= 1;
             let x = waiting[count];
-            value = operation::join(operator_of(kinds[at]), x, value);
+            value = operation::join_by(kinds[at], x, value);
         } else {
             if count == 18 {
                 return Tried::Open;

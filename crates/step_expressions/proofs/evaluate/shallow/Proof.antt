@@ -60,16 +60,13 @@ mul-x c = record { fits = omega (arith, head (c .before .before) .loop .inv .few
 array-copy-out-x : tie.Need-array-copy-out-x Inv-loop μ-loop
 array-copy-out-x c = omega (arith, c .if2 .left, head (c .before .before) .loop .inv .few)
 
-shared-slice-read-operator-of : tie.Need-shared-slice-read-operator-of Inv-loop μ-loop
-shared-slice-read-operator-of c =
+shared-slice-read-join-by : tie.Need-shared-slice-read-join-by Inv-loop μ-loop
+shared-slice-read-join-by c =
     let t = c .before .before .before .before in
     omega (arith, in-kinds t, start t .pre .0 .2 .in-kinds)
 
-operator-of-requires : tie.Need-operator-of-requires Inv-loop μ-loop
-operator-of-requires c κs = search needs
-
-join-requires : tie.Need-join-requires Inv-loop μ-loop
-join-requires c κs = search needs
+join-by-requires : tie.Need-join-by-requires Inv-loop μ-loop
+join-by-requires c κs = search needs
 
 returns-2 : tie.Need-returns-2 Inv-loop μ-loop
 returns-2 c = tt
@@ -104,7 +101,7 @@ loop-again c =
     ⊎-elim
     (λ w.
     let n : head t .loop .count ≡ suc (head t .loop .count - 1) = omega (arith, w .1 .left) in
-    worked-as _ _ _ _ _ _ _ _ _ _ (rw (w .5 .ensures, w .4 .ensures) (worked-pop _ _ _ _ _ _ _ _ _ _ inv (in-kinds t) (w .0 .taken) n _)) (w .6) (w .7) (w .8))
+    worked-as _ _ _ _ _ _ _ _ _ _ (rw (w .4 .ensures) (worked-pop _ _ _ _ _ _ _ _ _ _ inv (in-kinds t) (w .0 .taken) n _)) (w .5) (w .6) (w .7))
     (λ w.
     let few : head t .loop .count < 18 = omega (arith, w .1 .left, inv .few) in
     worked-as _ _ _ _ _ _ _ _ _ _ (rw (w .2 .ensures) (worked-push _ _ _ _ _ _ _ _ _ _ inv (in-kinds t) (w .0 .left) few)) (w .3) (w .4) (w .5))
@@ -127,9 +124,8 @@ shallow-spec =
     sub-count
     mul-x
     array-copy-out-x
-    shared-slice-read-operator-of
-    operator-of-requires
-    join-requires
+    shared-slice-read-join-by
+    join-by-requires
     returns-2
     mul-waiting
     array-set-from-waiting
