@@ -18,8 +18,7 @@
  * - Nobody else writes what is lent, or reads what is written, during the call.
  *   The library keeps no pointer and no state: calls on different memory may run
  *   at the same time.
- * - A run needs about 700 KB of stack, the other functions less. A thread that
- *   calls one has 1 MiB left.
+ * - A call needs up to about 900 KB of stack. A thread that makes one has 1 MiB left.
  */
 #ifndef PLOT_H
 #define PLOT_H
@@ -43,7 +42,7 @@ enum plot_length {
 /* The places of answer. Every call fills all of it; a place that has no meaning
  * for it is 0. */
 enum plot_answer {
-    PLOT_ANSWER_LINE = 0,       /* the line, counted from 1, for the refusals 7 to 15 */
+    PLOT_ANSWER_LINE = 0,       /* the line, counted from 1, for the refusals 7 to 15, 24 and 25 */
     PLOT_ANSWER_FINISHED = 1,   /* runs: the finished steps, for 20 and 21 too */
     PLOT_ANSWER_EXCHANGES = 2,  /* plot_run_messages: the exchanges of these steps */
     PLOT_ANSWER_MESSAGES = 3,   /* plot_run_messages: the messages of these steps */
@@ -63,8 +62,9 @@ enum plot_kind {
     PLOT_READ = 1  /* u gets to know the value of the chain */
 };
 
-/* The numbers of refusals. They are asked in this order, and the first that holds
- * is the answer; within a register cell by cell, within a text line by line. */
+/* The numbers of refusals. They are asked in this order, but 24 and 25 behind 12, and
+ * the first that holds is the answer; within a register cell by cell, within a text
+ * line by line. */
 enum plot_refusal {
     PLOT_REFUSAL_FILE_LENGTH = 1,    /* the register file has the wrong length */
     PLOT_REFUSAL_SIZE = 2,           /* a size of the register is over its limit */
@@ -86,7 +86,9 @@ enum plot_refusal {
     PLOT_REFUSAL_OUTPUT = 18,        /* the output is not as long as the register file */
     PLOT_REFUSAL_SCRATCH = 19,       /* a working array is too short */
     PLOT_REFUSAL_BUDGET = 20,        /* the budget is spent, and there is a step to do */
-    PLOT_REFUSAL_RANGE = 21          /* a sum or total is out of range */
+    PLOT_REFUSAL_RANGE = 21,         /* a sum or total is out of range */
+    PLOT_REFUSAL_GROUPS = 24,        /* groups stand more than 8 deep */
+    PLOT_REFUSAL_OPERATORS = 25      /* an expression has more than 64 operators */
 };
 
 /*
@@ -119,7 +121,7 @@ uint32_t plot_path(const uint8_t *file, size_t file_length, const uint8_t *text,
 /*
  * Checks a rules text for a register.
  *
- * Refusals 1 to 5; 6 to 15. Otherwise answer has the number of steps and the most
+ * Refusals 1 to 5; 6 to 15, 24, 25. Otherwise answer has the number of steps and the most
  * plan lines of any step, by which the working arrays of a run are measured.
  */
 uint32_t plot_check(const uint8_t *file, size_t file_length, const uint8_t *text, size_t text_length,
@@ -128,7 +130,7 @@ uint32_t plot_check(const uint8_t *file, size_t file_length, const uint8_t *text
 /*
  * Makes the plan of a step, counted from 1.
  *
- * Refusals 1 to 5; 6 to 15; 17. Otherwise, for each line i: kinds[i] is its kind,
+ * Refusals 1 to 5; 6 to 15, 24, 25; 17. Otherwise, for each line i: kinds[i] is its kind,
  * rounds[i] its round, and chains[16 * i] to chains[16 * i + 15] have the letters of
  * its hops from the inside out, "AAM" for M[A[A[u]]], with 0 behind the last. Places
  * behind the last line become 0. On a refusal the three arrays stay as they were.
@@ -139,7 +141,7 @@ uint32_t plot_plan(const uint8_t *file, size_t file_length, const uint8_t *text,
 /*
  * Inspects a step, counted from 1, over the register as it is, after its round t.
  *
- * Refusals 1 to 5; 6 to 15; 17; 19. Otherwise, for each line i and record u, place
+ * Refusals 1 to 5; 6 to 15, 24, 25; 17; 19. Otherwise, for each line i and record u, place
  * i * n + u: marks has 1 if the message of that line for that record was sent in the
  * rounds 1 to t, and values then has what was read (Read) or the record that it went
  * to (Back); else both are 0. Places behind the step's last line stay. On a refusal
@@ -158,13 +160,14 @@ uint32_t plot_inspect(const uint8_t *file, size_t file_length, const uint8_t *te
  * least n * (L + r + m + 1) places each, n, r and m being the sizes of the register and
  * L the most plan lines of any step (plot_check); n * (64 + r + m + 1) always do.
  *
- * Refusals 1 to 5; 6 to 15; 18; 19: nothing is written but answer. Otherwise out is the
- * register at the end and the result 0; or the run was stopped, 20 or 21, and out is a
- * copy of file. What the working arrays hold afterwards means nothing.
+ * Refusals 1 to 5; 6 to 15, 24, 25; 18; 19: nothing is written but answer. Otherwise out
+ * is the register at the end and the result 0; or the run was stopped, 20 or 21, and out
+ * is a copy of file. What the working arrays hold afterwards means nothing.
  *
- * 21 names the first overflow: the lowest record at which a rule forms a sum out of range
- * and the field that the earliest such rule writes; only where no record has one, the
- * lowest record and in it the first field with a remote total out of range.
+ * 21 names the first overflow: the lowest record at which a rule forms a sum out of range,
+ * in its test, in what it stores or in the amount that it writes, and the field that the
+ * earliest such rule writes; only where no record has one, the lowest record and in it the
+ * first field with a remote total out of range.
  */
 uint32_t plot_run_direct(const uint8_t *file, size_t file_length, const uint8_t *text, size_t text_length,
                          uint16_t budget, uint8_t *out, size_t out_length, int64_t *values, size_t values_length,

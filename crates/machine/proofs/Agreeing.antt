@@ -1,7 +1,7 @@
 -- Readers that agree on the readings of some rules: each law says that a definition of the machine makes the same of them by both.
 use Prim.Native.Nat.{ℕ, zero, suc, _<_}
 use mathlib.Core.Path.{_≡_, refl, ap, ap₂, _∙_}
-use mathlib.Core.Bool.{Bool, cond, _&&_}
+use mathlib.Core.Bool.{Bool, cond, _&&_, _||_}
 use mathlib.Core.List.{List, [], _∷_, _++_, List·Memᴰ, List·Memᴰ·head, Memᴰ·append-left, Memᴰ·append-right}
 use mathlib.Core.Option.{Option, some}
 use native.Mathlib.Omega.{arith}
@@ -12,7 +12,7 @@ use Rattle.chain.specs.Word.{column}
 use Rattle.program.specs.Program.{Expression, reading, constant, operation, Test, always, when, Target, own, remote, Rule, expressionReadings, testReadings, targetReadings, ruleReadings, readings, targetField}
 use Rattle.machine.specs.declared.message.Message.{Message}
 use Rattle.machine.specs.Value.{combined, value, overflows, compareReadings, holds}
-use Rattle.machine.specs.Local.{assign, localRule, localRules, localRecords, offends, sumColumn}
+use Rattle.machine.specs.Local.{assign, localRule, localRules, localRecords, testOverflows, offends, sumColumn}
 use Rattle.machine.specs.Remote.{sentTo, sentBy, ruleMessages, messages, recordMessages, deliverAll}
 use Rattle.machine.specs.Step.{stepCells, offence}
 use Rattle.machine.proofs.Stops.{sumOffence-agree}
@@ -57,15 +57,23 @@ module _ (read read′ : List ℕ → Reading) where
       let (a, b) = agree-parts (expressionReadings x) (expressionReadings y) h in
       ap₂ (compareReadings c) (value-agree x a) (value-agree y b)
 
+  pub testOverflows-agree : (t : Test) → Agree read read′ (testReadings t) → testOverflows read t ≡ testOverflows read′ t
+  unfolding testReadings testOverflows
+  testOverflows-agree always h = refl
+  testOverflows-agree (when x c y) h =
+      let (a, b) = agree-parts (expressionReadings x) (expressionReadings y) h in
+      ap₂ _||_ (overflows-agree x a) (overflows-agree y b)
+
   -- what is sent to a target
   sentBy-agree : (t : Target) (x : Reading) → Agree read read′ (targetReadings t) → sentBy read t x ≡ sentBy read′ t x
   unfolding targetReadings sentBy
   sentBy-agree (own f) x h = refl
   sentBy-agree (remote k f c) x h = ap (λ (d : Reading). sentTo k f d x) (h c (List·Memᴰ·head refl))
 
-  -- a rule: its test holds by both or by none, and they agree on the readings of its target and of its expression
+  -- a rule: its test holds and a sum of it leaves the range by both or by none, and they agree on the readings of its target and of its expression
   record RuleAgree (r : Rule) : Type 0 where
     test : holds read (r .test) ≡ holds read′ (r .test)
+    sums : testOverflows read (r .test) ≡ testOverflows read′ (r .test)
     target : Agree read read′ (targetReadings (r .target))
     expression : Agree read read′ (expressionReadings (r .expression))
 
@@ -74,13 +82,15 @@ module _ (read read′ : List ℕ → Reading) where
   rule-agree r h =
       let (a, b) = agree-parts (testReadings (r .test)) (targetReadings (r .target) ++ expressionReadings (r .expression)) h in
       let (c, d) = agree-parts (targetReadings (r .target)) (expressionReadings (r .expression)) b in
-      record { test = holds-agree (r .test) a; target = c; expression = d }
+      record { test = holds-agree (r .test) a; sums = testOverflows-agree (r .test) a; target = c; expression = d }
 
   -- whether a sum of it offends, what it stores, and what it sends
   module _ (r : Rule) (h : Agree read read′ (ruleReadings r)) where
     pub offends-agree : offends read r ≡ offends read′ r
     unfolding offends
-    offends-agree = let k = rule-agree r h in ap₂ _&&_ (k .test) (overflows-agree (r .expression) (k .expression))
+    offends-agree =
+        let k = rule-agree r h in
+        ap₂ _||_ (k .sums) (ap₂ _&&_ (k .test) (overflows-agree (r .expression) (k .expression)))
 
     pub localRule-agree : (s : Sizes) (u : ℕ) (cells : List Cell) → localRule s read u r cells ≡ localRule s read′ u r cells
     unfolding localRule

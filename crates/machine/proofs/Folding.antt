@@ -57,6 +57,21 @@ module _ (s : Sizes) (read : List ℕ → Reading) where
   unfolding sumColumn
   sumColumn-more qs r e h = sumColumn-behind qs (r ∷ []) e ∙ rw h
 
+  -- where none offends, none does behind others
+  pub sumColumn-each : (qs : List Rule) (r : Rule) (rs : List Rule) → sumColumn s read (qs ++ r ∷ rs) ≡ none → offends read r ≡ false
+  unfolding sumColumn
+  sumColumn-each [] r rs e = go (offends read r) e
+    where
+      go : (t : Bool) → cond t (some (column s (targetField (r .target)))) (sumColumn s read rs) ≡ none → t ≡ false
+      go true e = absurd (let z : _≡_ {A = ℕ} 0 1 = cc in omega arith)
+      go false e = refl
+  sumColumn-each (q ∷ qs) r rs e = go (offends read q) (sumColumn-each qs r rs) e
+    where
+      go : (t : Bool) → (sumColumn s read (qs ++ r ∷ rs) ≡ none → offends read r ≡ false)
+          → cond t (some (column s (targetField (q .target)))) (sumColumn s read (qs ++ r ∷ rs)) ≡ none → offends read r ≡ false
+      go true h e = absurd (let z : _≡_ {A = ℕ} 0 1 = cc in omega arith)
+      go false h e = h e
+
 -- messages delivered in two parts
 pub deliverAll-append : (s : Sizes) (cells : List Cell) (ms ns : List Message) → deliverAll s cells (ms ++ ns) ≡ deliverAll s (deliverAll s cells ms) ns
 unfolding deliverAll

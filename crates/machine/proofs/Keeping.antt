@@ -8,6 +8,7 @@ use native.Mathlib.Omega.{arith}
 use lib.IntN.{ℤ}
 use mir.Syntax.{w32}
 use mir.Val.{SFits}
+use lib.Signed.{ltZ}
 use Rattle.integers.specs.Range.{inRange}
 use Rattle.laws.proofs.Bools.{and-both, true-false, cond-both}
 use Rattle.integers.proofs.Complement.{range-fits, fits-range}
@@ -20,14 +21,15 @@ use Rattle.chain.specs.declared.reading.Reading.{Reading}
 use Rattle.chain.specs.declared.reading.Reading.the-variants.{Missing, Value}
 use Rattle.chain.specs.Word.{isReference, Passes, readOf, refersTo, readingValue}
 use Rattle.chain.proofs.ReadOf.{read-value}
+use Rattle.program.specs.declared.rule.Operator.the-variants.{Plus, Minus, Smaller}
 use Rattle.program.specs.declared.rule.Sort.{Sort}
 use Rattle.program.specs.declared.rule.Sort.the-variants.{Least, Total}
 use Rattle.program.specs.Program.{Expression, reading, constant, operation, Target, own, remote, Rule, targetField}
 use Rattle.laws.specs.Lists.{Each}
-use Rattle.program.specs.Passed.{isReferenceWord, isReferenceExpression, ExpressionPasses, TargetPasses, RulePasses, RulesPass}
+use Rattle.program.specs.Passed.{isReferenceWord, takesReferences, isReferenceExpression, ExpressionPasses, TargetPasses, RulePasses, RulesPass}
 use Rattle.laws.proofs.Lists.{each-append}
 use Rattle.machine.specs.declared.message.Message.{Message}
-use Rattle.machine.specs.Value.{both, value, holds, readingInRange, cellInRange}
+use Rattle.machine.specs.Value.{both, operate, combined, value, holds, readingInRange, cellInRange}
 use Rattle.machine.specs.Local.{storedOver, assign, localRule, localRules, localRecords}
 use Rattle.machine.specs.Remote.{sentTo, sentBy, ruleMessages, messages, recordMessages, isLowered, smaller, merged, deliver, deliverAll}
 use Rattle.machine.specs.Step.{stepCells, offence}
@@ -65,6 +67,13 @@ unfolding merged smaller
 merged-refers n Least c a h hc ha = cond-both (λ c. refersWithin n c ≡ true) (isLowered (readOf c) a) _ _ ha hc
 merged-refers n Total c a h hc ha = absurd (h refl)
 
+-- `<?` of two references is one of them, or missing
+smaller-refers : (n : ℕ) (x y : Reading) → refersTo n x ≡ true → refersTo n y ≡ true → refersTo n (combined Smaller x y) ≡ true
+unfolding combined both operate refersTo
+smaller-refers n Missing y hx hy = refl
+smaller-refers n (Value a) Missing hx hy = refl
+smaller-refers n (Value a) (Value b) hx hy = cond-both (λ z. refersTo n (Value z) ≡ true) (ltZ b a) b a hy hx
+
 -- what a message does to its cell
 abbrev Sound : Sizes → Message → Type 0
 Sound s m = Change s (m .field) (λ c. merged (m .sort) c (m .amount))
@@ -81,12 +90,15 @@ sent-sound s k f (Value v) (Value a) m w =
 -- one record, whose reference words lead to records
 module _ (s : Sizes) (lim : Limits s) (read : List ℕ → Reading)
     (within : (w : List ℕ) → Passes s w → isReferenceWord w ≡ true → refersTo (s .records) (read w) ≡ true) where
-  -- so do its reference expressions, for a number or a sum is none
+  -- so do its reference expressions: a number or a sum is none, and `<?` is one of its operands
   value-refers : (x : Expression) → ExpressionPasses s x → isReferenceExpression x ≡ true → refersTo (s .records) (value read x) ≡ true
-  unfolding isReferenceExpression value
+  unfolding takesReferences isReferenceExpression value
   value-refers (reading w) k e = within w k e
   value-refers (constant z) k e = true-false e refl
-  value-refers (operation op x y) k e = true-false e refl
+  value-refers (operation Plus x y) k e = true-false e refl
+  value-refers (operation Minus x y) k e = true-false e refl
+  value-refers (operation Smaller x y) k e =
+      smaller-refers _ _ _ (value-refers x (k .0 .0) (k .0 .1 ∙ e)) (value-refers y (k .1 .0) (k .1 .1 ∙ e))
 
   -- and what a rule writes to a reference
   written : (r : Rule) → RulePasses s r → Change s (targetField (r .target)) (storedOver (value read (r .expression)))

@@ -1,5 +1,5 @@
 -- Local rules: what a rule stores in its own record, and the sums that it forms.
-use mathlib.Core.Bool.{Bool, cond, _&&_}
+use mathlib.Core.Bool.{Bool, false, cond, _&&_, _||_}
 use mathlib.Core.List.{List, [], _∷_}
 use mathlib.Core.Option.{Option, none, some}
 use Prim.Native.Nat.{ℕ, zero, suc}
@@ -11,7 +11,7 @@ use Rattle.register.specs.declared.cells.Cell.the-variants.{Missing as Unfilled
 use Rattle.chain.specs.declared.reading.Reading.{Reading}
 use Rattle.chain.specs.declared.reading.Reading.the-variants.{Missing, Value}
 use Rattle.chain.specs.Word.{column}
-use Rattle.program.specs.Program.{Target, own, remote, Rule, targetField}
+use Rattle.program.specs.Program.{Test, always, when, Target, own, remote, Rule, targetField}
 use Rattle.machine.specs.Value.{value, overflows, holds}
 
 -- what `:=` makes of a cell: "`:=` with an unfilled reading or sum now leaves the cell as earlier rules of that step left it"
@@ -39,9 +39,14 @@ unfoldable pub localRecords : Sizes → (ℕ → List ℕ → Reading) → List 
 localRecords s read rs zero cells = cells
 localRecords s read rs (suc n) cells = localRules s (read n) n rs (localRecords s read rs n cells)
 
--- whether a rule is done and a sum of it leaves the range
+-- whether a sum of a test leaves the range: of either side, even where the other one is unfilled
+unfoldable pub testOverflows : (List ℕ → Reading) → Test → Bool
+testOverflows read always = false
+testOverflows read (when x c y) = overflows read x || overflows read y
+
+-- whether a sum of a rule leaves the range: one of its test, or one of its expression where the test holds
 unfoldable pub offends : (List ℕ → Reading) → Rule → Bool
-offends read r = holds read (r .test) && overflows read (r .expression)
+offends read r = testOverflows read (r .test) || holds read (r .test) && overflows read (r .expression)
 
 -- the column that the earliest rule writes whose sum leaves the range: "in it, the field written by the earliest such rule", even
 -- where a later one overwrites it; a remote rule's is F of `remote F[C]`

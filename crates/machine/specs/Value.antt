@@ -1,5 +1,5 @@
 -- Expressions and tests at one record. `read` is what the record reads for each word: this is all in which the machines differ.
-use mathlib.Core.Bool.{Bool, true, false, not, _||_}
+use mathlib.Core.Bool.{Bool, true, false, cond, not, _||_}
 use mathlib.Core.List.{List}
 use Prim.Native.Nat.{ℕ}
 use lib.IntN.{ℤ, _+ℤ_, _-ℤ_}
@@ -10,7 +10,7 @@ use Rattle.chain.specs.declared.reading.Reading.{Reading}
 use Rattle.chain.specs.declared.reading.Reading.the-variants.{Missing, Value}
 use Rattle.chain.specs.Word.{readOf}
 use Rattle.program.specs.declared.rule.Operator.{Operator}
-use Rattle.program.specs.declared.rule.Operator.the-variants.{Plus, Minus}
+use Rattle.program.specs.declared.rule.Operator.the-variants.{Plus, Minus, Smaller}
 use Rattle.program.specs.declared.rule.Comparison.{Comparison}
 use Rattle.program.specs.declared.rule.Comparison.the-variants.{Less, Equal, Unequal}
 use Rattle.program.specs.Program.{Expression, reading, constant, operation, Test, always, when}
@@ -21,12 +21,13 @@ both else f Missing y = else
 both else f (Value a) Missing = else
 both else f (Value a) (Value b) = f a b
 
--- `+`, `-`
+-- `+`, `-`, and "`<?` (the smaller; both kinds)", of references by record number
 unfoldable pub operate : Operator → ℤ → ℤ → ℤ
 operate Plus a b = a +ℤ b
 operate Minus a b = a -ℤ b
+operate Smaller a b = cond (ltZ b a) b a
 
--- an operation on two readings: "a sum with an unfilled side is unfilled"
+-- an operation on two readings: "Any unfilled operand makes the whole unfilled."
 unfoldable pub combined : Operator → Reading → Reading → Reading
 combined op x y = both Missing (λ a b. Value (operate op a b)) x y
 
@@ -45,7 +46,7 @@ readingInRange (Value z) = inRange z
 unfoldable pub cellInRange : Cell → Bool
 cellInRange c = readingInRange (readOf c)
 
--- whether a sum that is formed for an expression leaves the range
+-- whether a sum that is formed for an expression leaves the range: "Each inner sum is checked for range .. when all its operands are filled"
 unfoldable pub overflows : (List ℕ → Reading) → Expression → Bool
 overflows read (reading w) = false
 overflows read (constant z) = false

@@ -19,6 +19,7 @@ use Rattle.plan_lines.proofs.Appending.{holds-count}
 use Rattle.program.specs.declared.setting.Setting.the-variants.{Single}
 use Rattle.program.specs.Program.{Step, Program, mostLines, stepPlan}
 use Rattle.text_rules.specs.Text.{lines, start, readFrom, textProgram, check, rulesAt, PlanResult, planResult, planOfStep}
+use Rattle.program.specs.Code.{Codes}
 use Rattle.program.specs.Kept.{programOf, Framed}
 use Rattle.text_reader.specs.Answers.{checkOutcome, Answers}
 use Rattle.op_check.specs.StepPlan.{zip, linesOf, planOutcome, PlanAnswers, StepFound, RefusedPlan}
@@ -57,12 +58,12 @@ number-positive MissingValue = omega arith
 number-positive Reference = omega arith
 
 -- an answer that is refused, and one that is not
-module _ {o : Outcome Program} {r : Checked} (a : Answers o r) where
+module _ {k : Codes} {places : List ℕ} {o : Outcome Program} {r : Checked} (a : Answers k places o r) where
   pub answered-refused : (r .refusal ≡ 0 → ⊥) → o ≡ refused (r .refusal) (r .line)
   unfolding checkOutcome
-  answered-refused h = sym (a .outcome-is) ∙ refuse-none (r .refusal) (r .line) (O.done (programOf (r .program))) h
+  answered-refused h = sym (a .outcome-is) ∙ refuse-none (r .refusal) (r .line) (O.done (programOf k (r .program))) h
 
-  pub answered-program : r .refusal ≡ 0 → o ≡ O.done (programOf (r .program))
+  pub answered-program : r .refusal ≡ 0 → o ≡ O.done (programOf k (r .program))
   unfolding checkOutcome unless
   answered-program h = sym (a .outcome-is) ∙ rw h
 

@@ -1,2 +1,3 @@
--- What the plan of a step answers.
+-- What the check and the plan of a step answer.
+pub mod Checked
 pub mod StepPlan

@@ -2,45 +2,94 @@
 ghost use Prim.Native.Nat.{_≤_};
 ghost use Rattle.register.specs.Shape.{Limits};
 ghost use Rattle.laws.specs.Outcome.{refused as refusedWith};
+ghost use Rattle.program.specs.Code.{codesKept};
 ghost use Rattle.text_rules.specs.Text.{textProgram, check as checkOf};
-ghost use Rattle.text_reader.specs.Answers.{Answers};
+ghost use Rattle.text_reader.specs.Answers.{CodeArrays, Answers};
+ghost use Rattle.op_check.specs.Checked.{Checks};
 use register::LoadAnswer;
 use register::Sizes;
 use text_reader::Checked;
 
 // A refusal that names no line. The program is that of the empty text.
-fn refused(number: u32) -> Checked
-    requires { ⌜ 1 ≤ number ⌝ }
-    ensures { λ r. ⌜ Answers (refusedWith number 0) r ⌝ }
+fn refused(
+    number: u32,
+    kinds: &mut [u8],
+    numbers: &mut [i32],
+    chains: &mut [u64],
+    places: &mut [u8],
+) -> Checked
+    requires { ⌜ (1 ≤ number) × CodeArrays (now kinds) (now numbers) (now chains) (now places) ⌝ }
+    ensures { λ r. ⌜ Answers (codesKept (now (kinds .exit)) (now (numbers .exit)) (now (chains .exit))) (now (places .exit)) (refusedWith number 0) r ⌝ }
 {
     let sizes = Sizes {
         records: 0,
         references: 0,
         measures: 0,
     };
-    let mut checked = text_reader::read_lines(b"", sizes);
+    let mut checked = text_reader::read_lines(b"", sizes, kinds, numbers, chains, places);
     checked.refusal = number;
     checked.line = 0;
     checked
 }
 
 // The program of a text, which has at most 8,192 bytes.
-fn read_text(text: &[u8], sizes: Sizes) -> Checked
-    requires { ⌜ Limits sizes ⌝ }
-    ensures { λ r. ⌜ Answers (textProgram sizes (now (text .entry))) r ⌝ }
+fn read_text(
+    text: &[u8],
+    sizes: Sizes,
+    kinds: &mut [u8],
+    numbers: &mut [i32],
+    chains: &mut [u64],
+    places: &mut [u8],
+) -> Checked
+    requires { ⌜ Limits sizes × CodeArrays (now kinds) (now numbers) (now chains) (now places) ⌝ }
+    ensures { λ r. ⌜ Answers (codesKept (now (kinds .exit)) (now (numbers .exit)) (now (chains .exit))) (now (places .exit))
+        (textProgram sizes (now (text .entry))) r ⌝ }
 {
     if 8192 < text.len() {
-        return refused(6);
+        return refused(6, kinds, numbers, chains, places);
     }
-    text_reader::read_lines(text, sizes)
+    text_reader::read_lines(text, sizes, kinds, numbers, chains, places)
 }
 
-// The program of a text over a register, or why either is refused.
-pub fn check(file: &[u8], text: &[u8]) -> Checked
-    ensures { λ r. ⌜ Answers (checkOf (now (file .entry)) (now (text .entry))) r ⌝ }
+// The program of a text over a register, or why either is refused; the codes of its expressions are in the lent arrays.
+pub fn read(
+    file: &[u8],
+    text: &[u8],
+    kinds: &mut [u8],
+    numbers: &mut [i32],
+    chains: &mut [u64],
+    places: &mut [u8],
+) -> Checked
+    requires { ⌜ CodeArrays (now kinds) (now numbers) (now chains) (now places) ⌝ }
+    ensures { λ r. ⌜ Answers (codesKept (now (kinds .exit)) (now (numbers .exit)) (now (chains .exit))) (now (places .exit))
+        (checkOf (now (file .entry)) (now (text .entry))) r ⌝ }
 {
     match register::load(file) {
-        LoadAnswer::Loaded(sizes) => read_text(text, sizes),
-        LoadAnswer::Refused(refusal) => refused(register::number_of(refusal)),
+        LoadAnswer::Loaded(sizes) => read_text(text, sizes, kinds, numbers, chains, places),
+        LoadAnswer::Refused(refusal) => refused(
+            register::number_of(refusal),
+            kinds,
+            numbers,
+            chains,
+            places,
+        ),
     }
+}
+
+// The same for who has no use for the codes.
+pub fn check(file: &[u8], text: &[u8]) -> Checked
+    ensures { λ r. ⌜ Checks (checkOf (now (file .entry)) (now (text .entry))) r ⌝ }
+{
+    let mut kinds = [0u8; 8192];
+    let mut numbers = [0i32; 8192];
+    let mut chains = [0u64; 8192];
+    let mut places = [0u8; 8192];
+    read(
+        file,
+        text,
+        &mut kinds,
+        &mut numbers,
+        &mut chains,
+        &mut places,
+    )
 }

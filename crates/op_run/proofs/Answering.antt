@@ -19,7 +19,7 @@ use Rattle.text_rules.specs.Text.{check}
 use Rattle.machine.specs.Run.{Ending, complete, exhausted, offended, Run, direct, run, scratch, isShort}
 use Rattle.op_check.proofs.Passed.{loaded}
 use Rattle.machine_messages.specs.declared.Machine.{Machine}
-use Rattle.run_steps.specs.Answer.{EndsBy, EndsAs}
+use Rattle.run_steps.specs.Answer.{EndsBy, EndsAs, Ends}
 use Rattle.run_steps.specs.declared.RunAnswer.{RunAnswer}
 use Rattle.op_run.specs.Direct.{Lengths, runProgram, directRun}
 use Rattle.op_run.specs.Answer.{refusedWith, Ended, RunAnswered, Answered}
@@ -67,6 +67,11 @@ module _ (s : Sizes) (cells : List Cell) (file out : List ℕ) (r : RunAnswer) w
   ended-refused complete h z = absurd (z (ap (λ (x : RunAnswer). x .refusal) (h .0)))
   ended-refused exhausted h z = (h, refl)
   ended-refused (offended o) h z = (h, refl)
+
+-- a run over a copy of the register
+pub over-copy : {m : Machine} (p : Program) (budget : ℕ) {s s′ : Sizes} {copy file out : List ℕ} {r : RunAnswer} → s ≡ s′ → copy ≡ file
+    → Ends m s p budget copy out r → Ends m s′ p budget file out r
+over-copy p budget e f h = rw (e, f) at h
 
 -- a run, as the code tells it, and the register copied over a refusal
 module _ {m : Machine} {x : Run} {file out : List ℕ} {r : RunAnswer} {values values′ : List ℤ} {marks marks′ : List ℕ} (e : EndsAs m (sizesOf file) x out r)

@@ -47,7 +47,18 @@ fn run_text(
     ensures { λ r. ⌜ Answered machine (directRun (now (file .entry)) (now (text .entry)) budget (lengths (now (out .entry)) (now (values .entry)) (now (marks .entry))))
         (now (file .entry)) (now (out .entry)) (now (values .entry)) (now (marks .entry)) (now (out .exit)) (now (values .exit)) (now (marks .exit)) r ⌝ }
 {
-    let checked = check::check(file, text);
+    let mut kinds = [0u8; 8192];
+    let mut numbers = [0i32; 8192];
+    let mut chains = [0u64; 8192];
+    let mut places = [0u8; 8192];
+    let checked = check::read(
+        file,
+        text,
+        &mut kinds,
+        &mut numbers,
+        &mut chains,
+        &mut places,
+    );
     if checked.refusal != 0 {
         return refused(checked.refusal, checked.line);
     }
@@ -60,7 +71,19 @@ fn run_text(
         return refused(19, 0);
     }
     copy(file, out);
-    let answer = run_steps::run_program(out, values, marks, sizes, program, machine, budget);
+    let answer = run_steps::run_program(
+        out,
+        values,
+        marks,
+        sizes,
+        &kinds,
+        &numbers,
+        &chains,
+        &places,
+        program,
+        machine,
+        budget,
+    );
     if answer.refusal != 0 {
         copy(file, out);
     }

@@ -12,21 +12,25 @@ use Rattle.chain_text.specs.Text as C
 use Rattle.chain_text.specs.Scan.{startsWith}
 use Rattle.plan_theory.specs.Plan.{plan, addReadings, add, withTree as planLines, listed, lineIndex, sameFact, sameWord, tree, treeWithin, half, doubled, front, rest}
 use Rattle.laws.specs.Bytes.{bytes}
-use Rattle.text_forms.specs.Numeral.{isDigit, digits, decimal, allDigits, centimetres, wholeDigits, noLeadingZero, twoDecimals, isNumeral, withDecimals, numeral, printedNumeral, signedForm, numberForm, numberValue, signedValue}
-use Rattle.text_forms.specs.Token.{capital, then, literal, or, finished}
-use Rattle.text_forms.specs.Term.{ofNumber, ofChain, termForm}
-use Rattle.text_forms.specs.Line.{assigned, localForm, sentForms, remoteForm, actionForm, ruleLine, compared, testedForm, lineForm}
-use Rattle.text_forms.specs.Parts.{numbersInRange, termInRange, short, termShort, kinded, kindsAgree, actionKinds, areMeasures, conditionKinds, sameKind, isReferenceTerm, termKinded, named, fieldNamed, termNamed, target, everyTerm, terms, actionTerms, conditionTerms}
+use Rattle.text_numerals.specs.Numeral.{isDigit, digits, decimal, allDigits, centimetres, wholeDigits, noLeadingZero, twoDecimals, isNumeral, withDecimals, numeral, printedNumeral, signedForm, numberValue, signedValue}
+use Rattle.text_numerals.specs.Span.{span}
+use Rattle.text_numerals.specs.Word.{opensWith}
+use Rattle.text_syntax.specs.Lexing.{spelled, words, signs, fixedToken, numberToken, firstToken, operandBehind, isSpace, unlessEmpty, skipped, followed, tokensFrom, tokensAt, tokens}
+use Rattle.text_syntax.specs.Kind.{kind, fixedIn, letterIn, writeIn, operatorIn, comparisonIn, same, is}
+use Rattle.text_syntax.specs.Form.{held, oneOf, past, then, thenOr, or, whole}
+use Rattle.text_syntax.specs.Grammar.{linked, chainForm, numberIn, termForm, groupForm, operandForm, isSum, isSmaller, operatorForm, joinedTo, joined, expressionForm, expression, localForm, sentForm, remoteForm, ruleForm, comparedForm, testedForm, anyForm, lineForm}
+use Rattle.text_syntax.specs.Parts.{conditionExpressions, actionExpressions, expressions, everyExpression, everyTerm, termsPass, target, termNamed, fieldNamed, named, termKinded, isReferenceTerm, isReference, isMeasure, oneKind, sameKind, conditionKinds, actionKinds, kindsAgree, kinded, termShort, short, termInRange, numbersInRange, depth, shallow, operators, fewOperators}
+use Rattle.text_syntax.specs.Tree.{termTree, treeOf, testOf, targetOf, sourceOf, ruleOf}
 use Rattle.text_rules.specs.Check.{lineRefusal, planFits, sortsAgree, oneSort, hasRoom, inPlace, openRules, isOpen, isUsed, isOutside}
 use Rattle.program.specs.declared.rule.Operator.the-variants.{Plus}
 use Rattle.program.specs.declared.rule.Sort.the-variants.{Total}
 use Rattle.program.specs.Program.{Expression, reading, constant, operation, always, Target, own, remote, Rule, Step, Program, expressionReadings, testReadings, targetReadings, ruleReadings, readings, stepPlan, isLeast, isTotal, someTarget}
-use Rattle.text_rules.specs.Text.{textProgram, readFrom, start, closedText, lineOutcome, advance, closeLoop, lastOf, settingIn, withStep, writtenRule as programRule, writtenTarget, writtenExpression, writtenTest, writtenTerm, pieceForm, lines, onto}
+use Rattle.text_rules.specs.Text.{textProgram, readFrom, start, closedText, lineOutcome, advance, closeLoop, lastOf, settingIn, withStep, pieceForm, lines, onto}
 use Rattle.program.specs.declared.setting.Setting.the-variants.{Single, Looped}
 
 -- the program of a text over a register of n records with the fields A and M
 unfoldable pub exampleProgram : ℕ → String → Outcome Program
-unfolding textProgram readFrom start closedText lineOutcome advance closeLoop lastOf settingIn withStep programRule writtenTarget writtenExpression writtenTest writtenTerm pieceForm lines onto after unless lineRefusal planFits sortsAgree oneSort someTarget isTotal isLeast hasRoom inPlace openRules isOpen isUsed isOutside numbersInRange termInRange short termShort kinded kindsAgree actionKinds areMeasures conditionKinds sameKind isReferenceTerm termKinded named fieldNamed termNamed target everyTerm terms actionTerms conditionTerms lineForm testedForm compared ruleLine actionForm remoteForm sentForms localForm assigned termForm ofChain ofNumber capital then literal or finished isDigit digits decimal allDigits centimetres wholeDigits noLeadingZero twoDecimals isNumeral withDecimals numeral printedNumeral signedForm numberForm numberValue signedValue inRange startsWith C.isCapital C.closed C.form C.letterField C.isReferenceLetter C.names every C.innerReferences C.wordOf stepPlan readings ruleReadings targetReadings testReadings expressionReadings plan addReadings add planLines listed lineIndex sameFact sameWord tree treeWithin half doubled front rest
+unfolding textProgram readFrom start closedText lineOutcome advance closeLoop lastOf settingIn withStep pieceForm lines onto after unless lineRefusal planFits sortsAgree oneSort someTarget isTotal isLeast hasRoom inPlace openRules isOpen isUsed isOutside isDigit digits decimal allDigits centimetres wholeDigits noLeadingZero twoDecimals isNumeral withDecimals numeral printedNumeral signedForm numberValue signedValue span opensWith spelled words signs fixedToken numberToken firstToken operandBehind isSpace unlessEmpty skipped followed tokensFrom tokensAt tokens kind fixedIn letterIn writeIn operatorIn comparisonIn same is held oneOf past then thenOr or whole linked chainForm numberIn termForm groupForm operandForm isSum isSmaller operatorForm joinedTo joined expressionForm expression localForm sentForm remoteForm ruleForm comparedForm testedForm anyForm lineForm conditionExpressions actionExpressions expressions everyExpression everyTerm termsPass target termNamed fieldNamed named termKinded isReferenceTerm isReference isMeasure oneKind sameKind conditionKinds actionKinds kindsAgree kinded termShort short termInRange numbersInRange depth shallow operators fewOperators termTree treeOf testOf targetOf sourceOf ruleOf inRange startsWith C.isCapital C.letterField C.isReferenceLetter C.names every C.innerReferences C.wordOf stepPlan readings ruleReadings targetReadings testReadings expressionReadings plan addReadings add planLines listed lineIndex sameFact sameWord tree treeWithin half doubled front rest
 exampleProgram n t = textProgram (record { records = n; references = 1; measures = 1 }) (bytes t)
 
 -- a rule without a test, and a step outside loops

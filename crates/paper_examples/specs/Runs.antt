@@ -12,7 +12,7 @@ use Rattle.register.specs.declared.cells.Cell.the-variants.{Missing, Measured, 
 use Rattle.chain.specs.Word.{isReference, column, readOf, readCell, hop, follow, valueAtRecord}
 use Rattle.program.specs.Program.{Step, Program, targetField}
 use Rattle.machine.specs.Value.{both, operate, combined, value, readingInRange, cellInRange, overflows, holds}
-use Rattle.machine.specs.Local.{storedOver, assign, localRule, localRules, localRecords, offends, sumColumn}
+use Rattle.machine.specs.Local.{storedOver, assign, localRule, localRules, localRecords, testOverflows, offends, sumColumn}
 use Rattle.machine.specs.Remote.{sentTo, sentBy, ruleMessages, messages, recordMessages, added, increased, merged, deliver, deliverAll}
 use Rattle.machine.specs.Step.{stepCells, earlier, firstSome, inRecord, sumOffence, totalColumn, totalOffence, offence}
 use Rattle.machine.specs.Run.{Run, complete, exhausted, offended, direct, sameReading, sameColumn, entered, following, behind, unlessOffended, stepFirst, runFrom, run}
@@ -21,7 +21,7 @@ use Rattle.paper_examples.specs.Programs.{printedStep, earlierStep, ownS
 
 -- the run of the direct machine: a program with a budget over the cells of a register
 unfoldable pub exampleRun : Sizes → Program → ℕ → List Cell → Run
-unfolding inRange eqZ width cellIndex isReference column readOf readCell hop follow valueAtRecord both operate combined value readingInRange cellInRange overflows holds targetField storedOver assign localRule localRules localRecords offends sumColumn sentTo sentBy ruleMessages messages recordMessages added increased merged deliver deliverAll stepCells earlier firstSome inRecord sumOffence totalColumn totalOffence offence direct sameReading sameColumn entered following behind unlessOffended stepFirst runFrom run
+unfolding inRange eqZ width cellIndex isReference column readOf readCell hop follow valueAtRecord both operate combined value readingInRange cellInRange overflows holds targetField storedOver assign localRule localRules localRecords testOverflows offends sumColumn sentTo sentBy ruleMessages messages recordMessages added increased merged deliver deliverAll stepCells earlier firstSome inRecord sumOffence totalColumn totalOffence offence direct sameReading sameColumn entered following behind unlessOffended stepFirst runFrom run
 exampleRun s program budget cells = run s (direct s) program budget cells
 
 -- over the printed register, "allowance 1,000"

@@ -1,1 +1,1 @@
-// The worked examples of document 01, as theorems about the definitions: see specs/.
+// The worked examples of documents 01 and 02, as theorems about the definitions: see specs/.

@@ -13,7 +13,7 @@ use Rattle.register.specs.File.{sizesOf, cellCount}
 use Rattle.register.specs.Load.{withinLimits, load, loadSized}
 use Rattle.register.specs.declared.Sizes.{Sizes}
 use Rattle.program.specs.Program.{Program}
-use Rattle.text_forms.specs.Written.{Line}
+use Rattle.text_syntax.specs.Written.{Line}
 use Rattle.text_rules.specs.Check.{State, isOutside, isOpen}
 use Rattle.text_rules.specs.Text.{Piece, lineOutcome, closedText, readFrom, textProgram, check}
 

@@ -1,6 +1,7 @@
 -- The page, by what the program has of the run.
 use Prim.Native.Nat.{ℕ, _≤_, _<_}
 use mathlib.Core.Path.{_≡_, refl, sym, ap, _∙_}
+use mathlib.Core.Bool.{_||_}
 use mathlib.Core.List.{List}
 use mathlib.Core.Logic.{_≢_, ⊎-elim}
 use native.Mathlib.Omega.{arith}
@@ -54,7 +55,8 @@ pub record Figures (r : Ran) : Type 0 where
 
 behind-short : (n : ℕ) {line finished : ℕ} → Short line → Short finished → Short (behindAt n line finished)
 unfolding behindAt
-behind-short n {line} {finished} hl hf = cond-both Short (among 6 15 n) line _ hl (cond-both Short (among 20 21 n) finished 0 hf (omega arith))
+behind-short n {line} {finished} hl hf =
+    cond-both Short (among 6 15 n || among 24 25 n) line _ hl (cond-both Short (among 20 21 n) finished 0 hf (omega arith))
 
 -- the listing of a register that loads, with values that have room
 record Listed (file text out′ : List ℕ) (r : Ran) : Type 0 where

@@ -39,7 +39,7 @@ fn behind_at(refusal: u32, line: usize, finished: u16) -> usize
     ensures { λ r. ⌜ r ≡ behindAt refusal line finished ⌝ }
 {
     match refusal {
-        6..=15 => line,
+        6..=15 | 24 | 25 => line,
         20 | 21 => finished as usize,
         _ => 0,
     }

@@ -2,3 +2,5 @@
 pub mod Rules
 pub mod Frames
 pub mod Locations
+pub mod Codes
+pub mod Agreeing

@@ -9,18 +9,19 @@ use Rattle.plan_lines.specs.Held.{facts, HoldsLines}
 use Rattle.program.specs.Program.{Rule, Step, Program, stepPlan, writes, hasRemote, mostLines, someTarget}
 use Rattle.program.specs.declared.location.Located.{Located}
 use Rattle.program.specs.Stored.{rulesIn}
+use Rattle.program.specs.Code.{Codes}
 use Rattle.program.specs.Location.{LocatedAmong}
 use Rattle.program.specs.declared.frame.Frame.{Frame}
 use Rattle.program.specs.declared.Program as R
 
 -- the steps of these frames, each with 32 places: rule k of step s stands at 32 × s + k
-unfoldable pub stepsIn : List Located → List Frame → Program
-stepsIn slots [] = []
-stepsIn slots (f ∷ fs) = record { rules = rulesIn (f .rules) (take 32 slots); setting = f .setting } ∷ stepsIn (drop 32 slots) fs
+unfoldable pub stepsIn : Codes → List Located → List Frame → Program
+stepsIn k slots [] = []
+stepsIn k slots (f ∷ fs) = record { rules = rulesIn k (f .rules) (take 32 slots); setting = f .setting } ∷ stepsIn k (drop 32 slots) fs
 
--- the program that an array holds
-unfoldable pub programOf : R.Program → Program
-programOf p = stepsIn (p .slots) (take (p .steps) (p .frames))
+-- the program that an array holds, with the codes beside its rules
+unfoldable pub programOf : Codes → R.Program → Program
+programOf k p = stepsIn k (p .slots) (take (p .steps) (p .frames))
 
 -- what the frame of a step keeps of its rules: at most 32, whether one is remote, which fields they write, and their plan; 64 places tell which lines are read
 pub record FrameOf (f : Frame) (rs : List Rule) : Type 0 where
@@ -37,14 +38,15 @@ Framed [] (x ∷ xs) = ⊥
 Framed (f ∷ fs) (x ∷ xs) = FrameOf f (x .rules) × Framed fs xs
 
 -- the readings of each step's rules are located among the lines of its plan
-abbrev pub AllLocated : List Located → List Frame → Type 0
-AllLocated slots [] = Unit {0}
-AllLocated slots (f ∷ fs) = Each (LocatedAmong (facts (f .plan)) (f .wanted)) (take (f .rules) (take 32 slots)) × AllLocated (drop 32 slots) fs
+abbrev pub AllLocated : Codes → List ℕ → List Located → List Frame → Type 0
+AllLocated k places slots [] = Unit {0}
+AllLocated k places slots (f ∷ fs) =
+    Each (LocatedAmong (facts (f .plan)) (f .wanted) k places) (take (f .rules) (take 32 slots)) × AllLocated k places (drop 32 slots) fs
 
 -- 32 places for each of 32 steps, their readings located; its frames, its number of steps and its most lines are those of the program that its array holds
-pub record Complete (p : R.Program) : Type 0 where
+pub record Complete (k : Codes) (places : List ℕ) (p : R.Program) : Type 0 where
   pub slots-length : length (p .slots) ≡ 1024
-  pub framed : Framed (p .frames) (programOf p)
-  pub located : AllLocated (p .slots) (take (p .steps) (p .frames))
-  pub steps-are : p .steps ≡ length (programOf p)
-  pub lines-are : p .lines ≡ mostLines (programOf p)
+  pub framed : Framed (p .frames) (programOf k p)
+  pub located : AllLocated k places (p .slots) (take (p .steps) (p .frames))
+  pub steps-are : p .steps ≡ length (programOf k p)
+  pub lines-are : p .lines ≡ mostLines (programOf k p)

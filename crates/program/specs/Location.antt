@@ -1,5 +1,5 @@
 -- Where the readings of a rule are found: the own number of a record, its own cell of a field, or a line of the step's plan.
-use Prim.Native.Nat.{ℕ}
+use Prim.Native.Nat.{ℕ, _<_}
 use mathlib.Core.Path.{_≡_}
 use mathlib.Core.Bool.{Bool, true, false}
 use mathlib.Core.List.{List, [], _∷_}
@@ -7,37 +7,16 @@ use lib.ListN.{getD}
 use Rattle.chain.specs.Word.{unpack}
 use Rattle.plan_theory.specs.Plan.{Fact, read, lineIndex}
 use Rattle.program.specs.declared.term.Term.{Term}
-use Rattle.program.specs.declared.term.Term.the-variants.{Chain, Number}
+use Rattle.program.specs.declared.term.Term.the-variants.{Chain, Number, Tree}
 use Rattle.program.specs.declared.rule.Test.{Test}
 use Rattle.program.specs.declared.rule.Test.the-variants.{Always, When}
 use Rattle.program.specs.declared.rule.Rule.{Rule}
 use Rattle.program.specs.declared.rule.Rule.the-variants.{Set, Combine, Remote}
-use Rattle.program.specs.declared.rule.Slot.{Slot}
 use Rattle.program.specs.declared.location.Location.{Location}
 use Rattle.program.specs.declared.location.Location.the-variants.{Own, Cell, Line}
-use Rattle.program.specs.declared.location.Pair.{Pair}
-use Rattle.program.specs.declared.location.Readings.{Readings}
 use Rattle.program.specs.declared.location.Places.{Places}
-use Rattle.program.specs.declared.location.Locations.{Locations}
 use Rattle.program.specs.declared.location.Located.{Located}
-
--- the chain of a term: a number has the place of `u`, a reading that has no line
-unfoldable pub chainIn : Term → ℕ
-chainIn (Chain n) = n
-chainIn (Number z) = 0
-
--- the chains of a test, of a rule, and of both, from left to right
-unfoldable pub testChains : Test → Pair
-testChains Always = record { first = 0; second = 0 }
-testChains (When x c y) = record { first = chainIn x; second = chainIn y }
-
-unfoldable pub ruleChains : Rule → Pair
-ruleChains (Set f x) = record { first = chainIn x; second = 0 }
-ruleChains (Combine f op x y) = record { first = chainIn x; second = chainIn y }
-ruleChains (Remote k f c x) = record { first = c; second = chainIn x }
-
-unfoldable pub slotChains : Slot → Readings
-slotChains x = record { test = testChains (x .test); rule = ruleChains (x .rule) }
+use Rattle.program.specs.Code.{Codes, Arrays, Formed, codesOf, EachChain}
 
 -- where a word is found in a step whose plan has the lines l: "Read of at most one hop needs no line"
 unfoldable pub locationOf : List Fact → List ℕ → Location
@@ -45,28 +24,40 @@ locationOf l [] = Own
 locationOf l (f ∷ []) = Cell f
 locationOf l (f ∷ g ∷ w) = Line (lineIndex l (read (f ∷ g ∷ w)))
 
--- where these chains are found
-abbrev pub placesIn : List Fact → Pair → Places
-placesIn l p = record { first = locationOf l (unpack (p .first)); second = locationOf l (unpack (p .second)) }
-
-abbrev pub locationsIn : List Fact → Readings → Locations
-locationsIn l r = record { test = placesIn l (r .test); rule = placesIn l (r .rule) }
-
 -- a location that names no line, or one that is wanted
 abbrev pub Wants : List Bool → Location → Type 0
 Wants wanted Own = Unit {0}
 Wants wanted (Cell f) = Unit {0}
 Wants wanted (Line i) = getD wanted i false ≡ true
 
-pub record PlacesWanted (wanted : List Bool) (p : Places) : Type 0 where
-  pub first : Wants wanted (p .first)
-  pub second : Wants wanted (p .second)
+-- a word located among the lines l, its line being wanted
+pub record WordLocated (l : List Fact) (wanted : List Bool) (at : Location) (w : List ℕ) : Type 0 where
+  pub at-is : at ≡ locationOf l w
+  pub wants : Wants wanted at
 
-pub record AllWanted (wanted : List Bool) (at : Locations) : Type 0 where
-  pub test : PlacesWanted wanted (at .test)
-  pub rule : PlacesWanted wanted (at .rule)
+-- the codes from..to are those of an expression, and its chains are located among the lines l: the place of each as a number
+pub record TreeLocated (l : List Fact) (wanted : List Bool) (k : Codes) (places : List ℕ) (from to : ℕ) : Type 0 where
+  pub formed : Formed (codesOf k from to)
+  pub some : from < to
+  pub kept : Arrays (k .kinds) (k .numbers) places to
+  pub located : EachChain (WordLocated l wanted) (k .kinds) (k .chains) places from to
+
+-- where the readings of a term, of a test and of a rule are found
+abbrev pub TermLocated : List Fact → List Bool → Codes → List ℕ → Location → Term → Type 0
+TermLocated l wanted k places at (Chain c) = WordLocated l wanted at (unpack c)
+TermLocated l wanted k places at (Number z) = Unit {0}
+TermLocated l wanted k places at (Tree from to) = TreeLocated l wanted k places from to
+
+abbrev pub TestLocated : List Fact → List Bool → Codes → List ℕ → Places → Test → Type 0
+TestLocated l wanted k places p Always = Unit {0}
+TestLocated l wanted k places p (When x c y) = TermLocated l wanted k places (p .first) x × TermLocated l wanted k places (p .second) y
+
+abbrev pub RuleLocated : List Fact → List Bool → Codes → List ℕ → Places → Rule → Type 0
+RuleLocated l wanted k places p (Set f x) = TermLocated l wanted k places (p .first) x
+RuleLocated l wanted k places p (Combine f op x y) = TermLocated l wanted k places (p .first) x × TermLocated l wanted k places (p .second) y
+RuleLocated l wanted k places p (Remote sort f c x) = WordLocated l wanted (p .first) (unpack c) × TermLocated l wanted k places (p .second) x
 
 -- a rule whose readings are located among the lines l, those that it reads being wanted
-pub record LocatedAmong (l : List Fact) (wanted : List Bool) (x : Located) : Type 0 where
-  pub at-is : x .at ≡ locationsIn l (slotChains (x .slot))
-  pub wants : AllWanted wanted (x .at)
+pub record LocatedAmong (l : List Fact) (wanted : List Bool) (k : Codes) (places : List ℕ) (x : Located) : Type 0 where
+  pub test : TestLocated l wanted k places (x .at .test) (x .slot .test)
+  pub rule : RuleLocated l wanted k places (x .at .rule) (x .slot .rule)

@@ -11,6 +11,8 @@ use Rattle.register.specs.declared.Sizes.{Sizes}
 use Rattle.chain.specs.Word.{isReference, hasField, Passes}
 use Rattle.program.specs.declared.setting.Setting.{Setting}
 use Rattle.program.specs.declared.setting.Setting.the-variants.{Single, Looped}
+use Rattle.program.specs.declared.rule.Operator.{Operator}
+use Rattle.program.specs.declared.rule.Operator.the-variants.{Plus, Minus, Smaller}
 use Rattle.program.specs.declared.rule.Sort.{Sort}
 use Rattle.program.specs.declared.rule.Sort.the-variants.{Total}
 use Rattle.program.specs.Program.{Expression, reading, constant, operation, Test, always, when, Target, own, remote, Rule, Step, Program, stepPlan, targetField, someTarget, isLeast, isTotal}
@@ -22,17 +24,25 @@ isReferenceWord [] = true
 isReferenceWord (f ∷ []) = isReference f
 isReferenceWord (f ∷ g ∷ w) = isReferenceWord (g ∷ w)
 
+-- "`+`, `-` and `+=` take measures only"; "`<?` (the smaller; both kinds)"
+unfoldable pub takesReferences : Operator → Bool
+takesReferences Plus = false
+takesReferences Minus = false
+takesReferences Smaller = true
+
+-- the kind of an expression: an operation has that of its first operand, where its operator takes it
 unfoldable pub isReferenceExpression : Expression → Bool
 isReferenceExpression (reading w) = isReferenceWord w
 isReferenceExpression (constant z) = false
-isReferenceExpression (operation op x y) = false
+isReferenceExpression (operation op x y) = takesReferences op && isReferenceExpression x
 
--- "a number is a measure; `+`, `-` and `+=` take measures only"
+-- "a number is a measure"; both operands have the kind of the whole
 abbrev pub ExpressionPasses : Sizes → Expression → Type 0
 ExpressionPasses s (reading w) = Passes s w
 ExpressionPasses s (constant z) = inRange z ≡ true
 ExpressionPasses s (operation op x y) =
-    (ExpressionPasses s x × (isReferenceExpression x ≡ false)) × (ExpressionPasses s y × (isReferenceExpression y ≡ false))
+    let kind = isReferenceExpression (operation op x y) in
+    (ExpressionPasses s x × (isReferenceExpression x ≡ kind)) × (ExpressionPasses s y × (isReferenceExpression y ≡ kind))
 
 -- "Both sides of a rule or test have the same kind"
 abbrev pub TestPasses : Sizes → Test → Type 0

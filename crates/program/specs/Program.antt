@@ -12,7 +12,7 @@ use Rattle.program.specs.declared.rule.Sort.{Sort}
 use Rattle.program.specs.declared.rule.Sort.the-variants.{Least, Total}
 use Rattle.program.specs.declared.setting.Setting.{Setting}
 
--- "A term X or Y is a chain or a number": a chain by its hop word; a sum or difference is an operation on two
+-- "A term X or Y is a chain or a number": a chain by its hop word; `+`, `-` and `<?` are operations on two
 pub data Expression : Type 0 where
   reading : List ℕ → Expression
   constant : ℤ → Expression

@@ -8,25 +8,14 @@ pub enum Location {
     Line(u8),
 }
 
-// The chains of a test or of a rule, from left to right. A number has the place of the chain `u`.
-pub struct Pair {
-    pub first: u64,
-    pub second: u64,
-}
-
-// The chains of a rule with its test.
-pub struct Readings {
-    pub test: Pair,
-    pub rule: Pair,
-}
-
-// The locations of a pair of chains.
+// The locations of the two terms of a test or of a rule, from left to right, C standing for the first of a remote rule. A number
+// and an expression of several terms have the place of the chain `u`.
 pub struct Places {
     pub first: Location,
     pub second: Location,
 }
 
-// The locations of the chains of a rule with its test.
+// The locations of the terms of a rule with its test.
 pub struct Locations {
     pub test: Places,
     pub rule: Places,

@@ -1,10 +1,11 @@
 // Rules and tests, as a program holds them.
 use crate::term::Term;
 
-// `+`, `-`
+// `+`, `-`, `<?`
 pub enum Operator {
     Plus,
     Minus,
+    Smaller,
 }
 
 // `<?=`, `+=`

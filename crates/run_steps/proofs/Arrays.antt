@@ -9,6 +9,7 @@ use lib.Seq.{drop-drop, getD-take, getD-drop, length-take-le, take-suc, take-suc
 use Rattle.program.specs.declared.location.Located.{Located}
 use Rattle.program.specs.declared.setting.Setting.the-variants.{Single}
 use Rattle.program.specs.Program.{Step, Program}
+use Rattle.program.specs.Code.{Codes}
 use Rattle.program.specs.Stored.{rulesIn}
 use Rattle.program.specs.declared.frame.Frame.{Frame}
 use Rattle.laws.specs.Lists.{Each}
@@ -30,64 +31,64 @@ noFrame = record {
 }
 
 -- step i has the rules of its 32 places, and its frame's setting
-steps-at : (slots : List Located) (fs : List Frame) (i : ℕ) (d : Step) (e : Frame) → i < length fs
-    → getD (stepsIn slots fs) i d ≡ record { rules = rulesIn (getD fs i e .rules) (take 32 (drop (32 * i) slots)); setting = getD fs i e .setting }
+steps-at : (codes : Codes) (slots : List Located) (fs : List Frame) (i : ℕ) (d : Step) (e : Frame) → i < length fs
+    → getD (stepsIn codes slots fs) i d ≡ record { rules = rulesIn codes (getD fs i e .rules) (take 32 (drop (32 * i) slots)); setting = getD fs i e .setting }
 unfolding stepsIn
-steps-at slots [] i d e h = absurd (omega arith)
-steps-at slots (f ∷ fs) zero d e h = refl
-steps-at slots (f ∷ fs) (suc i) d e h =
+steps-at codes slots [] i d e h = absurd (omega arith)
+steps-at codes slots (f ∷ fs) zero d e h = refl
+steps-at codes slots (f ∷ fs) (suc i) d e h =
     let next : 32 + 32 * i ≡ 32 * suc i = omega arith in
-    steps-at (drop 32 slots) fs i d e (omega arith)
-    ∙ ap (λ (l : List Located). record { rules = rulesIn (getD fs i e .rules) (take 32 l); setting = getD fs i e .setting })
+    steps-at codes (drop 32 slots) fs i d e (omega arith)
+    ∙ ap (λ (l : List Located). record { rules = rulesIn codes (getD fs i e .rules) (take 32 l); setting = getD fs i e .setting })
     (drop-drop (32 * i) 32 slots ∙ ap (λ (k : ℕ). drop k slots) next)
 
-steps-length : (slots : List Located) (fs : List Frame) → length (stepsIn slots fs) ≡ length fs
+steps-length : (codes : Codes) (slots : List Located) (fs : List Frame) → length (stepsIn codes slots fs) ≡ length fs
 unfolding stepsIn
-steps-length slots [] = refl
-steps-length slots (f ∷ fs) = ap suc (steps-length (drop 32 slots) fs)
+steps-length codes slots [] = refl
+steps-length codes slots (f ∷ fs) = ap suc (steps-length codes (drop 32 slots) fs)
 
 -- the 32 places of step i, of which those of its rules are located
 abbrev pub placesOf : List Located → ℕ → List Located
 placesOf slots i = take 32 (drop (32 * i) slots)
 
-abbrev StepLocated : Frame → List Located → Type 0
-StepLocated f places = Each (LocatedAmong (facts (f .plan)) (f .wanted)) (take (f .rules) places)
+abbrev StepLocated : Codes → List ℕ → Frame → List Located → Type 0
+StepLocated codes chained f places = Each (LocatedAmong (facts (f .plan)) (f .wanted) codes chained) (take (f .rules) places)
 
-located-at : (slots : List Located) (fs : List Frame) (i : ℕ) (e : Frame) → i < length fs → AllLocated slots fs → StepLocated (getD fs i e) (placesOf slots i)
-located-at slots [] i e h k = absurd (omega arith)
-located-at slots (f ∷ fs) zero e h k = k .0
-located-at slots (f ∷ fs) (suc i) e h k =
+located-at : (codes : Codes) (chained : List ℕ) (slots : List Located) (fs : List Frame) (i : ℕ) (e : Frame) → i < length fs → AllLocated codes chained slots fs → StepLocated codes chained (getD fs i e) (placesOf slots i)
+located-at codes chained slots [] i e h k = absurd (omega arith)
+located-at codes chained slots (f ∷ fs) zero e h k = k .0
+located-at codes chained slots (f ∷ fs) (suc i) e h k =
     let next : 32 + 32 * i ≡ 32 * suc i = omega arith in
-    subst (λ (l : List Located). StepLocated (getD fs i e) (take 32 l)) (drop-drop (32 * i) 32 slots ∙ ap (λ (k : ℕ). drop k slots) next)
-    (located-at (drop 32 slots) fs i e (omega arith) (k .1))
+    subst (λ (l : List Located). StepLocated codes chained (getD fs i e) (take 32 l)) (drop-drop (32 * i) 32 slots ∙ ap (λ (k : ℕ). drop k slots) next)
+    (located-at codes chained (drop 32 slots) fs i e (omega arith) (k .1))
 
 -- step i of a program that is kept in its arrays
-pub record StepAt (p : R.Program) (i : ℕ) (f : Frame) (x : Step) : Type 0 where
+pub record StepAt (codes : Codes) (chained : List ℕ) (p : R.Program) (i : ℕ) (f : Frame) (x : Step) : Type 0 where
   pub frame : FrameOf f (x .rules)
   pub setting-is : x .setting ≡ f .setting
-  pub rules-are : x .rules ≡ rulesIn (f .rules) (placesOf (p .slots) i)
-  pub located : StepLocated f (placesOf (p .slots) i)
+  pub rules-are : x .rules ≡ rulesIn codes (f .rules) (placesOf (p .slots) i)
+  pub located : StepLocated codes chained f (placesOf (p .slots) i)
 
-pub step-at : (p : R.Program) (i : ℕ) (d : Step) (e : Frame) → Complete p → i < p .steps → StepAt p i (getD (p .frames) i e) (getD (programOf p) i d)
+pub step-at : (codes : Codes) (chained : List ℕ) (p : R.Program) (i : ℕ) (d : Step) (e : Frame) → Complete codes chained p → i < p .steps → StepAt codes chained p i (getD (p .frames) i e) (getD (programOf codes p) i d)
 unfolding programOf
-step-at p i d e k h =
+step-at codes chained p i d e k h =
     let fs = take (p .steps) (p .frames) in
-    let inside : i < length (programOf p) = omega (arith, k .steps-are) in
-    let there : i < length fs = omega (arith, steps-length (p .slots) fs, inside) in
-    let at = steps-at (p .slots) fs i d e there in
+    let inside : i < length (programOf codes p) = omega (arith, k .steps-are) in
+    let there : i < length fs = omega (arith, steps-length codes (p .slots) fs, inside) in
+    let at = steps-at codes (p .slots) fs i d e there in
     let same : getD fs i e ≡ getD (p .frames) i e = getD-take (p .steps) (p .frames) i e h in
     record {
-      frame = frame-at (p .frames) (programOf p) i d e (k .framed) inside;
+      frame = frame-at (p .frames) (programOf codes p) i d e (k .framed) inside;
       setting-is = ap (λ (x : Step). x .setting) at ∙ ap (λ (f : Frame). f .setting) same;
-      rules-are = ap (λ (x : Step). x .rules) at ∙ ap (λ (f : Frame). rulesIn (f .rules) (placesOf (p .slots) i)) same;
-      located = subst (λ (f : Frame). StepLocated f (placesOf (p .slots) i)) same (located-at (p .slots) fs i e there (k .located));
+      rules-are = ap (λ (x : Step). x .rules) at ∙ ap (λ (f : Frame). rulesIn codes (f .rules) (placesOf (p .slots) i)) same;
+      located = subst (λ (f : Frame). StepLocated codes chained f (placesOf (p .slots) i)) same (located-at codes chained (p .slots) fs i e there (k .located));
     }
 
 -- the 32 places of step i
 abbrev pub slotsAt : R.Program → ℕ → List Located
 slotsAt p i = placesOf (p .slots) i
 
-module _ (p : R.Program) (i : ℕ) (k : Complete p) (h : i < 32) where
+module _ {codes : Codes} {chained : List ℕ} (p : R.Program) (i : ℕ) (k : Complete codes chained p) (h : i < 32) where
   pub slots-length : length (slotsAt p i) ≡ 32
   slots-length = length-take-le 32 (drop (32 * i) (p .slots)) (omega (arith, length-drop (32 * i) (p .slots), k .slots-length))
 

@@ -13,6 +13,7 @@ use Rattle.register.specs.declared.cells.Cell.{Cell}
 use Rattle.register.specs.declared.cells.Cell.the-variants.{Missing}
 use Rattle.program.specs.declared.location.Located.{Located}
 use Rattle.program.specs.declared.frame.Frame.{Frame}
+use Rattle.program.specs.Code.{Codes}
 use Rattle.program.specs.Kept.{programOf}
 use Rattle.program.specs.declared.Program as R
 use Rattle.machine.specs.Run.{begins, direct}
@@ -52,12 +53,12 @@ kept-below {base} {j} {values} {values′} {marks} {marks′} h a =
       mark-is = sym (getD-take base marks′ j 0 h) ∙ ap (λ (l : List ℕ). getD l j 0) (a .marks-same) ∙ getD-take base marks j 0 h;
     }
 
-module _ {m : Machine} {s : Sizes} {p : R.Program} {budget : ℕ} {file : List ℕ} {step first finished : ℕ} {counts : Counts}
-    {out : List ℕ} {values : List ℤ} {marks : List ℕ} {f : Frame} {a : Turn m s p budget file step first finished counts out values marks f}
+module _ {m : Machine} {s : Sizes} {codes : Codes} {chained : List ℕ} {p : R.Program} {budget : ℕ} {file : List ℕ} {step first finished : ℕ} {counts : Counts}
+    {out : List ℕ} {values : List ℤ} {marks : List ℕ} {f : Frame} {a : Turn m s codes chained p budget file step first finished counts out values marks f}
     {places : List Located} {values₁ values₂ : List ℤ} {marks₁ marks₂ : List ℕ} {r : Counts} where
   -- a local sum is out of range
   pub ends-local : (b : Prepared a places values₁ marks₁ values₂ marks₂ r) {values₃ : List ℤ} {marks₃ : List ℕ} {u c : ℕ}
-      → Applied b values₃ marks₃ (At u c) → Ends m s (programOf p) budget file out (stoppedAt finished counts u c)
+      → Applied b values₃ marks₃ (At u c) → Ends m s (programOf codes p) budget file out (stoppedAt finished counts u c)
   unfolding direct
   ends-local b h =
       stands-offended (a .stands) (inside a) (a .later) (offence-sum s (direct s (rs a) (cells a)) (rs a) (cells a) (rw (rules-taken b) at (h .1)))
@@ -106,7 +107,7 @@ module _ {m : Machine} {s : Sizes} {p : R.Program} {budget : ℕ} {file : List �
 
     -- a total is out of range
     pub ends-total : {out′ : List ℕ} {o : Stop} {u c : ℕ} → Committed s (base a) (frame a .fields) values₄ marks₄ out out′ o → o ≡ At u c
-        → Ends m s (programOf p) budget file out′ (stoppedAt finished counts u c)
+        → Ends m s (programOf codes p) budget file out′ (stoppedAt finished counts u c)
     unfolding direct
     ends-total h e =
         stands-offended (a .stands) (inside a) (a .later) (total-stops s out (rs a) (d .all) (stop-first s after after-count (base a) after-held (rw e at h)))
@@ -172,7 +173,7 @@ module _ {m : Machine} {s : Sizes} {p : R.Program} {budget : ℕ} {file : List �
     pub next-stands : {first′ next finished′ : ℕ} {counts′ : Counts} → first′ ≡ cond (begins (frame a .setting)) step first
         → NextIs s (frame a .setting) (cellsOfFile s out′) (at a) values₄ marks₄ step first′ next → finished′ ≡ suc finished
         → counts′ ≡ countsAfter m counts r (frame a .remote) sent
-        → Stands m s (programOf p) (at a) budget file next first′ finished′ counts′ out′ values₄ marks₄
+        → Stands m s (programOf codes p) (at a) budget file next first′ finished′ counts′ out′ values₄ marks₄
     next-stands f n q c =
         let t = a .stands in
         let holds = at-step a .frame in

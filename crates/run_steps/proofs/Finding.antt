@@ -21,7 +21,7 @@ use Rattle.plan_theory.specs.Plan.{Fact, read, lineIndex, line}
 use Rattle.plan_theory.proofs.Kept.{plan-promise}
 use Rattle.plan_theory.proofs.Places.{place-line}
 use Rattle.program.specs.declared.term.Term.{Term}
-use Rattle.program.specs.declared.term.Term.the-variants.{Chain, Number}
+use Rattle.program.specs.declared.term.Term.the-variants.{Chain, Number, Tree}
 use Rattle.program.specs.declared.rule.Test.{Test}
 use Rattle.program.specs.declared.rule.Test.the-variants.{Always, When}
 use Rattle.program.specs.declared.rule.Rule.{Rule}
@@ -33,13 +33,15 @@ use Rattle.program.specs.Program as P
 use Rattle.program.specs.Program.{Target, own, remote, expressionReadings, testReadings, targetReadings, ruleReadings, readings, stepPlan}
 use Rattle.program.specs.Passed.{TargetPasses, RulePasses, RulesPass}
 use Rattle.program.specs.Stored.{termIn, testIn, targetIn, expressionIn, ruleIn, rulesIn}
-use Rattle.program.specs.Location.{chainIn, testChains, ruleChains, slotChains, locationOf, placesIn, Wants, PlacesWanted, LocatedAmong}
+use Rattle.program.specs.Code.{Codes, decoded, codeReadings, codesOf, treeIn}
+use Rattle.program.specs.Location.{locationOf, Wants, WordLocated, TreeLocated, TermLocated, TestLocated, RuleLocated, LocatedAmong}
+use Rattle.program.proofs.Codes.{postfix-readings, chain-listed}
 use Rattle.machine.specs.Run.{direct}
 use Rattle.machine.proofs.Readings.{rule-pass}
 use Rattle.machine.proofs.Direct.{direct-refers}
 use Rattle.scratch.specs.Places.{placeAt, storedAt}
 use Rattle.gather_follow.specs.Filled.{Filled}
-use Rattle.step_terms.specs.Found.{foundAt, followed, Reaches, WordFound, TermFound, TestFound, RuleFound, RuleReads}
+use Rattle.step_terms.specs.Found.{foundAt, followed, WordFound, TreeFound, TermFound, TestFound, RuleFound, RuleReads}
 use Rattle.step_rules.specs.Ready.{Targets, RuleReady, AllReady}
 
 -- the places of the lines that are wanted hold what is had by following
@@ -103,47 +105,57 @@ module _ (s : Sizes) (l : List Fact) (wanted : List Bool) (cells : List Cell) (v
         found-is = lines .holds i u (f ∷ g ∷ w) b inside e h;
       }
 
-  chain-found : (c : ℕ) {at : Location} → at ≡ locationOf l (unpack c) → Wants wanted at → WordPlanned s l (unpack c)
-      → WordFound s cells values marks u at (unpack c)
-  chain-found c e h p = rw e (word-found (unpack c) p (rw e at h))
+  located-found : (w : List ℕ) {at : Location} → WordLocated l wanted at w → WordPlanned s l w → WordFound s cells values marks u at w
+  located-found w h p = rw (h .at-is) (word-found w p (rw (h .at-is) at (h .wants)))
 
-  term-found : (x : Term) {at : Location} → at ≡ locationOf l (unpack (chainIn x)) → Wants wanted at → AllPlanned s l (expressionReadings (termIn x))
-      → TermFound s cells values marks u at x
-  unfolding chainIn termIn expressionReadings
-  term-found (Chain c) e h p = chain-found c e h (p (unpack c) (List·Memᴰ·head refl))
-  term-found (Number z) e h p = tt
+  module _ (codes : Codes) (chained : List ℕ) where
+    -- the chains of a tree are the readings of its expression
+    tree-found : {from to : ℕ} → TreeLocated l wanted codes chained from to → AllPlanned s l (expressionReadings (treeIn codes from to))
+        → TreeFound s cells values marks u codes chained from to
+    unfolding treeIn
+    tree-found {from} {to} h p = record {
+      formed = h .formed;
+      some = h .some;
+      kept = h .kept;
+      found = λ i a b k.
+          let words : codeReadings (codesOf codes from to) ≡ expressionReadings (decoded (codesOf codes from to)) =
+          ap codeReadings (h .formed) ∙ postfix-readings (decoded (codesOf codes from to)) in
+          located-found _ (h .located i a b k)
+          (p _ (subst (List·Memᴰ _) words (chain-listed (codes .kinds) (codes .numbers) (codes .chains) from to i a b k)));
+    }
 
-  terms-found : (x y : Term) {at : Places} → at ≡ placesIn l (record { first = chainIn x; second = chainIn y }) → PlacesWanted wanted at
-      → AllPlanned s l (expressionReadings (termIn x) ++ expressionReadings (termIn y))
-      → TermFound s cells values marks u (at .first) x × TermFound s cells values marks u (at .second) y
-  terms-found x y e h p =
-      let (a, b) = parts-planned s l _ _ p in
-      (term-found x (ap (λ (q : Places). q .first) e) (h .first) a, term-found y (ap (λ (q : Places). q .second) e) (h .second) b)
+    term-found : (x : Term) (at : Location) → TermLocated l wanted codes chained at x → AllPlanned s l (expressionReadings (termIn codes x))
+        → TermFound s cells values marks u codes chained at x
+    unfolding termIn expressionReadings
+    term-found (Chain c) at h p = located-found (unpack c) h (p (unpack c) (List·Memᴰ·head refl))
+    term-found (Number z) at h p = tt
+    term-found (Tree from to) at h p = tree-found h p
 
-  test-found : (t : Test) {at : Places} → at ≡ placesIn l (testChains t) → PlacesWanted wanted at → AllPlanned s l (testReadings (testIn t))
-      → TestFound s cells values marks u at t
-  unfolding testChains testIn testReadings
-  test-found Always e h p = tt
-  test-found (When x c y) e h p = terms-found x y e h p
+    terms-found : (x y : Term) (at : Places) → TermLocated l wanted codes chained (at .first) x × TermLocated l wanted codes chained (at .second) y
+        → AllPlanned s l (expressionReadings (termIn codes x) ++ expressionReadings (termIn codes y))
+        → TermFound s cells values marks u codes chained (at .first) x × TermFound s cells values marks u codes chained (at .second) y
+    terms-found x y at h p = let (a, b) = parts-planned s l _ _ p in (term-found x (at .first) (h .0) a, term-found y (at .second) (h .1) b)
 
-  rule-found : (x : Rule) {at : Places} → at ≡ placesIn l (ruleChains x) → PlacesWanted wanted at
-      → AllPlanned s l (targetReadings (targetIn x) ++ expressionReadings (expressionIn x)) → RuleFound s cells values marks u at x
-  unfolding ruleChains targetIn expressionIn targetReadings expressionReadings
-  rule-found (Set f x) e h p = term-found x (ap (λ (q : Places). q .first) e) (h .first) p
-  rule-found (Combine f op x y) e h p = terms-found x y e h p
-  rule-found (Remote k f c x) e h p = (
-    chain-found c (ap (λ (q : Places). q .first) e) (h .first) (p (unpack c) (List·Memᴰ·head refl)),
-    term-found x (ap (λ (q : Places). q .second) e) (h .second) (λ w m. p w (List·Memᴰ·tail m)),
-  )
+    test-found : (t : Test) (at : Places) → TestLocated l wanted codes chained at t → AllPlanned s l (testReadings (testIn codes t))
+        → TestFound s cells values marks u codes chained at t
+    unfolding testIn testReadings
+    test-found Always at h p = tt
+    test-found (When x c y) at h p = terms-found x y at h p
 
-  rule-reads : (x : Located) → LocatedAmong l wanted x → AllPlanned s l (ruleReadings (ruleIn (x .slot))) → RuleReads s cells values marks u x
-  unfolding slotChains ruleIn ruleReadings
-  rule-reads x a p =
-      let (t, r) = parts-planned s l _ _ p in
-      record {
-        test = test-found (x .slot .test) (ap (λ at. at .test) (a .at-is)) (a .wants .test) t;
-        rule = rule-found (x .slot .rule) (ap (λ at. at .rule) (a .at-is)) (a .wants .rule) r;
-      }
+    rule-found : (x : Rule) (at : Places) → RuleLocated l wanted codes chained at x
+        → AllPlanned s l (targetReadings (targetIn x) ++ expressionReadings (expressionIn codes x)) → RuleFound s cells values marks u codes chained at x
+    unfolding targetIn expressionIn targetReadings expressionReadings
+    rule-found (Set f x) at h p = term-found x (at .first) h p
+    rule-found (Combine f op x y) at h p = terms-found x y at h p
+    rule-found (Remote k f c x) at h p =
+        (located-found (unpack c) (h .0) (p (unpack c) (List·Memᴰ·head refl)), term-found x (at .second) (h .1) (λ w m. p w (List·Memᴰ·tail m)))
+
+    rule-reads : (x : Located) → LocatedAmong l wanted codes chained x → AllPlanned s l (ruleReadings (ruleIn codes (x .slot)))
+        → RuleReads s cells values marks u codes chained x
+    unfolding ruleIn ruleReadings
+    rule-reads x a p =
+        let (t, r) = parts-planned s l _ _ p in
+        record { test = test-found (x .slot .test) (x .at .test) (a .test) t; rule = rule-found (x .slot .rule) (x .at .rule) (a .rule) r }
 
 -- a target is a reference, so it leads to a record
 target-refers : {s : Sizes} {cells : List Cell} → Valid s cells → (u : ℕ) → u < s .records → (t : Target) → TargetPasses s t
@@ -166,15 +178,15 @@ rule-planned {s} {rs} {r} k m w i = record {
 }
 
 -- the located rules of a step
-module _ (s : Sizes) (n : ℕ) (slots : List Located) (passes : RulesPass s (rulesIn n slots)) (wanted : List Bool) where
-  pub all-ready : Each (LocatedAmong (stepPlan (rulesIn n slots)) wanted) (take n slots) → {cells : List Cell} {values : List ℤ} {marks : List ℕ}
-      → LinesHold s (stepPlan (rulesIn n slots)) wanted cells values marks → Valid s cells → AllReady s cells values marks (take n slots)
+module _ (s : Sizes) (codes : Codes) (chained : List ℕ) (n : ℕ) (slots : List Located) (passes : RulesPass s (rulesIn codes n slots)) (wanted : List Bool) where
+  pub all-ready : Each (LocatedAmong (stepPlan (rulesIn codes n slots)) wanted codes chained) (take n slots) → {cells : List Cell} {values : List ℤ} {marks : List ℕ}
+      → LinesHold s (stepPlan (rulesIn codes n slots)) wanted cells values marks → Valid s cells → AllReady s cells values marks codes chained (take n slots)
   unfolding rulesIn ruleIn
-  all-ready located {cells} {values} {marks} lines v = each-all (RuleReady s cells values marks) (take n slots) (λ x m.
-      let here = mem-map (λ (y : Located). ruleIn (y .slot)) m in
+  all-ready located {cells} {values} {marks} lines v = each-all (RuleReady s cells values marks codes chained) (take n slots) (λ x m.
+      let here = mem-map (λ (y : Located). ruleIn codes (y .slot)) m in
       let pass = each-of (RulePasses s) (passes .each) here in
       record {
-        found = λ u h. rule-reads s (stepPlan (rulesIn n slots)) wanted cells values marks lines u h x (each-of _ located m) (rule-planned passes here);
+        found = λ u h. rule-reads s (stepPlan (rulesIn codes n slots)) wanted cells values marks lines u h codes chained x (each-of _ located m) (rule-planned passes here);
         field = pass .field;
         targets = λ u h. target-refers v u h (targetIn (x .slot .rule)) (pass .target);
       })

@@ -8,6 +8,7 @@ use lib.ListN.{length, getD, take}
 use Rattle.register.specs.declared.Sizes.{Sizes}
 use Rattle.register.specs.declared.cells.Cell.{Cell}
 use Rattle.program.specs.declared.location.Located.{Located}
+use Rattle.program.specs.Code.{Codes}
 use Rattle.program.specs.Stored.{rulesIn}
 use Rattle.step_cells.specs.Work.{Same}
 use Rattle.step_cells.specs.declared.stop.Stop.{Stop}
@@ -28,39 +29,44 @@ pub record Taken (slots : List Located) (step used : ℕ) (rules : List Located)
   pub k≤ : k ≤ used
 
 -- the first k rules are done at record u, and no sum was out of range
-pub record RulesDone (s : Sizes) (cells : List Cell) (base : ℕ) (rules : List Located) (used u : ℕ)
+pub record RulesDone (s : Sizes) (cells : List Cell) (base : ℕ) (codes : Codes) (rules : List Located) (used u : ℕ)
     (values : List ℤ) (marks : List ℕ) (values′ : List ℤ) (marks′ : List ℕ) (stop : Stop) (k : ℕ) : Type 0 where
-  pub done : RecordDone s cells base rules u k values marks values′ marks′
+  pub done : RecordDone s cells base codes rules u k values marks values′ marks′
   pub nowhere : stop ≡ Nowhere
   pub k≤ : k ≤ used
 
 -- all rules are done at the records below u, and no sum was out of range
-pub record RecordsDone (s : Sizes) (cells : List Cell) (base : ℕ) (rules : List Located) (used : ℕ)
+pub record RecordsDone (s : Sizes) (cells : List Cell) (base : ℕ) (codes : Codes) (rules : List Located) (used : ℕ)
     (values : List ℤ) (marks : List ℕ) (values′ : List ℤ) (marks′ : List ℕ) (stop : Stop) (u : ℕ) : Type 0 where
   pub same : Same base values marks values′ marks′
-  pub done : LocalDone s cells base (rulesIn used rules) u values marks values′ marks′
+  pub done : LocalDone s cells base (rulesIn codes used rules) u values marks values′ marks′
   pub nowhere : stop ≡ Nowhere
   pub u≤ : u ≤ s .records
 
-module _ {s : Sizes} {cells : List Cell} {base : ℕ} {rules : List Located} {used : ℕ} {values : List ℤ} {marks : List ℕ} where
-  pub rules-first : {u : ℕ} {stop : Stop} → stop ≡ Nowhere → RulesDone s cells base rules used u values marks values marks stop 0
+module _ {s : Sizes} {cells : List Cell} {base : ℕ} {codes : Codes} {rules : List Located} {used : ℕ} {values : List ℤ} {marks : List ℕ} where
+  pub rules-first : {u : ℕ} {stop : Stop} → stop ≡ Nowhere → RulesDone s cells base codes rules used u values marks values marks stop 0
   rules-first e = record { done = record-start; nowhere = e; k≤ = omega arith }
 
-  pub records-first : RecordsDone s cells base rules used values marks values marks Nowhere 0
+  pub records-first : RecordsDone s cells base codes rules used values marks values marks Nowhere 0
   records-first = record { same = same-refl; done = records-start; nowhere = refl; u≤ = omega arith }
 
   module _ {values′ values″ : List ℤ} {marks′ marks″ : List ℕ} {stop : Stop} {u : ℕ} where
     -- one rule more at record u
-    pub rules-next : {k : ℕ} → RulesDone s cells base rules used u values marks values′ marks′ stop k → k < used → used ≤ length rules
-        → {stop′ : Stop} → stop′ ≡ Nowhere → (x : Located) → LocalRule s cells base u (ruleAt (getD rules k x)) values′ marks′ values″ marks″ stop′
-        → {k′ : ℕ} → k′ ≡ suc k → RulesDone s cells base rules used u values marks values″ marks″ stop′ k′
+    pub rules-next : {k : ℕ} → RulesDone s cells base codes rules used u values marks values′ marks′ stop k → k < used → used ≤ length rules
+        → {stop′ : Stop} → stop′ ≡ Nowhere → (x : Located) → LocalRule s cells base u (ruleAt codes (getD rules k x)) values′ marks′ values″ marks″ stop′
+        → {k′ : ℕ} → k′ ≡ suc k → RulesDone s cells base codes rules used u values marks values″ marks″ stop′ k′
     rules-next a h fits e x rule q =
         record { done = record-more (a .done) x (omega arith) (rw e at rule) q; nowhere = e; k≤ = omega arith }
 
+    -- under the names that a later state has
+    pub rules-as : {k : ℕ} {stop′ : Stop} → RulesDone s cells base codes rules used u values marks values′ marks′ stop k → values″ ≡ values′ → marks″ ≡ marks′
+        → stop′ ≡ stop → RulesDone s cells base codes rules used u values marks values″ marks″ stop′ k
+    rules-as a v m q = rw (v, m, q) a
+
     -- one record more
-    pub records-next : RecordsDone s cells base rules used values marks values′ marks′ stop u → u < s .records
-        → {stop′ : Stop} {k : ℕ} → RulesDone s cells base rules used u values′ marks′ values″ marks″ stop′ k → used ≤ k
-        → {u′ : ℕ} → u′ ≡ suc u → RecordsDone s cells base rules used values marks values″ marks″ stop′ u′
+    pub records-next : RecordsDone s cells base codes rules used values marks values′ marks′ stop u → u < s .records
+        → {stop′ : Stop} {k : ℕ} → RulesDone s cells base codes rules used u values′ marks′ values″ marks″ stop′ k → used ≤ k
+        → {u′ : ℕ} → u′ ≡ suc u → RecordsDone s cells base codes rules used values marks values″ marks″ stop′ u′
     records-next a h b all q =
         record {
           same = same-then (a .same) (b .done .same);
@@ -70,21 +76,21 @@ module _ {s : Sizes} {cells : List Cell} {base : ℕ} {rules : List Located} {us
         }
 
   -- what the loops leave: all records are done, or one rule's sum is out of range
-  module _ {values′ : List ℤ} {marks′ : List ℕ} {stop : Stop} {u : ℕ} (a : RecordsDone s cells base rules used values marks values′ marks′ stop u)
+  module _ {values′ : List ℤ} {marks′ : List ℕ} {stop : Stop} {u : ℕ} (a : RecordsDone s cells base codes rules used values marks values′ marks′ stop u)
       {valuesₑ : List ℤ} {marksₑ : List ℕ} {stopₑ r : Stop} (e : stopₑ ≡ r) where
     pub left-behind : s .records ≤ u → valuesₑ ≡ values′ → marksₑ ≡ marks′ → stopₑ ≡ stop
-        → LocalAnswer s cells base (rulesIn used rules) values marks valuesₑ marksₑ r
+        → LocalAnswer s cells base (rulesIn codes used rules) values marks valuesₑ marksₑ r
     left-behind h v m t = rw (sym e ∙ t ∙ a .nowhere, v, m) (a .same, records-all (omega (arith, a .u≤)) (a .done))
 
     pub left-within : {values″ values‴ : List ℤ} {marks″ marks‴ : List ℕ} {stop′ stop″ : Stop} {k v c : ℕ} → u < s .records
-        → RulesDone s cells base rules used u values′ marks′ values″ marks″ stop′ k → k < used → used ≤ length rules
+        → RulesDone s cells base codes rules used u values′ marks′ values″ marks″ stop′ k → k < used → used ≤ length rules
         → stop″ ≡ At v c → valuesₑ ≡ values‴ → marksₑ ≡ marks‴ → stopₑ ≡ stop″
-        → (x : Located) → LocalRule s cells base u (ruleAt (getD rules k x)) values″ marks″ values‴ marks‴ stop″
-        → LocalAnswer s cells base (rulesIn used rules) values marks valuesₑ marksₑ r
+        → (x : Located) → LocalRule s cells base u (ruleAt codes (getD rules k x)) values″ marks″ values‴ marks‴ stop″
+        → LocalAnswer s cells base (rulesIn codes used rules) values marks valuesₑ marksₑ r
     left-within {k = k} row b h fits o vₑ mₑ t x rule =
         let inside : k < length rules = omega arith in
         let stops = rw o at rule in
         rw (sym e ∙ t ∙ o, vₑ, mₑ) (
           same-then (same-then (a .same) (b .done .same)) (stops .0),
-          record-stops rules k x inside h row (a .done .in-range) (b .done .in-range) (stops .1),
+          record-stops codes rules k x inside h row (a .done .in-range) (b .done .in-range) (stops .1),
         )

@@ -1,11 +1,16 @@
 -- One turn of the run's loop: what the step at hand asks for, until its readings are gathered.
 use Prim.Native.Nat.{ℕ, zero, suc, _+_, _*_, _≤_, _<_}
 use mathlib.Core.Path.{_≡_, refl, sym, ap, subst, _∙_}
+use mathlib.Core.Bool.{Bool, true, _&&_}
 use mathlib.Core.List.{List, [], _∷_, map}
 use native.Mathlib.Omega.{arith}
 use native.Mathlib.Nat.{mul-le-mul-right}
 use lib.IntN.{ℤ}
 use lib.ListN.{length, getD, take, set, length-set}
+use lib.Seq.{getD-set-same, take-suc-set}
+use Rattle.laws.proofs.Bools.{and-both}
+use Rattle.laws.proofs.Lists.{each-append}
+use Rattle.step_expressions.specs.Plain.{plainSlot}
 use Rattle.register.specs.File.{cellCount, cellsOfFile}
 use Rattle.register.specs.Shape.{Limits}
 use Rattle.register.specs.declared.Sizes.{Sizes}
@@ -15,6 +20,7 @@ use Rattle.plan_lines.proofs.Appending.{holds-count}
 use Rattle.program.specs.declared.location.Located.{Located}
 use Rattle.program.specs.Program.{Rule, Step, Program, readings, stepPlan, hasRemote, mostLines}
 use Rattle.program.specs.Passed.{SettingPasses, StepPasses, ProgramPasses}
+use Rattle.program.specs.Code.{Codes}
 use Rattle.program.specs.Stored.{ruleIn, rulesIn}
 use Rattle.program.specs.declared.frame.Frame.{Frame}
 use Rattle.program.specs.Kept.{programOf, Complete}
@@ -27,7 +33,7 @@ use Rattle.scratch.proofs.Placed.{kept-again}
 use Rattle.gather_follow.specs.Filled.{Filled}
 use Rattle.step_cells.specs.Work.{Room, HoldsCells, Same, Small}
 use Rattle.step_cells.proofs.Working.{room-same, small-held}
-use Rattle.step_rules.specs.Ready.{RuleReady, AllReady, LocalDone, LocalAnswer}
+use Rattle.step_rules.specs.Ready.{RuleReady, AllReady, AllPlain, LocalDone, LocalAnswer}
 use Rattle.step_rules.proofs.Locals.{ready-at}
 use Rattle.step_cells.specs.declared.stop.Stop.{Stop}
 use Rattle.run_loop.specs.Column.{Space, Entered}
@@ -46,37 +52,55 @@ lines-most [] i d h = absurd (omega arith)
 lines-most (x ∷ xs) zero d h = omega arith
 lines-most (x ∷ xs) (suc i) d h = omega (arith, lines-most xs i d (omega arith))
 
--- the frame and the rules that are held are those of a step
-pub record Held (slots : List Located) (frames : List Frame) (step : ℕ) (f : Frame) (rules : List Located) : Type 0 where
+-- the frame and the rules that are held are those of a step, and a flag tells whether these are plain
+pub record Held (slots : List Located) (frames : List Frame) (step : ℕ) (f : Frame) (rules : List Located) (plain : Bool) : Type 0 where
   pub frame-is : f ≡ getD frames step noFrame
   pub rules-are : Taken slots step (f .rules) rules (f .rules)
+  pub plain-are : AllPlain plain (take (f .rules) rules)
 
-module _ {slots : List Located} {frames : List Frame} {step : ℕ} {f g : Frame} {rules rules′ : List Located} where
+module _ {slots : List Located} {frames : List Frame} {step : ℕ} {f g : Frame} {rules rules′ : List Located} {plain plain′ : Bool} where
   -- they are taken anew
-  pub held-anew : {k : ℕ} → g ≡ getD frames step noFrame → Taken slots step (g .rules) rules k → g .rules ≤ k → rules′ ≡ rules → f ≡ g
-      → Held slots frames step f rules′
-  held-anew {k} e h l p q =
+  pub held-anew : {k : ℕ} → g ≡ getD frames step noFrame → Taken slots step (g .rules) rules k × AllPlain plain (take k rules) → g .rules ≤ k
+      → rules′ ≡ rules → f ≡ g → plain′ ≡ plain → Held slots frames step f rules′ plain′
+  held-anew {k} e (h, a) l p q r =
       let all : k ≡ g .rules = omega (arith, h .k≤) in
-      rw (p, q) (record { frame-is = e; rules-are = subst (Taken slots step (g .rules) rules) all h })
+      rw (p, q, r) (record {
+        frame-is = e;
+        rules-are = subst (Taken slots step (g .rules) rules) all h;
+        plain-are = subst (λ (i : ℕ). AllPlain plain (take i rules)) all a;
+      })
 
   -- they are those of the step before, which is the same step
-  pub held-still : {taken : ℕ} → Held slots frames taken g rules → taken ≡ step → rules′ ≡ rules → f ≡ g → Held slots frames step f rules′
-  held-still h e p q = rw (← e, p, q) h
+  pub held-still : {taken : ℕ} → Held slots frames taken g rules plain → taken ≡ step → rules′ ≡ rules → f ≡ g → plain′ ≡ plain
+      → Held slots frames step f rules′ plain′
+  held-still h e p q r = rw (← e, p, q, r) h
+
+abbrev IsPlain : Located → Type 0
+IsPlain x = plainSlot (x .slot) ≡ true
+
+-- one plain rule more
+pub plain-more : {plain plain′ : Bool} (rules : List Located) (k : ℕ) (x y : Located) → k < length rules → plain′ ≡ plain && plainSlot (getD (set rules k x) k y .slot)
+    → AllPlain plain (take k rules) → AllPlain plain′ (take (k + 1) (set rules k x))
+plain-more {plain} rules k x y h q a e =
+    let next : k + 1 ≡ suc k = omega arith in
+    let same = getD-set-same rules k x y h in
+    let (before, here) = and-both plain (plainSlot (getD (set rules k x) k y .slot)) (sym q ∙ e) in
+    rw (next, take-suc-set rules k x h) (each-append IsPlain (take k rules) (x ∷ []) (a before) (subst IsPlain same here, tt))
 
 -- The loop's turn for step `step` of the program p: the run stands before it, and the budget allows it.
-pub record Turn (m : Machine) (s : Sizes) (p : R.Program) (budget : ℕ) (file : List ℕ) (step first finished : ℕ) (counts : Counts)
+pub record Turn (m : Machine) (s : Sizes) (codes : Codes) (chained : List ℕ) (p : R.Program) (budget : ℕ) (file : List ℕ) (step first finished : ℕ) (counts : Counts)
     (out : List ℕ) (values : List ℤ) (marks : List ℕ) (f : Frame) : Type 0 where
   pub held : f ≡ getD (p .frames) step noFrame
-  pub complete : Complete p
-  pub passes : ProgramPasses s (programOf p)
+  pub complete : Complete codes chained p
+  pub passes : ProgramPasses s (programOf codes p)
   pub few-lines : p .lines ≤ 64
   pub whole : length file ≡ 12 + 5 * cellCount s
-  pub stands : Stands m s (programOf p) (p .lines * s .records) budget file step first finished counts out values marks
+  pub stands : Stands m s (programOf codes p) (p .lines * s .records) budget file step first finished counts out values marks
   pub more : step < p .steps
   pub later : finished < budget
 
-module _ {m : Machine} {s : Sizes} {p : R.Program} {budget : ℕ} {file : List ℕ} {step first finished : ℕ} {counts : Counts}
-    {out : List ℕ} {values : List ℤ} {marks : List ℕ} {f : Frame} (a : Turn m s p budget file step first finished counts out values marks f) where
+module _ {m : Machine} {s : Sizes} {codes : Codes} {chained : List ℕ} {p : R.Program} {budget : ℕ} {file : List ℕ} {step first finished : ℕ} {counts : Counts}
+    {out : List ℕ} {values : List ℤ} {marks : List ℕ} {f : Frame} (a : Turn m s codes chained p budget file step first finished counts out values marks f) where
   abbrev pub frame : Frame
   frame = f
 
@@ -89,7 +113,7 @@ module _ {m : Machine} {s : Sizes} {p : R.Program} {budget : ℕ} {file : List �
   abbrev pub cells : List Cell
   cells = cellsOfFile s out
 
-  abbrev t : Stands m s (programOf p) at budget file step first finished counts out values marks
+  abbrev t : Stands m s (programOf codes p) at budget file step first finished counts out values marks
   t = a .stands
 
   pub limits : Limits s
@@ -101,7 +125,7 @@ module _ {m : Machine} {s : Sizes} {p : R.Program} {budget : ℕ} {file : List �
   pub out-length : length out ≡ length file
   out-length = out-whole ∙ sym (a .whole)
 
-  pub inside : step < length (programOf p)
+  pub inside : step < length (programOf codes p)
   inside = omega (arith, a .more, a .complete .steps-are)
 
   pub few-steps : step < 32
@@ -114,8 +138,8 @@ module _ {m : Machine} {s : Sizes} {p : R.Program} {budget : ℕ} {file : List �
   abbrev pub rs : List Rule
   rs = stepHere .rules
 
-  pub at-step : StepAt p step frame stepHere
-  at-step = rw (a .held) (step-at p step noStep noFrame (a .complete) (a .more))
+  pub at-step : StepAt codes chained p step frame stepHere
+  at-step = rw (a .held) (step-at codes chained p step noStep noFrame (a .complete) (a .more))
 
   pub step-passes : StepPasses s stepHere
   step-passes = running-passes (t .running) (comes t inside) (a .passes)
@@ -158,7 +182,7 @@ module _ {m : Machine} {s : Sizes} {p : R.Program} {budget : ℕ} {file : List �
 
   lines-room : frame .plan .count * s .records ≤ at
   lines-room =
-      let most = lines-most (programOf p) step noStep inside in
+      let most = lines-most (programOf codes p) step noStep inside in
       let count : frame .plan .count ≤ p .lines = omega (arith, holds-count (at-step .frame .holds), most, a .complete .lines-are) in
       mul-le-mul-right (s .records) count
 
@@ -184,8 +208,8 @@ module _ {m : Machine} {s : Sizes} {p : R.Program} {budget : ℕ} {file : List �
       record { taken = subst (Taken (p .slots) step (frame .rules) places) all h; entered = e; gathered = g }
 
 -- then the step can be run
-module _ {m : Machine} {s : Sizes} {p : R.Program} {budget : ℕ} {file : List ℕ} {step first finished : ℕ} {counts : Counts}
-    {out : List ℕ} {values : List ℤ} {marks : List ℕ} {f : Frame} {a : Turn m s p budget file step first finished counts out values marks f}
+module _ {m : Machine} {s : Sizes} {codes : Codes} {chained : List ℕ} {p : R.Program} {budget : ℕ} {file : List ℕ} {step first finished : ℕ} {counts : Counts}
+    {out : List ℕ} {values : List ℤ} {marks : List ℕ} {f : Frame} {a : Turn m s codes chained p budget file step first finished counts out values marks f}
     {places : List Located} {values₁ values₂ : List ℤ} {marks₁ marks₂ : List ℕ} {r : Counts} (b : Prepared a places values₁ marks₁ values₂ marks₂ r) where
   abbrev n : ℕ
   n = frame a .rules
@@ -195,11 +219,11 @@ module _ {m : Machine} {s : Sizes} {p : R.Program} {budget : ℕ} {file : List �
 
   -- the rules that are taken out are the step's
   abbrev pub ls : List Rule
-  ls = rulesIn n places
+  ls = rulesIn codes n places
 
   pub rules-taken : ls ≡ rs a
   unfolding rulesIn
-  rules-taken = ap (map (λ (x : Located). ruleIn (x .slot))) (b .taken .so-far) ∙ sym (at-step a .rules-are)
+  rules-taken = ap (map (λ (x : Located). ruleIn codes (x .slot))) (b .taken .so-far) ∙ sym (at-step a .rules-are)
 
   pub rules-fit : n ≤ length places
   rules-fit = omega (arith, few-rules a, b .taken .length-is)
@@ -250,11 +274,11 @@ module _ {m : Machine} {s : Sizes} {p : R.Program} {budget : ℕ} {file : List �
         mark-is = λ j h. kept-cell j .mark-is ∙ a .stands .working .mark-is j h;
       }
 
-  pub step-ready : AllReady s held (take (base a) values₂) (take (base a) marks₂) (take n places)
+  pub step-ready : AllReady s held (take (base a) values₂) (take (base a) marks₂) codes chained (take n places)
   step-ready =
       let located = rw (at-step a .frame .holds .facts-are, at-step a .rules-are) at (at-step a .located) in
       rw (b .taken .so-far)
-      (all-ready s n (slotsAt p step) (rw (← at-step a .rules-are) (step-passes a .rules)) (frame a .wanted) located
+      (all-ready s codes chained n (slotsAt p step) (rw (← at-step a .rules-are) (step-passes a .rules)) (frame a .wanted) located
       (rw (at-step a .rules-are) at lines) (a .stands .register .valid))
 
   pub step-sends : frame a .remote ≡ hasRemote ls
@@ -269,11 +293,11 @@ module _ {m : Machine} {s : Sizes} {p : R.Program} {budget : ℕ} {file : List �
     pub room-still : Room (base a) (cellCount s) values′ marks′
     room-still = room-same same step-room
 
-    pub ready-still : AllReady s held (take (base a) values′) (take (base a) marks′) (take n places)
+    pub ready-still : AllReady s held (take (base a) values′) (take (base a) marks′) codes chained (take n places)
     ready-still = rw (same .values-same, same .marks-same) step-ready
 
-    pub rule-ready : (k : ℕ) (x : Located) → k < n → RuleReady s held (take (base a) values′) (take (base a) marks′) (getD places k x)
-    rule-ready k x h = ready-at places k x (omega (arith, rules-fit)) h ready-still
+    pub rule-ready : (k : ℕ) (x : Located) → k < n → RuleReady s held (take (base a) values′) (take (base a) marks′) codes chained (getD places k x)
+    rule-ready k x h = ready-at codes places k x (omega (arith, rules-fit)) h ready-still
 
     -- and the remote writes besides
     pub small-still : LocalDone s held (base a) ls (s .records) values₂ marks₂ values′ marks′

@@ -4,6 +4,7 @@ ghost use mathlib.Core.Path.{_≡_};
 ghost use Rattle.register.specs.File.{cellsOfFile};
 ghost use Rattle.register.specs.Shape.{Register};
 ghost use Rattle.step_cells.specs.Work.{HoldsCells};
+ghost use Rattle.program.specs.Code.{codesKept};
 ghost use Rattle.program.specs.Passed.{ProgramPasses};
 ghost use Rattle.program.specs.Kept.{programOf, Complete};
 ghost use Rattle.run_steps.specs.Answer.{endedWith, stoppedAt, Scratch, Ends};
@@ -17,6 +18,7 @@ use run_loop;
 use step_cells;
 use step_cells::stop::Stop;
 use step_commit;
+use step_expressions::plain::stay_plain;
 use step_rules::local;
 use step_rules::remote;
 
@@ -59,19 +61,25 @@ fn out_of_range(finished: u16, counts: Counts, row: usize, column: usize) -> Run
 }
 
 // The steps, over working cells that hold the register's. The function holds the program's arrays and takes a step's frame and
-// rules out without a call, once for a step that is done again and again.
+// rules out without a call, once for a step that is done again and again; it sees then whether they are all plain.
 fn run_steps(
     out: &mut [u8],
     values: &mut [i64],
     marks: &mut [u8],
     sizes: Sizes,
+    kinds: &[u8],
+    numbers: &[i32],
+    chains: &[u64],
+    places: &[u8],
     program: Program,
     machine: Machine,
     budget: u16,
 ) -> RunAnswer
-    requires { ⌜ Register sizes (now out) × Scratch sizes (program .lines) (now values) (now marks) × Complete program × ProgramPasses sizes (programOf program)
+    requires { ⌜ Register sizes (now out) × Scratch sizes (program .lines) (now values) (now marks) × Complete (codesKept (now kinds) (now numbers) (now chains)) (now places) program
+        × ProgramPasses sizes (programOf (codesKept (now kinds) (now numbers) (now chains)) program)
         × HoldsCells (program .lines * sizes .records + sizes .records) (cellsOfFile sizes (now out)) (now values) (now marks) ⌝ }
-    ensures { λ r. ⌜ Ends machine sizes (programOf program) budget (now (out .entry)) (now (out .exit)) r ⌝ }
+    ensures { λ r. ⌜ Ends machine sizes (programOf (codesKept (now (kinds .entry)) (now (numbers .entry)) (now (chains .entry))) program) budget
+        (now (out .entry)) (now (out .exit)) r ⌝ }
 {
     let slots = program.slots;
     let frames = program.frames;
@@ -80,6 +88,7 @@ fn run_steps(
     let base = at + sizes.records;
     let mut rules = [slots[0]; 32];
     let mut frame = frames[0];
+    let mut plain = true;
     let mut taken = steps;
     let mut step = 0;
     let mut first = steps;
@@ -91,8 +100,10 @@ fn run_steps(
         }
         if taken != step {
             frame = frames[step];
+            plain = true;
             for k in 0..frame.rules {
                 rules[k] = slots[32 * step + k];
+                plain = stay_plain(plain, rules[k]);
             }
             taken = step;
         }
@@ -115,7 +126,23 @@ fn run_steps(
         let mut stop = Stop::Nowhere;
         'records: for u in 0..sizes.records {
             for k in 0..used {
-                stop = local::apply_rule(out, values, marks, sizes, base, u, rules[k]);
+                if plain {
+                    stop = local::apply_plain(out, values, marks, sizes, base, u, rules[k]);
+                } else {
+                    stop = local::apply_rule(
+                        out,
+                        values,
+                        marks,
+                        sizes,
+                        base,
+                        u,
+                        kinds,
+                        numbers,
+                        chains,
+                        places,
+                        rules[k],
+                    );
+                }
                 if let Stop::At(_, _) = stop {
                     break 'records;
                 }
@@ -126,7 +153,20 @@ fn run_steps(
         }
         let mut sent = 0;
         if frame.remote {
-            sent = remote::apply(out, values, marks, sizes, base, rules, used);
+            sent = remote::apply(
+                out,
+                values,
+                marks,
+                sizes,
+                base,
+                kinds,
+                numbers,
+                chains,
+                places,
+                rules,
+                used,
+                plain,
+            );
         }
         let fields = frame.fields;
         let total = step_commit::commit(out, values, marks, sizes, base, fields);
@@ -146,14 +186,32 @@ pub fn run_program(
     values: &mut [i64],
     marks: &mut [u8],
     sizes: Sizes,
+    kinds: &[u8],
+    numbers: &[i32],
+    chains: &[u64],
+    places: &[u8],
     program: Program,
     machine: Machine,
     budget: u16,
 ) -> RunAnswer
-    requires { ⌜ Register sizes (now out) × Scratch sizes (program .lines) (now values) (now marks) × Complete program × ProgramPasses sizes (programOf program) ⌝ }
-    ensures { λ r. ⌜ Ends machine sizes (programOf program) budget (now (out .entry)) (now (out .exit)) r ⌝ }
+    requires { ⌜ Register sizes (now out) × Scratch sizes (program .lines) (now values) (now marks) × Complete (codesKept (now kinds) (now numbers) (now chains)) (now places) program
+        × ProgramPasses sizes (programOf (codesKept (now kinds) (now numbers) (now chains)) program) ⌝ }
+    ensures { λ r. ⌜ Ends machine sizes (programOf (codesKept (now (kinds .entry)) (now (numbers .entry)) (now (chains .entry))) program) budget
+        (now (out .entry)) (now (out .exit)) r ⌝ }
 {
     let at = program.lines * sizes.records;
     step_cells::begin(out, values, marks, sizes, at + sizes.records);
-    run_steps(out, values, marks, sizes, program, machine, budget)
+    run_steps(
+        out,
+        values,
+        marks,
+        sizes,
+        kinds,
+        numbers,
+        chains,
+        places,
+        program,
+        machine,
+        budget,
+    )
 }

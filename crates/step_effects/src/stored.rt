@@ -1,56 +1,56 @@
-// What a rule stores in its own record, or that its sum leaves the range.
+// What a rule stores in its own record, or that a sum of it leaves the range.
 ghost use mathlib.Core.Path.{_≡_};
 ghost use Prim.Native.Nat.{_<_};
 ghost use Rattle.register.specs.Cells.{cellsOf};
 ghost use Rattle.register.specs.Shape.{Parts};
-ghost use Rattle.integers.specs.Range.{sumOf};
 ghost use Rattle.program.specs.declared.rule.Rule.the-variants.{Combine};
-ghost use Rattle.program.specs.Program.{operation};
-ghost use Rattle.program.specs.Stored.{ruleIn, termIn};
-ghost use Rattle.machine.specs.Value.{operate as operateOn, value};
+ghost use Rattle.program.specs.Code.{codesKept};
+ghost use Rattle.program.specs.Program.{operation as operationOn, targetField};
+ghost use Rattle.program.specs.Stored.{ruleIn, targetIn, expressionIn, termIn};
 ghost use Rattle.step_terms.specs.Found.{readsOf, RuleFound, RuleReads};
-ghost use Rattle.step_effects.specs.Answers.{readingWrite, sumAnswer, sumWrite, writeOf};
-use chain::reading::Reading;
-use integers::Sum;
+ghost use Rattle.step_expressions.specs.Evaluated.{evaluated};
+ghost use Rattle.step_effects.specs.Answers.{doneBy, effectOf, writeOf};
 use program::location::Located;
 use program::location::Places;
 use program::rule::Operator;
 use program::rule::Rule;
 use program::term::Term;
 use register::Sizes;
-use step_terms::term;
+use step_expressions::operation;
+use step_expressions::operation::Evaluated;
+use step_expressions::term;
+use step_expressions::term::Tested;
 
-// A rule stores nothing in its own record or a value in a field; or its sum for the field leaves the range.
+// A rule stores nothing in its own record or a value in a field; or a sum of it leaves the range, for the field that it writes.
 pub enum Write {
     Nothing,
     Store(u64, i32),
     OutOfRange(u64),
 }
 
-fn write_reading(field: u64, reading: Reading) -> Write
-    ensures { λ r. ⌜ r ≡ readingWrite field reading ⌝ }
+// The field that a rule writes.
+fn field_of(rule: Rule) -> u64
+    ensures { λ r. ⌜ r ≡ targetField (targetIn rule) ⌝ }
 {
-    match reading {
-        Reading::Missing => Write::Nothing,
-        Reading::Value(value) => Write::Store(field, value),
+    match rule {
+        Rule::Set(field, _) => field,
+        Rule::Combine(field, _, _, _) => field,
+        Rule::Remote(_, field, _, _) => field,
     }
 }
 
-fn write_sum(field: u64, sum: Sum) -> Write
-    ensures { λ r. ⌜ r ≡ sumAnswer field sum ⌝ }
+// What a rule does with the value of its expression: the amount of a remote one is not stored here.
+fn write_value(rule: Rule, value: Evaluated) -> Write
+    ensures { λ r. ⌜ r ≡ doneBy (targetIn rule) value ⌝ }
 {
-    match sum {
-        Sum::InRange(value) => Write::Store(field, value),
-        Sum::OutOfRange => Write::OutOfRange(field),
-    }
-}
-
-fn operate(operator: Operator, a: i32, b: i32) -> Sum
-    ensures { λ r. ⌜ r ≡ sumOf (operateOn operator a b) ⌝ }
-{
-    match operator {
-        Operator::Plus => integers::add(a, b),
-        Operator::Minus => integers::subtract(a, b),
+    match value {
+        Evaluated::Missing => Write::Nothing,
+        Evaluated::Value(z) => match rule {
+            Rule::Set(field, _) => Write::Store(field, z),
+            Rule::Combine(field, _, _, _) => Write::Store(field, z),
+            Rule::Remote(_, _, _, _) => Write::Nothing,
+        },
+        Evaluated::OutOfRange => Write::OutOfRange(field_of(rule)),
     }
 }
 
@@ -62,61 +62,91 @@ fn combine(
     marks: &[u8],
     sizes: Sizes,
     u: usize,
+    kinds: &[u8],
+    numbers: &[i32],
+    chains: &[u64],
+    places: &[u8],
     field: u64,
     operator: Operator,
     x: Term,
     y: Term,
     at: Places,
-) -> Write
-    requires { ⌜ Parts sizes (now cells) (now filled) × (u < sizes .records) × RuleFound sizes (cellsOf (now cells) (now filled)) (now values) (now marks) u at (Combine field operator x y) ⌝ }
-    ensures { λ r. ⌜ r ≡ sumWrite field (value (readsOf sizes (now (cells .entry)) (now (filled .entry)) u) (operation operator (termIn x) (termIn y))) ⌝ }
+) -> Evaluated
+    requires { ⌜ Parts sizes (now cells) (now filled) × (u < sizes .records) × RuleFound sizes (cellsOf (now cells) (now filled)) (now values) (now marks) u
+        (codesKept (now kinds) (now numbers) (now chains)) (now places) at (Combine field operator x y) ⌝ }
+    ensures { λ r. let k = codesKept (now (kinds .entry)) (now (numbers .entry)) (now (chains .entry)) in
+        ⌜ r ≡ evaluated (readsOf sizes (now (cells .entry)) (now (filled .entry)) u) (operationOn operator (termIn k x) (termIn k y)) ⌝ }
 {
-    let without_sum = Write::Nothing;
     let first = at.first;
-    let Reading::Value(a) = term::term_value(cells, filled, values, marks, sizes, u, x, first)
-    else {
-        return without_sum;
-    };
     let second = at.second;
-    let Reading::Value(b) = term::term_value(cells, filled, values, marks, sizes, u, y, second)
-    else {
-        return without_sum;
-    };
-    write_sum(field, operate(operator, a, b))
+    let a = term::term_value(
+        cells,
+        filled,
+        values,
+        marks,
+        sizes,
+        u,
+        kinds,
+        numbers,
+        chains,
+        places,
+        x,
+        first,
+    );
+    let b = term::term_value(
+        cells,
+        filled,
+        values,
+        marks,
+        sizes,
+        u,
+        kinds,
+        numbers,
+        chains,
+        places,
+        y,
+        second,
+    );
+    operation::join(operator, a, b)
 }
 
-// What a rule stores in record u.
-pub fn local_write(
+// The expression of a rule at record u.
+fn expression(
     cells: &[u8],
     filled: &[u8],
     values: &[i64],
     marks: &[u8],
     sizes: Sizes,
     u: usize,
-    located: Located,
-) -> Write
-    requires { ⌜ Parts sizes (now cells) (now filled) × (u < sizes .records) × RuleReads sizes (cellsOf (now cells) (now filled)) (now values) (now marks) u located ⌝ }
-    ensures { λ r. ⌜ r ≡ writeOf (readsOf sizes (now (cells .entry)) (now (filled .entry)) u) (ruleIn (located .slot)) ⌝ }
+    kinds: &[u8],
+    numbers: &[i32],
+    chains: &[u64],
+    places: &[u8],
+    rule: Rule,
+    at: Places,
+) -> Evaluated
+    requires { ⌜ Parts sizes (now cells) (now filled) × (u < sizes .records) × RuleFound sizes (cellsOf (now cells) (now filled)) (now values) (now marks) u
+        (codesKept (now kinds) (now numbers) (now chains)) (now places) at rule ⌝ }
+    ensures { λ r. ⌜ r ≡ evaluated (readsOf sizes (now (cells .entry)) (now (filled .entry)) u)
+        (expressionIn (codesKept (now (kinds .entry)) (now (numbers .entry)) (now (chains .entry))) rule) ⌝ }
 {
-    let slot = located.slot;
-    let rule = slot.rule;
-    if crate::is_remote(rule) {
-        return Write::Nothing;
-    }
-    let test = slot.test;
-    let places = located.at.test;
-    if !term::holds(cells, filled, values, marks, sizes, u, test, places) {
-        return Write::Nothing;
-    }
-    let at = located.at.rule;
+    let first = at.first;
+    let second = at.second;
     match rule {
-        Rule::Set(field, x) => {
-            let first = at.first;
-            write_reading(
-                field,
-                term::term_value(cells, filled, values, marks, sizes, u, x, first),
-            )
-        }
+        Rule::Set(_, x) => term::term_value(
+            cells,
+            filled,
+            values,
+            marks,
+            sizes,
+            u,
+            kinds,
+            numbers,
+            chains,
+            places,
+            x,
+            first,
+        ),
         Rule::Combine(field, operator, x, y) => combine(
             cells,
             filled,
@@ -124,12 +154,124 @@ pub fn local_write(
             marks,
             sizes,
             u,
+            kinds,
+            numbers,
+            chains,
+            places,
             field,
             operator,
             x,
             y,
             at,
         ),
-        Rule::Remote(_, _, _, _) => Write::Nothing,
+        Rule::Remote(_, _, _, x) => term::term_value(
+            cells,
+            filled,
+            values,
+            marks,
+            sizes,
+            u,
+            kinds,
+            numbers,
+            chains,
+            places,
+            x,
+            second,
+        ),
     }
+}
+
+// What a rule comes to at record u: its expression where its test holds.
+pub fn effect(
+    cells: &[u8],
+    filled: &[u8],
+    values: &[i64],
+    marks: &[u8],
+    sizes: Sizes,
+    u: usize,
+    kinds: &[u8],
+    numbers: &[i32],
+    chains: &[u64],
+    places: &[u8],
+    located: Located,
+) -> Evaluated
+    requires { ⌜ Parts sizes (now cells) (now filled) × (u < sizes .records) × RuleReads sizes (cellsOf (now cells) (now filled)) (now values) (now marks) u
+        (codesKept (now kinds) (now numbers) (now chains)) (now places) located ⌝ }
+    ensures { λ r. ⌜ r ≡ effectOf (readsOf sizes (now (cells .entry)) (now (filled .entry)) u)
+        (ruleIn (codesKept (now (kinds .entry)) (now (numbers .entry)) (now (chains .entry))) (located .slot)) ⌝ }
+{
+    let slot = located.slot;
+    let rule = slot.rule;
+    let test = slot.test;
+    match term::test_at(
+        cells,
+        filled,
+        values,
+        marks,
+        sizes,
+        u,
+        kinds,
+        numbers,
+        chains,
+        places,
+        test,
+        located.at.test,
+    ) {
+        Tested::Fails => Evaluated::Missing,
+        Tested::OutOfRange => Evaluated::OutOfRange,
+        Tested::Holds => {
+            let at = located.at.rule;
+            expression(
+                cells,
+                filled,
+                values,
+                marks,
+                sizes,
+                u,
+                kinds,
+                numbers,
+                chains,
+                places,
+                rule,
+                at,
+            )
+        }
+    }
+}
+
+// What a rule stores in record u. A remote one is asked for the sums that it forms.
+pub fn local_write(
+    cells: &[u8],
+    filled: &[u8],
+    values: &[i64],
+    marks: &[u8],
+    sizes: Sizes,
+    u: usize,
+    kinds: &[u8],
+    numbers: &[i32],
+    chains: &[u64],
+    places: &[u8],
+    located: Located,
+) -> Write
+    requires { ⌜ Parts sizes (now cells) (now filled) × (u < sizes .records) × RuleReads sizes (cellsOf (now cells) (now filled)) (now values) (now marks) u
+        (codesKept (now kinds) (now numbers) (now chains)) (now places) located ⌝ }
+    ensures { λ r. ⌜ r ≡ writeOf (readsOf sizes (now (cells .entry)) (now (filled .entry)) u)
+        (ruleIn (codesKept (now (kinds .entry)) (now (numbers .entry)) (now (chains .entry))) (located .slot)) ⌝ }
+{
+    let slot = located.slot;
+    let rule = slot.rule;
+    let value = effect(
+        cells,
+        filled,
+        values,
+        marks,
+        sizes,
+        u,
+        kinds,
+        numbers,
+        chains,
+        places,
+        located,
+    );
+    write_value(rule, value)
 }

@@ -1,7 +1,7 @@
 -- The local rules of a step, record by record and rule by rule: what the working cells hold so far.
 use Prim.Native.Nat.{ℕ, zero, suc, _+_, _<_}
 use mathlib.Core.Path.{_≡_, refl, sym, ap, ap₂, subst, _∙_}
-use mathlib.Core.Bool.{true}
+use mathlib.Core.Bool.{Bool, true, false}
 use mathlib.Core.List.{List, [], _∷_, _++_, map, map-append}
 use mathlib.Core.Option.{none, some}
 use native.Mathlib.Omega.{arith}
@@ -24,16 +24,20 @@ use Rattle.chain.proofs.Following.{column-below}
 use Rattle.program.specs.declared.location.Located.{Located}
 use Rattle.program.specs.Program.{Rule, targetField}
 use Rattle.laws.specs.Lists.{Each}
+use Rattle.program.specs.Code.{Codes}
 use Rattle.program.specs.Stored.{ruleIn, rulesIn}
-use Rattle.machine.specs.Local.{localRules, localRecords, sumColumn}
-use Rattle.machine.proofs.Folding.{localRules-more, localRules-length, localRecords-length, sumColumn-more, sumColumn-earliest}
+use Rattle.machine.specs.Local.{localRules, localRecords, offends, sumColumn}
+use Rattle.machine.proofs.Folding.{localRules-more, localRules-length, localRecords-length, sumColumn-more, sumColumn-earliest, sumColumn-each}
 use Rattle.machine.specs.Step.{sumOffence}
 use Rattle.machine.proofs.Stops.{sum-at}
 use Rattle.step_terms.specs.Found.{followed}
 use Rattle.step_effects.specs.Answers.{writeOf}
+use Rattle.step_expressions.specs.Plain.{plainSlot}
+use Rattle.step_expressions.proofs.Plainly.{plain-reads}
+use Rattle.step_effects.specs.declared.stored.Write.{Write}
 use Rattle.step_effects.specs.declared.stored.Write.the-variants.{Nothing, Store, OutOfRange}
 use Rattle.step_cells.specs.Work.{Room, HoldsCells, Same, Put, Small}
-use Rattle.step_rules.specs.Ready.{RuleReady, AllReady, LocalRule, RuleStops, LocalDone}
+use Rattle.step_rules.specs.Ready.{RuleReady, PlainReady, AllReady, AllPlain, WritesField, LocalRule, RuleStops, LocalDone}
 use Rattle.step_cells.specs.declared.stop.Stop.the-variants.{Nowhere, At}
 use Rattle.step_cells.proofs.Working.{same-refl, same-then, same-put, holds-put, small-put}
 use Rattle.step_rules.proofs.Writing.{told}
@@ -51,11 +55,16 @@ module _ (s : Sizes) (cells : List Cell) (u : ℕ) (r : Rule) where
 
   -- the field that it stores to, or whose sum it forms
   module _ (field : hasField s (targetField (r .target)) ≡ true) where
-    pub stores-field : {f : ℕ} {z : ℤ} → writeOf read r ≡ Store f z → hasField s f ≡ true
+    stores-field : {f : ℕ} {z : ℤ} → writeOf read r ≡ Store f z → hasField s f ≡ true
     stores-field e = ap (hasField s) (told read r e .field-is) ∙ field
 
-    pub offends-field : {f : ℕ} → writeOf read r ≡ OutOfRange f → hasField s f ≡ true
+    offends-field : {f : ℕ} → writeOf read r ≡ OutOfRange f → hasField s f ≡ true
     offends-field e = ap (hasField s) (told read r e .field-is) ∙ field
+
+    pub writes-field : (w : Write) → writeOf read r ≡ w → WritesField s w
+    writes-field Nothing e = tt
+    writes-field (Store f z) e = stores-field e
+    writes-field (OutOfRange f) e = offends-field e
 
   -- and what it leaves
   module _ (base : ℕ) (values : List ℤ) (marks : List ℕ) where
@@ -87,45 +96,62 @@ module _ (s : Sizes) (cells : List Cell) (u : ℕ) (r : Rule) where
         )
 
 -- the rule of a place
-abbrev pub ruleAt : Located → Rule
-ruleAt x = ruleIn (x .slot)
+abbrev pub ruleAt : Codes → Located → Rule
+ruleAt codes x = ruleIn codes (x .slot)
+
+-- a ready rule that is plain
+pub plain-ready : {s : Sizes} {cells : List Cell} {values : List ℤ} {marks : List ℕ} {codes : Codes} {chained : List ℕ} {x : Located}
+    → plainSlot (x .slot) ≡ true → RuleReady s cells values marks codes chained x → PlainReady s cells values marks x
+plain-ready {s} {cells} {values} {marks} {codes} {chained} {x} h r =
+    record { found = λ u l. plain-reads s cells values marks u codes chained x h (r .found u l); field = r .field; targets = r .targets }
 
 -- rule k of the places
-module _ (places : List Located) (k : ℕ) (x : Located) (h : k < length places) where
+module _ (codes : Codes) (places : List Located) (k : ℕ) (x : Located) (h : k < length places) where
   -- is the one behind the first k
-  pub rules-more : rulesIn (suc k) places ≡ rulesIn k places ++ (ruleAt (getD places k x) ∷ [])
+  pub rules-more : rulesIn codes (suc k) places ≡ rulesIn codes k places ++ (ruleAt codes (getD places k x) ∷ [])
   unfolding rulesIn
-  rules-more = ap (map ruleAt) (take-suc places k x h) ∙ map-append ruleAt (take k places) (getD places k x ∷ [])
+  rules-more = ap (map (ruleAt codes)) (take-suc places k x h) ∙ map-append (ruleAt codes) (take k places) (getD places k x ∷ [])
 
   -- and stands behind them among more
-  rules-split : (n : ℕ) → k < n → rulesIn n places ≡ rulesIn k places ++ ruleAt (getD places k x) ∷ map ruleAt (drop (suc k) (take n places))
+  rules-split : (n : ℕ) → k < n → rulesIn codes n places ≡ rulesIn codes k places ++ ruleAt codes (getD places k x) ∷ map (ruleAt codes) (drop (suc k) (take n places))
   unfolding rulesIn
   rules-split n l =
       let some = take n places in
       let cut : some ≡ take k places ++ getD places k x ∷ drop (suc k) some =
       split-at some k x (omega (arith, length-take n places))
       ∙ ap₂ (λ (ys : List Located) (y : Located). ys ++ y ∷ drop (suc k) some) (take-take k n places (omega arith)) (getD-take n places k x l) in
-      ap (map ruleAt) cut ∙ map-append ruleAt (take k places) (getD places k x ∷ drop (suc k) some)
+      ap (map (ruleAt codes)) cut ∙ map-append (ruleAt codes) (take k places) (getD places k x ∷ drop (suc k) some)
 
   -- and is ready where they all are
-  pub ready-at : {s : Sizes} {cells : List Cell} {values : List ℤ} {marks : List ℕ} {n : ℕ} → k < n → AllReady s cells values marks (take n places)
-      → RuleReady s cells values marks (getD places k x)
-  ready-at {s} {cells} {values} {marks} {n} l r =
-      subst (RuleReady s cells values marks) (getD-take n places k x l)
-      (each-at (RuleReady s cells values marks) (take n places) k x (omega (arith, length-take n places)) r)
+  pub ready-at : {s : Sizes} {cells : List Cell} {values : List ℤ} {marks : List ℕ} {chained : List ℕ} {n : ℕ} → k < n
+      → AllReady s cells values marks codes chained (take n places) → RuleReady s cells values marks codes chained (getD places k x)
+  ready-at {s} {cells} {values} {marks} {chained} {n} l r =
+      subst (RuleReady s cells values marks codes chained) (getD-take n places k x l)
+      (each-at (RuleReady s cells values marks codes chained) (take n places) k x (omega (arith, length-take n places)) r)
+
+  -- and is plain where they all are
+  pub plain-at : {plain : Bool} {n : ℕ} → k < n → AllPlain plain (take n places) → plain ≡ true → plainSlot (getD places k x .slot) ≡ true
+  plain-at {n = n} l a e =
+      subst (λ (y : Located). plainSlot (y .slot) ≡ true) (getD-take n places k x l)
+      (each-at (λ y. plainSlot (y .slot) ≡ true) (take n places) k x (omega (arith, length-take n places)) (a e))
+
+  -- and no sum of it leaves the range where none of theirs does
+  pub in-range-at : (s : Sizes) (read : List ℕ → Reading) {n : ℕ} → k < n → sumColumn s read (rulesIn codes n places) ≡ none
+      → offends read (ruleAt codes (getD places k x)) ≡ false
+  in-range-at s read {n} l e = sumColumn-each s read (rulesIn codes k places) _ _ (sym (ap (sumColumn s read) (rules-split n l)) ∙ e)
 
 -- what the first k rules leave at record u
-pub record RecordDone (s : Sizes) (cells : List Cell) (base : ℕ) (places : List Located) (u k : ℕ) (values : List ℤ) (marks : List ℕ)
+pub record RecordDone (s : Sizes) (cells : List Cell) (base : ℕ) (codes : Codes) (places : List Located) (u k : ℕ) (values : List ℤ) (marks : List ℕ)
     (values′ : List ℤ) (marks′ : List ℕ) : Type 0 where
   pub same : Same base values marks values′ marks′
-  pub in-range : sumColumn s (followed s cells u) (rulesIn k places) ≡ none
+  pub in-range : sumColumn s (followed s cells u) (rulesIn codes k places) ≡ none
   pub holds : (d : List Cell) → length d ≡ cellCount s → HoldsCells base d values marks
-      → HoldsCells base (localRules s (followed s cells u) u (rulesIn k places) d) values′ marks′
+      → HoldsCells base (localRules s (followed s cells u) u (rulesIn codes k places) d) values′ marks′
   pub small : Small 2147483648 base (cellCount s) values marks → Small 2147483648 base (cellCount s) values′ marks′
 
 -- nothing is done yet
-pub record-start : {s : Sizes} {cells : List Cell} {base : ℕ} {places : List Located} {u : ℕ} {values : List ℤ} {marks : List ℕ}
-    → RecordDone s cells base places u 0 values marks values marks
+pub record-start : {s : Sizes} {cells : List Cell} {base : ℕ} {codes : Codes} {places : List Located} {u : ℕ} {values : List ℤ} {marks : List ℕ}
+    → RecordDone s cells base codes places u 0 values marks values marks
 unfolding localRules rulesIn sumColumn
 record-start = record { same = same-refl; in-range = refl; holds = λ d l h. h; small = λ h. h }
 
@@ -135,55 +161,55 @@ unfolding localRecords
 records-start = record { in-range = λ u l. absurd (omega arith); holds = λ d l h. h; small = λ h. h }
 
 -- one rule more at a record
-pub record-more : {s : Sizes} {cells : List Cell} {base : ℕ} {places : List Located} {u k : ℕ}
-    {values values′ values″ : List ℤ} {marks marks′ marks″ : List ℕ} → RecordDone s cells base places u k values marks values′ marks′
-    → (x : Located) → k < length places → LocalRule s cells base u (ruleAt (getD places k x)) values′ marks′ values″ marks″ Nowhere
-    → {k′ : ℕ} → k′ ≡ suc k → RecordDone s cells base places u k′ values marks values″ marks″
-record-more {s} {cells} {base} {places} {u} {k} {values″ = values″} {marks″ = marks″} t x h (same, done) q =
+pub record-more : {s : Sizes} {cells : List Cell} {base : ℕ} {codes : Codes} {places : List Located} {u k : ℕ}
+    {values values′ values″ : List ℤ} {marks marks′ marks″ : List ℕ} → RecordDone s cells base codes places u k values marks values′ marks′
+    → (x : Located) → k < length places → LocalRule s cells base u (ruleAt codes (getD places k x)) values′ marks′ values″ marks″ Nowhere
+    → {k′ : ℕ} → k′ ≡ suc k → RecordDone s cells base codes places u k′ values marks values″ marks″
+record-more {s} {cells} {base} {codes} {places} {u} {k} {values″ = values″} {marks″ = marks″} t x h (same, done) q =
     let read = followed s cells u in
-    let rs = rulesIn k places in
-    let rule = ruleAt (getD places k x) in
+    let rs = rulesIn codes k places in
+    let rule = ruleAt codes (getD places k x) in
     rw q
     (record {
       same = same-then (t .same) same;
-      in-range = ap (sumColumn s read) (rules-more places k x h) ∙ sumColumn-more s read rs rule (t .in-range) (done .in-range);
+      in-range = ap (sumColumn s read) (rules-more codes places k x h) ∙ sumColumn-more s read rs rule (t .in-range) (done .in-range);
       holds = λ d l hd.
           subst (λ (cs : List Cell). HoldsCells base cs values″ marks″)
-          (sym (ap (λ (l : List Rule). localRules s read u l d) (rules-more places k x h) ∙ localRules-more s read u rs rule d))
+          (sym (ap (λ (l : List Rule). localRules s read u l d) (rules-more codes places k x h) ∙ localRules-more s read u rs rule d))
           (done .holds (localRules s read u rs d) (localRules-length s read u rs d ∙ l) (t .holds d l hd));
       small = λ z. done .small (t .small z);
     })
 
 -- or its sum is out of range: the first, where none was so at the records before and by the rules before
-pub record-stops : {s : Sizes} {cells : List Cell} (places : List Located) {u : ℕ} (k : ℕ) (x : Located) → k < length places → {v c rules : ℕ} → k < rules
-    → u < s .records → ((v : ℕ) → v < u → sumColumn s (followed s cells v) (rulesIn rules places) ≡ none)
-    → sumColumn s (followed s cells u) (rulesIn k places) ≡ none → RuleStops s cells u (ruleAt (getD places k x)) v c
-    → sumOffence s (followed s cells) (rulesIn rules places) ≡ some (record { row = v; column = c })
-record-stops {s} {cells} places {u} k x h {rules = rules} l row records-before rules-before stop =
+pub record-stops : {s : Sizes} {cells : List Cell} (codes : Codes) (places : List Located) {u : ℕ} (k : ℕ) (x : Located) → k < length places → {v c rules : ℕ} → k < rules
+    → u < s .records → ((v : ℕ) → v < u → sumColumn s (followed s cells v) (rulesIn codes rules places) ≡ none)
+    → sumColumn s (followed s cells u) (rulesIn codes k places) ≡ none → RuleStops s cells u (ruleAt codes (getD places k x)) v c
+    → sumOffence s (followed s cells) (rulesIn codes rules places) ≡ some (record { row = v; column = c })
+record-stops {s} {cells} codes places {u} k x h {rules = rules} l row records-before rules-before stop =
     let read = followed s cells u in
     rw (stop .row, stop .column-is)
-    (sum-at s (followed s cells) (rulesIn rules places) u _ row records-before
-    (ap (sumColumn s read) (rules-split places k x h rules l) ∙ sumColumn-earliest s read (rulesIn k places) _ _ rules-before (stop .out-of-range)))
+    (sum-at s (followed s cells) (rulesIn codes rules places) u _ row records-before
+    (ap (sumColumn s read) (rules-split codes places k x h rules l) ∙ sumColumn-earliest s read (rulesIn codes k places) _ _ rules-before (stop .out-of-range)))
 
 -- one record more
-pub records-more : {s : Sizes} {cells : List Cell} {base : ℕ} {places : List Located} {rules n : ℕ}
-    {values values′ values″ : List ℤ} {marks marks′ marks″ : List ℕ} → LocalDone s cells base (rulesIn rules places) n values marks values′ marks′
-    → {k : ℕ} → k ≡ rules → RecordDone s cells base places n k values′ marks′ values″ marks″
-    → {n′ : ℕ} → n′ ≡ suc n → LocalDone s cells base (rulesIn rules places) n′ values marks values″ marks″
+pub records-more : {s : Sizes} {cells : List Cell} {base : ℕ} {codes : Codes} {places : List Located} {rules n : ℕ}
+    {values values′ values″ : List ℤ} {marks marks′ marks″ : List ℕ} → LocalDone s cells base (rulesIn codes rules places) n values marks values′ marks′
+    → {k : ℕ} → k ≡ rules → RecordDone s cells base codes places n k values′ marks′ values″ marks″
+    → {n′ : ℕ} → n′ ≡ suc n → LocalDone s cells base (rulesIn codes rules places) n′ values marks values″ marks″
 unfolding localRecords
-records-more {s} {cells} {base} {places} {rules} {n} {values} {values′} {values″} {marks} {marks′} {marks″} t q r q′ =
-    rw q′ (go (subst (λ (i : ℕ). RecordDone s cells base places n i values′ marks′ values″ marks″) q r))
+records-more {s} {cells} {base} {codes} {places} {rules} {n} {values} {values′} {values″} {marks} {marks′} {marks″} t q r q′ =
+    rw q′ (go (subst (λ (i : ℕ). RecordDone s cells base codes places n i values′ marks′ values″ marks″) q r))
   where
-    at : RecordDone s cells base places n rules values′ marks′ values″ marks″
-        → (u : ℕ) → Dec (u < n) → u < suc n → sumColumn s (followed s cells u) (rulesIn rules places) ≡ none
+    at : RecordDone s cells base codes places n rules values′ marks′ values″ marks″
+        → (u : ℕ) → Dec (u < n) → u < suc n → sumColumn s (followed s cells u) (rulesIn codes rules places) ≡ none
     at r u (yes l) _ = t .in-range u l
     at r u (no l) l′ = let q : u ≡ n = omega arith in rw q (r .in-range)
 
-    go : RecordDone s cells base places n rules values′ marks′ values″ marks″
-        → LocalDone s cells base (rulesIn rules places) (suc n) values marks values″ marks″
+    go : RecordDone s cells base codes places n rules values′ marks′ values″ marks″
+        → LocalDone s cells base (rulesIn codes rules places) (suc n) values marks values″ marks″
     go r =
         let read = followed s cells in
-        let rs = rulesIn rules places in
+        let rs = rulesIn codes rules places in
         record {
           in-range = λ u l. at r u (decLt u n) l;
           holds = λ d l hd. r .holds (localRecords s read rs n d) (localRecords-length s read rs n d ∙ l) (t .holds d l hd);

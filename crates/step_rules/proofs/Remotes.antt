@@ -1,6 +1,6 @@
 -- The remote writes of a step, record by record and rule by rule: what the working cells hold so far.
 use Prim.Native.Nat.{ℕ, suc, _+_, _≤_, _<_}
-use mathlib.Core.Path.{_≡_, sym, ap, subst, _∙_}
+use mathlib.Core.Path.{_≡_, refl, sym, ap, subst, _∙_}
 use mathlib.Core.Bool.{Bool, true, false, cond}
 use mathlib.Core.List.{List, [], _∷_, _++_}
 use native.Mathlib.Omega.{arith}
@@ -22,6 +22,7 @@ use Rattle.chain.specs.Word.{hasField, column, refersTo}
 use Rattle.chain.proofs.Following.{column-below}
 use Rattle.program.specs.declared.location.Located.{Located}
 use Rattle.program.specs.Program.{Target, own, remote, Rule, hasRemote, targetField}
+use Rattle.program.specs.Code.{Codes}
 use Rattle.program.specs.Stored.{rulesIn}
 use Rattle.program.specs.declared.rule.Sort.{Sort}
 use Rattle.machine.specs.declared.message.Message.{Message}
@@ -35,7 +36,7 @@ use Rattle.step_effects.specs.declared.sent.Sent.{Sent}
 use Rattle.step_effects.specs.declared.sent.Sent.the-variants as S
 use Rattle.step_cells.specs.Work.{Room, HoldsCells, Same, Put, Small}
 use Rattle.step_rules.specs.Ready.{Targets}
-use Rattle.step_rules.specs.Delivered.{RuleDelivered, Delivered}
+use Rattle.step_rules.specs.Delivered.{Addresses, RuleDelivered, Delivered}
 use Rattle.step_cells.proofs.Working.{same-refl, same-then, same-put, holds-put, held-at, small-put}
 use Rattle.step_rules.proofs.Locals.{ruleAt, rules-more}
 use Rattle.step_cells.proofs.Merging.{merged-below}
@@ -100,27 +101,25 @@ rule-addressed n read r {m} h e = go (holds read (r .test)) e
 pub small-within : {b b′ base k : ℕ} {values : List ℤ} {marks : List ℕ} → b ≤ b′ → Small b base k values marks → Small b′ base k values marks
 small-within l h = record { below = λ j q. omega (arith, h .below j q) }
 
+-- the place that a message goes to
+pub message-below : (s : Sizes) (m : Message) → Limits s → Addresses s (S.One m) → cellIndex s (m .target) (column s (m .field)) < cellCount s
+message-below s m limits (target, field) = cellIndex-below s (m .target) (column s (m .field)) target (column-below s limits (m .field) field)
+
 -- one rule at record u
-module _ (s : Sizes) (cells : List Cell) (u : ℕ) (x : Located) where
+module _ (s : Sizes) (cells : List Cell) (u : ℕ) (r : Rule) where
   abbrev read : List ℕ → Reading
   read = followed s cells u
 
-  -- the place that its message goes to
-  pub record Placed (m : Message) : Type 0 where
-    pub target< : m .target < s .records
-    pub field : hasField s (m .field) ≡ true
-    pub below : cellIndex s (m .target) (column s (m .field)) < cellCount s
-
-  pub rule-place : {m : Message} → m ∷ [] ≡ ruleMessages read (ruleAt x) → Limits s → Targets (s .records) read (ruleAt x .target)
-      → hasField s (targetField (ruleAt x .target)) ≡ true → Placed m
-  rule-place {m} e limits targets field =
-      let a = rule-addressed (s .records) read (ruleAt x) targets e in
-      let f = ap (hasField s) (a .field-is) ∙ field in
-      record { target< = a .target<; field = f; below = cellIndex-below s (m .target) (column s (m .field)) (a .target<) (column-below s limits (m .field) f) }
+  pub rule-addresses : (x : Sent) → messagesIn x ≡ ruleMessages read r → Targets (s .records) read (r .target)
+      → hasField s (targetField (r .target)) ≡ true → Addresses s x
+  rule-addresses S.Nothing e targets field = tt
+  rule-addresses (S.One m) e targets field =
+      let a = rule-addressed (s .records) read r targets (one-sent e refl) in
+      (a .target<, ap (hasField s) (a .field-is) ∙ field)
 
   module _ (base : ℕ) (values : List ℤ) (marks : List ℕ) where
     -- it sends nothing
-    pub rule-silent : {n : ℕ} → [] ≡ ruleMessages read (ruleAt x) → RuleDelivered s cells base u x values marks values marks n n
+    pub rule-silent : {n : ℕ} → [] ≡ ruleMessages read r → RuleDelivered s cells base u r values marks values marks n n
     unfolding deliverAll
     rule-silent e = record {
       same = same-refl;
@@ -131,16 +130,17 @@ module _ (s : Sizes) (cells : List Cell) (u : ℕ) (x : Located) where
     }
 
     -- it sends one message, to a place of the working cells
-    pub rule-delivered : {m : Message} {j n : ℕ} {values′ : List ℤ} {marks′ : List ℕ} → m ∷ [] ≡ ruleMessages read (ruleAt x) → Placed m
-        → Room base (cellCount s) values marks → SFits w32 (m .amount) → j ≡ base + cellIndex s (m .target) (column s (m .field))
-        → Put j (merged (m .sort) (storedAt values marks j) (m .amount)) values marks values′ marks′
-        → RuleDelivered s cells base u x values marks values′ marks′ n (n + 1)
+    pub rule-delivered : {m : Message} {j n : ℕ} {z : ℤ} {values′ : List ℤ} {marks′ : List ℕ} → m ∷ [] ≡ ruleMessages read r → cellIndex s (m .target) (column s (m .field)) < cellCount s
+        → Room base (cellCount s) values marks → SFits w32 (m .amount) → j ≡ base + cellIndex s (m .target) (column s (m .field)) → z ≡ m .amount
+        → Put j (merged (m .sort) (storedAt values marks j) z) values marks values′ marks′
+        → RuleDelivered s cells base u r values marks values′ marks′ n (n + 1)
     unfolding deliverAll deliver
-    rule-delivered {m} {j} {values′ = values′} {marks′ = marks′} e placed room fits at p =
+    rule-delivered {m} {j} {values′ = values′} {marks′ = marks′} e below room fits at q p =
         let k = cellIndex s (m .target) (column s (m .field)) in
-        let below : k < cellCount s = placed .below in
         let there : ℕ → Cell = λ i. merged (m .sort) (storedAt values marks i) (m .amount) in
-        let p′ : Put (base + k) (there (base + k)) values marks values′ marks′ = subst (λ (i : ℕ). Put i (there i) values marks values′ marks′) at p in
+        let p′ : Put (base + k) (there (base + k)) values marks values′ marks′ =
+        subst (λ (i : ℕ). Put i (there i) values marks values′ marks′) at
+        (subst (λ (z : ℤ). Put j (merged (m .sort) (storedAt values marks j) z) values marks values′ marks′) q p) in
         record {
           same = same-put base k p′;
           holds = λ d l h.
@@ -152,6 +152,12 @@ module _ (s : Sizes) (cells : List Cell) (u : ℕ) (x : Located) where
           small = λ b h.
               small-put base k p′ room below (merged-below (m .sort) (storedAt values marks (base + k)) (m .amount) fits (h .below k below)) (omega arith) h;
         }
+
+-- under the names that a later state has
+pub delivered-as : {s : Sizes} {cells cells′ : List Cell} {base u : ℕ} {r : Rule} {values values′ values″ : List ℤ} {marks marks′ marks″ : List ℕ} {n n′ n″ : ℕ}
+    → RuleDelivered s cells base u r values marks values′ marks′ n n′ → cells ≡ cells′ → values″ ≡ values′ → marks″ ≡ marks′ → n″ ≡ n′
+    → RuleDelivered s cells′ base u r values marks values″ marks″ n n″
+delivered-as d e v m q = rw (← e, v, m, q) d
 
 -- what the first k rules deliver from record u, and what all deliver from the first records: as many messages are counted behind
 -- the n before, and a value grows by one amount for each
@@ -181,26 +187,26 @@ sends-then {s} {ms} {ns} {base} {values″ = values″} {marks″ = marks″} a 
 }
 
 -- one rule more at record u
-pub sends-more : (s : Sizes) (cells : List Cell) (places : List Located) (u k : ℕ) (x : Located) {base b n n′ i : ℕ}
+pub sends-more : (s : Sizes) (cells : List Cell) (codes : Codes) (places : List Located) (u k : ℕ) (x : Located) {base b n n′ i : ℕ}
     {values values′ values″ : List ℤ} {marks marks′ marks″ : List ℕ} → k < length places
-    → Sends s (messages (followed s cells u) (rulesIn k places)) base b n values marks values′ marks′ n′
-    → RuleDelivered s cells base u (getD places k x) values′ marks′ values″ marks″ n′ i → {k′ : ℕ} → k′ ≡ suc k → {b′ : ℕ} → b + 2147483648 ≤ b′
-    → Sends s (messages (followed s cells u) (rulesIn k′ places)) base b′ n values marks values″ marks″ i
-sends-more s cells places u k x {base} {b} {n′ = n′} {i} {values′ = values′} {values″} {marks′ = marks′} {marks″} h t r q {b′} l =
+    → Sends s (messages (followed s cells u) (rulesIn codes k places)) base b n values marks values′ marks′ n′
+    → RuleDelivered s cells base u (ruleAt codes (getD places k x)) values′ marks′ values″ marks″ n′ i → {k′ : ℕ} → k′ ≡ suc k → {b′ : ℕ} → b + 2147483648 ≤ b′
+    → Sends s (messages (followed s cells u) (rulesIn codes k′ places)) base b′ n values marks values″ marks″ i
+sends-more s cells codes places u k x {base} {b} {n′ = n′} {i} {values′ = values′} {values″} {marks′ = marks′} {marks″} h t r q {b′} l =
     let read = followed s cells u in
-    let rule = ruleAt (getD places k x) in
+    let rule = ruleAt codes (getD places k x) in
     let one : Sends s (ruleMessages read rule) base b′ n′ values′ marks′ values″ marks″ i =
     record { same = r .same; holds = r .holds; sent-is = r .sent-is; small = small-within l (r .small b (t .small)) } in
-    rw (q, rules-more places k x h, messages-more read (rulesIn k places) rule) (sends-then t one)
+    rw (q, rules-more codes places k x h, messages-more read (rulesIn codes k places) rule) (sends-then t one)
 
 -- one record more
-pub sends-record : (s : Sizes) (cells : List Cell) (places : List Located) (rules n : ℕ) {base b b′ i j k : ℕ}
+pub sends-record : (s : Sizes) (cells : List Cell) (codes : Codes) (places : List Located) (rules n : ℕ) {base b b′ i j k : ℕ}
     {values values′ values″ : List ℤ} {marks marks′ marks″ : List ℕ}
-    → Sends s (recordMessages (followed s cells) (rulesIn rules places) n) base b i values marks values′ marks′ j
-    → {r : ℕ} → r ≡ rules → Sends s (messages (followed s cells n) (rulesIn r places)) base b′ j values′ marks′ values″ marks″ k
-    → {n′ : ℕ} → n′ ≡ suc n → {b″ : ℕ} → b′ ≤ b″ → Sends s (recordMessages (followed s cells) (rulesIn rules places) n′) base b″ i values marks values″ marks″ k
+    → Sends s (recordMessages (followed s cells) (rulesIn codes rules places) n) base b i values marks values′ marks′ j
+    → {r : ℕ} → r ≡ rules → Sends s (messages (followed s cells n) (rulesIn codes r places)) base b′ j values′ marks′ values″ marks″ k
+    → {n′ : ℕ} → n′ ≡ suc n → {b″ : ℕ} → b′ ≤ b″ → Sends s (recordMessages (followed s cells) (rulesIn codes rules places) n′) base b″ i values marks values″ marks″ k
 unfolding recordMessages
-sends-record s cells places rules n t e r q l =
+sends-record s cells codes places rules n t e r q l =
     let all = sends-then t (rw e at r) in
     rw q (record { same = all .same; holds = all .holds; sent-is = all .sent-is; small = small-within l (all .small) })
 

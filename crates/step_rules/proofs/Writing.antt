@@ -16,7 +16,7 @@ use Rattle.chain.specs.Word.{column}
 use Rattle.program.specs.Program.{Target, own, remote, Rule, targetField}
 use Rattle.machine.specs.Value.{value, holds}
 use Rattle.machine.specs.Local.{storedOver, assign, offends, localRule}
-use Rattle.step_effects.specs.Answers.{readingWrite, targetWrite, writeOf}
+use Rattle.step_effects.specs.Answers.{targetWrite, writeOf}
 use Rattle.step_effects.specs.declared.stored.Write.{Write}
 use Rattle.step_effects.specs.declared.stored.Write.the-variants.{Nothing, Store, OutOfRange}
 
@@ -54,7 +54,7 @@ module _ (read : List ℕ → Reading) (r : Rule) where
 
   tells : (o h : Bool) (t : Target) (x : Reading) → offends read r ≡ o → holds read (r .test) ≡ h → r .target ≡ t → value read (r .expression) ≡ x
       → Tells read r (cond o (OutOfRange (targetField t)) (cond h (targetWrite t x) Nothing))
-  unfolding targetWrite readingWrite assign storedOver targetField
+  unfolding targetWrite assign storedOver targetField
   tells true h t x p q k l = record { out-of-range = p; field-is = ap targetField (sym k) }
   tells false false t x p q k l = record { in-range = p; cells-are = idle q }
   tells false true (own f) R.Missing p q k l = record { in-range = p; cells-are = λ s u d. done q k l s u d ∙ set-getD d _ Missing }

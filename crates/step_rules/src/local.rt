@@ -6,10 +6,11 @@ ghost use lib.ListN.{length, take};
 ghost use Rattle.register.specs.File.{cellCount, cellIndex, cellsOfFile};
 ghost use Rattle.register.specs.Shape.{Limits};
 ghost use Rattle.chain.specs.Word.{hasField, column as columnOf};
+ghost use Rattle.program.specs.Code.{codesKept};
 ghost use Rattle.program.specs.Stored.{ruleIn};
 ghost use Rattle.register.specs.declared.cells.Cell.the-variants.{WorkedOut};
 ghost use Rattle.step_cells.specs.Work.{Room, Put};
-ghost use Rattle.step_rules.specs.Ready.{RuleReady, LocalRule};
+ghost use Rattle.step_rules.specs.Ready.{RuleReady, PlainReady, LocalRule, WritesField, Performed, PlainLocal};
 use chain::follow;
 use program::location::Located;
 use register::Sizes;
@@ -17,6 +18,7 @@ use register::cells;
 use scratch;
 use step_cells;
 use step_cells::stop::Stop;
+use step_effects::plain;
 use step_effects::stored;
 use step_effects::stored::Write;
 
@@ -37,8 +39,67 @@ fn store(
     scratch::put(values, marks, place, integers::widen(value), 2);
 }
 
+// What a rule asks for in record u: a value is stored, or the step stops where a sum leaves the range.
+fn perform(
+    values: &mut [i64],
+    marks: &mut [u8],
+    sizes: Sizes,
+    base: usize,
+    u: usize,
+    write: Write,
+) -> Stop
+    requires { ⌜ Limits sizes × (u < sizes .records) × WritesField sizes write × Room base (cellCount sizes) (now values) (now marks) ⌝ }
+    ensures { λ r. ⌜ Performed sizes base u write (now (values .entry)) (now (marks .entry)) (now (values .exit)) (now (marks .exit)) r ⌝ }
+{
+    match write {
+        Write::Nothing => Stop::Nowhere,
+        Write::Store(field, value) => {
+            store(values, marks, sizes, base, u, field, value);
+            Stop::Nowhere
+        }
+        Write::OutOfRange(field) => Stop::At(u, follow::column(sizes, field as usize)),
+    }
+}
+
 // One rule at record u of the register in `out`.
 pub fn apply_rule(
+    out: &[u8],
+    values: &mut [i64],
+    marks: &mut [u8],
+    sizes: Sizes,
+    base: usize,
+    u: usize,
+    kinds: &[u8],
+    numbers: &[i32],
+    chains: &[u64],
+    places: &[u8],
+    rule: Located,
+) -> Stop
+    requires { ⌜ Limits sizes × (length (now out) ≡ 12 + 5 * cellCount sizes) × (u < sizes .records) × Room base (cellCount sizes) (now values) (now marks) ⌝ }
+    requires { ⌜ RuleReady sizes (cellsOfFile sizes (now out)) (take base (now values)) (take base (now marks))
+        (codesKept (now kinds) (now numbers) (now chains)) (now places) rule ⌝ }
+    ensures { λ r. ⌜ LocalRule sizes (cellsOfFile sizes (now (out .entry))) base u
+        (ruleIn (codesKept (now (kinds .entry)) (now (numbers .entry)) (now (chains .entry))) (rule .slot))
+        (now (values .entry)) (now (marks .entry)) (now (values .exit)) (now (marks .exit)) r ⌝ }
+{
+    let write = stored::local_write(
+        cells::values_part(out, sizes),
+        cells::marks_part(out, sizes),
+        &values[..base],
+        &marks[..base],
+        sizes,
+        u,
+        kinds,
+        numbers,
+        chains,
+        places,
+        rule,
+    );
+    perform(values, marks, sizes, base, u, write)
+}
+
+// The same for a plain rule, which needs no codes.
+pub fn apply_plain(
     out: &[u8],
     values: &mut [i64],
     marks: &mut [u8],
@@ -48,10 +109,11 @@ pub fn apply_rule(
     rule: Located,
 ) -> Stop
     requires { ⌜ Limits sizes × (length (now out) ≡ 12 + 5 * cellCount sizes) × (u < sizes .records) × Room base (cellCount sizes) (now values) (now marks) ⌝ }
-    requires { ⌜ RuleReady sizes (cellsOfFile sizes (now out)) (take base (now values)) (take base (now marks)) rule ⌝ }
-    ensures { λ r. ⌜ LocalRule sizes (cellsOfFile sizes (now (out .entry))) base u (ruleIn (rule .slot)) (now (values .entry)) (now (marks .entry)) (now (values .exit)) (now (marks .exit)) r ⌝ }
+    requires { ⌜ PlainReady sizes (cellsOfFile sizes (now out)) (take base (now values)) (take base (now marks)) rule ⌝ }
+    ensures { λ r. ⌜ PlainLocal sizes (cellsOfFile sizes (now (out .entry))) base u (rule .slot)
+        (now (values .entry)) (now (marks .entry)) (now (values .exit)) (now (marks .exit)) r ⌝ }
 {
-    match stored::local_write(
+    let write = plain::local_write(
         cells::values_part(out, sizes),
         cells::marks_part(out, sizes),
         &values[..base],
@@ -59,12 +121,6 @@ pub fn apply_rule(
         sizes,
         u,
         rule,
-    ) {
-        Write::Nothing => Stop::Nowhere,
-        Write::Store(field, value) => {
-            store(values, marks, sizes, base, u, field, value);
-            Stop::Nowhere
-        }
-        Write::OutOfRange(field) => Stop::At(u, follow::column(sizes, field as usize)),
-    }
+    );
+    perform(values, marks, sizes, base, u, write)
 }

@@ -16,7 +16,7 @@ use Rattle.chain.specs.declared.reading.Reading.{Reading}
 use Rattle.chain.specs.declared.reading.Reading.the-variants.{Missing, Value}
 use Rattle.chain.specs.Word.{hasField, readCell, unpack, valueAtRecord}
 use Rattle.program.specs.declared.term.Term.{Term}
-use Rattle.program.specs.declared.term.Term.the-variants.{Chain, Number}
+use Rattle.program.specs.declared.term.Term.the-variants.{Chain, Number, Tree}
 use Rattle.program.specs.declared.rule.Test.{Test}
 use Rattle.program.specs.declared.rule.Test.the-variants.{Always, When}
 use Rattle.program.specs.declared.rule.Rule.{Rule}
@@ -26,6 +26,7 @@ use Rattle.program.specs.declared.location.Location.the-variants.{Own, Cell, Li
 use Rattle.program.specs.declared.location.Places.{Places}
 use Rattle.program.specs.declared.location.Located.{Located}
 use Rattle.program.specs.Program.{Target, own, remote}
+use Rattle.program.specs.Code.{Codes, Arrays, Formed, codesOf, EachChain}
 use Rattle.scratch.specs.Places.{placeAt}
 
 -- "Line i, from 0, and origin u have place i × n + u"
@@ -63,23 +64,34 @@ pub record WordFound (s : Sizes) (cells : List C.Cell) (values : List ℤ) (mark
   pub reaches : Reaches s values marks u at
   pub found-is : foundAt s cells values marks u at ≡ followed s cells u w
 
-abbrev pub TermFound : Sizes → List C.Cell → List ℤ → List ℕ → ℕ → Location → Term → Type 0
-TermFound s cells values marks u at (Chain c) = WordFound s cells values marks u at (unpack c)
-TermFound s cells values marks u at (Number z) = Unit {0}
+-- the codes from..to are those of an expression, and record u finds each chain of them where its place says
+pub record TreeFound (s : Sizes) (cells : List C.Cell) (values : List ℤ) (marks : List ℕ) (u : ℕ) (k : Codes) (places : List ℕ)
+    (from to : ℕ) : Type 0 where
+  pub formed : Formed (codesOf k from to)
+  pub some : from < to
+  pub kept : Arrays (k .kinds) (k .numbers) places to
+  pub found : EachChain (WordFound s cells values marks u) (k .kinds) (k .chains) places from to
 
-abbrev pub TestFound : Sizes → List C.Cell → List ℤ → List ℕ → ℕ → Places → Test → Type 0
-TestFound s cells values marks u p Always = Unit {0}
-TestFound s cells values marks u p (When x c y) = TermFound s cells values marks u (p .first) x × TermFound s cells values marks u (p .second) y
+-- record u finds each reading of a term, of a test and of a rule; k are the codes beside the rules, with the place of each chain
+module _ (s : Sizes) (cells : List C.Cell) (values : List ℤ) (marks : List ℕ) (u : ℕ) (k : Codes) (places : List ℕ) where
+  abbrev pub TermFound : Location → Term → Type 0
+  TermFound at (Chain c) = WordFound s cells values marks u at (unpack c)
+  TermFound at (Number z) = Unit {0}
+  TermFound at (Tree from to) = TreeFound s cells values marks u k places from to
 
-abbrev pub RuleFound : Sizes → List C.Cell → List ℤ → List ℕ → ℕ → Places → Rule → Type 0
-RuleFound s cells values marks u p (Set f x) = TermFound s cells values marks u (p .first) x
-RuleFound s cells values marks u p (Combine f op x y) = TermFound s cells values marks u (p .first) x × TermFound s cells values marks u (p .second) y
-RuleFound s cells values marks u p (Remote k f c x) = WordFound s cells values marks u (p .first) (unpack c) × TermFound s cells values marks u (p .second) x
+  abbrev pub TestFound : Places → Test → Type 0
+  TestFound p Always = Unit {0}
+  TestFound p (When x c y) = TermFound (p .first) x × TermFound (p .second) y
 
--- every reading of a rule and its test
-pub record RuleReads (s : Sizes) (cells : List C.Cell) (values : List ℤ) (marks : List ℕ) (u : ℕ) (x : Located) : Type 0 where
-  pub test : TestFound s cells values marks u (x .at .test) (x .slot .test)
-  pub rule : RuleFound s cells values marks u (x .at .rule) (x .slot .rule)
+  abbrev pub RuleFound : Places → Rule → Type 0
+  RuleFound p (Set f x) = TermFound (p .first) x
+  RuleFound p (Combine f op x y) = TermFound (p .first) x × TermFound (p .second) y
+  RuleFound p (Remote sort f c x) = WordFound s cells values marks u (p .first) (unpack c) × TermFound (p .second) x
+
+  -- every reading of a rule and its test
+  pub record RuleReads (x : Located) : Type 0 where
+    pub test : TestFound (x .at .test) (x .slot .test)
+    pub rule : RuleFound (x .at .rule) (x .slot .rule)
 
 -- a reading that is missing or names a record
 abbrev pub Names : Reading → Type 0

@@ -1,2 +1,2 @@
-// What one record makes of the terms and the test of a rule.
+// What one record finds for the readings of a rule.
 pub mod term;

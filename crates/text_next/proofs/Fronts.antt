@@ -8,12 +8,19 @@ use native.Mathlib.Decide.{decLt}
 use native.Mathlib.Numerals.{add-one}
 use borrow.Author.Tests.{eqb-true, not-false, lt-ltb, le-ltb}
 use lib.ListN.{length, getD, take, drop, length-drop, drop-of-length-le}
-use lib.Seq.{drop-cons, take-append-seam}
-use Rattle.text_forms.specs.Line.{lineForm}
-use Rattle.text_forms.proofs.Spans.{starts-within, span-text, span-every, span-behind}
+use lib.Seq.{drop-cons, take-append-seam, length-take-le}
+use Rattle.register.specs.declared.Sizes.{Sizes}
+use Rattle.program.specs.Code.{Codes}
+use Rattle.text_numerals.proofs.Spans.{starts-within, span-text, span-every, span-behind}
+use Rattle.text_syntax.specs.Lexing.{tokens}
+use Rattle.text_syntax.specs.Grammar.{anyForm, lineForm}
 use Rattle.text_rules.specs.Text.{isWithin, Piece, ended, cut, pieceForm, lines}
+use Rattle.text_rules.specs.LineRead.{no-form}
 use Rattle.text_rules.proofs.Pieces.{lines-ended, lines-cut}
-use Rattle.text_next.specs.Front.{lineBytes, firstForm}
+use Rattle.text_expressions.specs.Codes.{Roomy}
+use Rattle.text_lines.specs.Line.{LineAt, noParts}
+use Rattle.text_lines.specs.declared.line.LineParts.{LineParts}
+use Rattle.text_next.specs.Front.{lineBytes, firstForm, CodeRoom, LineNext}
 
 -- a first line with byte 10 behind it, and a last line without
 first-ended : (t : List ℕ) → length (lineBytes t) < length t → lines t ≡ ended (lineBytes t) ∷ lines (drop (length (lineBytes t) + 1) t)
@@ -35,7 +42,7 @@ module _ (t : List ℕ) (at : ℕ) where
   unfolding firstForm
   first-past h = rw (le-ltb (length (lineBytes (drop at t))) (length (drop at t)) (omega (arith, length-drop at t)))
 
-  pub first-within : (end : ℕ) → end ≡ at + length (lineBytes (drop at t)) → end < length t → firstForm (drop at t) ≡ lineForm (take (end - at) (drop at t))
+  pub first-within : (end : ℕ) → end ≡ at + length (lineBytes (drop at t)) → end < length t → firstForm (drop at t) ≡ lineForm (tokens (take (end - at) (drop at t)))
   unfolding firstForm
   first-within end e h =
       let u = drop at t in
@@ -56,3 +63,34 @@ lines-first b t = go (decLt (length (lineBytes (b ∷ t))) (length (b ∷ t)))
           rw (le-ltb (length (lineBytes (b ∷ t))) (length (b ∷ t)) past),
           first-cut b t past ∙ ap (λ (l : List ℕ). cut (b ∷ t) ∷ lines l) (sym (drop-of-length-le (b ∷ t) {i = length (lineBytes (b ∷ t)) + 1} (omega arith))),
         )
+
+-- what is read of the line at a place, by the form of its part up to byte 10
+module _ (s : Sizes) (t : List ℕ) (at end count : ℕ) (e : end ≡ at + length (lineBytes (drop at t))) (few : count ≤ at) where
+  pub next-none : (a b : Codes) → length t ≤ end → LineNext s (firstForm (drop at t)) end a b count (noParts count)
+  next-none a b h = record {
+    reads = rw (first-past t at (omega (arith, e))) no-form;
+    leaves = tt;
+    more-codes = omega arith;
+    few-codes = omega (arith, e);
+  }
+
+  part-length : end < length t → length (take (end - at) (drop at t)) ≡ end - at
+  part-length h = length-take-le (end - at) (drop at t) (omega (arith, e, length-drop at t))
+
+  pub next-roomy : (a : Codes) → end < length t → CodeRoom (length t) a → Roomy a (take (end - at) (drop at t)) 0 count
+  next-roomy a h room = record {
+    kinds = omega (arith, part-length h, e, room .in-kinds);
+    numbers = omega (arith, part-length h, e, room .in-numbers);
+    chains = omega (arith, part-length h, e, room .in-chains);
+  }
+
+  pub next-line : (a b : Codes) (r : LineParts) → end < length t
+      → LineAt s (take (end - at) (drop at t)) 0 (anyForm (tokens (take (end - at) (drop at t)))) a b count count r
+      → LineNext s (firstForm (drop at t)) end a b count r
+  unfolding lineForm
+  next-line a b r h l = record {
+    reads = rw (first-within t at end e h) (l .reads);
+    leaves = l .leaves;
+    more-codes = l .more-codes;
+    few-codes = omega (arith, l .few-codes, part-length h, e);
+  }

@@ -3,11 +3,12 @@ ghost use mathlib.Core.Path.{_≡_};
 ghost use Prim.Native.Nat.{_+_, _≤_, _<_};
 ghost use lib.ListN.{length, drop};
 ghost use Rattle.register.specs.Shape.{Limits};
-ghost use Rattle.text_line.specs.LineRead.{lineRead};
-ghost use Rattle.text_next.specs.Front.{lineGoesOn, lineBytes, firstForm};
+ghost use Rattle.program.specs.Code.{codesKept};
+ghost use Rattle.text_next.specs.Front.{lineGoesOn, lineBytes, firstForm, CodeRoom, LineNext};
 use register::Sizes;
-use text_line::line;
-use text_line::line::LineRead;
+use text_lines::line;
+use text_lines::line::LineParts;
+use text_rules::line::LineRead;
 
 // Whether the line goes on at `at`: neither byte 10 nor the end of the text stands there.
 fn goes_on(text: &[u8], at: usize) -> bool
@@ -31,13 +32,30 @@ pub fn line_end(text: &[u8], at: usize) -> usize
     i
 }
 
-// The line from `at` to `end`; "a last line without byte 10" has no form.
-pub fn read_first(text: &[u8], at: usize, end: usize, sizes: Sizes) -> LineRead
-    requires { ⌜ Limits sizes × (at < length (now text)) × (end ≡ at + length (lineBytes (drop at (now text)))) ⌝ }
-    ensures { λ r. ⌜ r ≡ lineRead sizes (firstForm (drop at (now (text .entry)))) ⌝ }
+// The line from `at` to `end`, the codes of its expressions written from `count` on; "a last line without byte 10" has no
+// form.
+pub fn read_first(
+    text: &[u8],
+    at: usize,
+    end: usize,
+    sizes: Sizes,
+    kinds: &mut [u8],
+    numbers: &mut [i32],
+    chains: &mut [u64],
+    count: usize,
+) -> LineParts
+    requires { ⌜ Limits sizes × (at < length (now text)) × (end ≡ at + length (lineBytes (drop at (now text)))) × (count ≤ at)
+        × CodeRoom (length (now text)) (codesKept (now kinds) (now numbers) (now chains)) ⌝ }
+    ensures { λ r.
+        ⌜ LineNext sizes (firstForm (drop at (now (text .entry)))) end
+        (codesKept (now (kinds .entry)) (now (numbers .entry)) (now (chains .entry)))
+        (codesKept (now (kinds .exit)) (now (numbers .exit)) (now (chains .exit))) count r ⌝ }
 {
     if text.len() <= end {
-        return LineRead::NoForm;
+        return LineParts {
+            line: LineRead::NoForm,
+            codes: count,
+        };
     }
-    line::read_line(&text[at..end], sizes)
+    line::read_line(&text[at..end], sizes, kinds, numbers, chains, count)
 }

@@ -3,4 +3,3 @@ pub mod Listing
 pub mod Marking
 pub mod Placing
 pub mod Plans
-pub mod Slots

@@ -1,13 +1,12 @@
 -- Locations and the lines that they name: which of them the plan has, and that they stay where it grows.
 use Prim.Native.Nat.{ℕ, _-_, _≤_, _<_}
-use mathlib.Core.Path.{_≡_, refl, ap, _∙_}
+use mathlib.Core.Path.{_≡_, refl, ap}
 use mathlib.Core.Bool.{true}
 use mathlib.Core.List.{List, [], _∷_, _++_}
 use mathlib.Core.Logic.{_≢_, ⊎-elim}
 use native.Mathlib.Omega.{arith}
 use borrow.Author.Tests.{ltb-true, lt-ltb}
 use lib.ListN.{length}
-use Rattle.laws.proofs.Bools.{and-both}
 use Rattle.laws.proofs.Cases.{lt-or-le}
 use Rattle.chain.specs.Word.{unpack}
 use Rattle.chain.proofs.Packing.{unpack-none, unpack-last}
@@ -20,13 +19,11 @@ use Rattle.plan_lines.specs.declared.Found.the-variants.{At, Nothing}
 use Rattle.plan_lines.proofs.Settled.{found-old, found-new}
 use Rattle.program.specs.declared.location.Location.the-variants.{Own, Cell, Line}
 use Rattle.program.specs.declared.location.Location.{Location}
-use Rattle.program.specs.declared.location.Places.{Places}
-use Rattle.program.specs.declared.location.Locations.{Locations}
-use Rattle.program.specs.declared.location.Pair.{Pair}
-use Rattle.program.specs.declared.location.Readings.{Readings}
-use Rattle.program.specs.Location.{locationOf, placesIn, locationsIn}
+use Rattle.program.specs.Code.{locationAt, placeOf}
+use Rattle.program.specs.Location.{locationOf}
 use Rattle.program.proofs.Locations.{location-line}
-use Rattle.text_plan.specs.Listed.{isListed, areListed, allListed}
+use Rattle.program.proofs.Codes.{cell-place, line-place}
+use Rattle.text_plan.specs.Listed.{isListed, Placeable}
 
 -- the location of a chain by its packed number
 module _ (l : List Fact) (n : ℕ) where
@@ -65,32 +62,32 @@ had-listed l (f ∷ []) h = refl
 had-listed l (f ∷ g ∷ w) h = lt-ltb (lineIndex l (read (f ∷ g ∷ w))) (length l) (h (omega arith))
 
 -- lines that are listed are so among more, and at the same locations
-module _ {n m : ℕ} (k : n ≤ m) where
-  listed-le : (x : Location) → isListed n x ≡ true → isListed m x ≡ true
-  unfolding isListed
-  listed-le Own h = refl
-  listed-le (Cell f) h = refl
-  listed-le (Line i) h = lt-ltb i m (omega (arith, ltb-true i n h))
+pub listed-le : {n m : ℕ} → n ≤ m → (x : Location) → isListed n x ≡ true → isListed m x ≡ true
+unfolding isListed
+listed-le k Own h = refl
+listed-le k (Cell f) h = refl
+listed-le {n} {m} k (Line i) h = lt-ltb i m (omega (arith, ltb-true i n h))
 
-  pair-le : (p : Places) → areListed n p ≡ true → areListed m p ≡ true
-  unfolding areListed
-  pair-le p h = let (a, b) = and-both _ _ h in rw (listed-le (p .first) a, listed-le (p .second) b)
+pub listed-stays : (l m : List Fact) (w : List ℕ) → isListed (length l) (locationOf l w) ≡ true → locationOf (l ++ m) w ≡ locationOf l w
+unfolding isListed locationOf
+listed-stays l m [] h = refl
+listed-stays l m (f ∷ []) h = refl
+listed-stays l m (f ∷ g ∷ w) h = ap Line (place-append-listed l m (read (f ∷ g ∷ w)) (ltb-true _ (length l) h))
 
-  pub all-le : (at : Locations) → allListed n at ≡ true → allListed m at ≡ true
-  unfolding allListed
-  all-le at h = let (a, b) = and-both _ _ h in rw (pair-le (at .test) a, pair-le (at .rule) b)
+-- the location of a chain has a place, and the place tells it
+pub chain-placeable : (l : List Fact) (n : ℕ) → length l ≤ 64 → Placeable (locationOf l (unpack n))
+chain-placeable l n h =
+    ⊎-elim
+    (λ (b : 16 < n). rw (chain-line l n b) (omega (arith, place-le l (read (unpack n)))))
+    (λ (b : n ≤ 16).
+    ⊎-elim
+    (λ (c : 0 < n). rw (chain-cell l n (λ e. omega arith) b) (omega arith))
+    (λ (c : n ≤ 0). let e : n ≡ 0 = omega arith in rw (chain-own l n e) tt)
+    (lt-or-le 0 n))
+    (lt-or-le 16 n)
 
-module _ (l m : List Fact) where
-  listed-stays : (w : List ℕ) → isListed (length l) (locationOf l w) ≡ true → locationOf (l ++ m) w ≡ locationOf l w
-  unfolding isListed locationOf
-  listed-stays [] h = refl
-  listed-stays (f ∷ []) h = refl
-  listed-stays (f ∷ g ∷ w) h = ap Line (place-append-listed l m (read (f ∷ g ∷ w)) (ltb-true _ (length l) h))
-
-  pair-stays : (p : Pair) → areListed (length l) (placesIn l p) ≡ true → placesIn (l ++ m) p ≡ placesIn l p
-  unfolding areListed
-  pair-stays p h = let (a, b) = and-both _ _ h in rw (listed-stays (unpack (p .first)) a, listed-stays (unpack (p .second)) b)
-
-  pub all-stays : (x : Readings) → allListed (length l) (locationsIn l x) ≡ true → locationsIn (l ++ m) x ≡ locationsIn l x
-  unfolding allListed
-  all-stays x h = let (a, b) = and-both _ _ h in rw (pair-stays (x .test) a, pair-stays (x .rule) b)
+pub place-told : (x : Location) → Placeable x → locationAt (placeOf x) ≡ x
+unfolding locationAt placeOf
+place-told Own h = refl
+place-told (Cell f) h = cell-place f h
+place-told (Line i) h = line-place i

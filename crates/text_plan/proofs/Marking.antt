@@ -1,62 +1,68 @@
--- Marks of the lines that are wanted: those of one more rule, beside those before.
-use Prim.Native.Nat.{ℕ, _≤_, _<_}
+-- Marks of the lines that are wanted, and what was found before more of them are.
+use Prim.Native.Nat.{ℕ, suc, _+_, _≤_, _<_}
 use mathlib.Core.Path.{_≡_, refl, _∙_}
 use mathlib.Core.Bool.{Bool, true, false}
 use mathlib.Core.List.{List}
-use mathlib.Core.Logic.{⊎-elim}
+use mathlib.Core.Logic.{_≢_, ⊎-elim}
 use native.Mathlib.Decide.{ℕ-discrete}
+use native.Mathlib.Omega.{arith}
 use borrow.Author.Tests.{ltb-true}
 use lib.ListN.{length, getD, set, length-set, List·getD-eq-default}
 use lib.Seq.{getD-set-same, getD-set-other}
-use Rattle.laws.proofs.Bools.{and-both, true-false}
+use Rattle.laws.proofs.Bools.{true-false}
 use Rattle.laws.proofs.Cases.{lt-or-le}
+use Rattle.chain.specs.Word.{unpack}
+use Rattle.plan_theory.specs.Plan.{Fact}
+use Rattle.program.specs.declared.term.Term.{Term}
+use Rattle.program.specs.declared.term.Term.the-variants.{Chain, Number, Tree}
+use Rattle.program.specs.declared.rule.Test.{Test}
+use Rattle.program.specs.declared.rule.Test.the-variants.{Always, When}
+use Rattle.program.specs.declared.rule.Rule.{Rule}
 use Rattle.program.specs.declared.location.Location.{Location}
 use Rattle.program.specs.declared.location.Location.the-variants.{Own, Cell, Line}
 use Rattle.program.specs.declared.location.Places.{Places}
-use Rattle.program.specs.declared.location.Locations.{Locations}
-use Rattle.program.specs.Location.{Wants, PlacesWanted, AllWanted}
-use Rattle.text_plan.specs.Listed.{isListed, areListed, allListed, withLine, withLines, withWanted}
-
--- what one list marks, the other marks too
-pub record Marked (a b : List Bool) : Type 0 where
-  pub stays : (i : ℕ) → getD a i false ≡ true → getD b i false ≡ true
+use Rattle.program.specs.Code.{EachChain, locationAt, placeOf}
+use Rattle.program.specs.Location.{Wants, locationOf}
+use Rattle.program.specs.Terms.{TestTerms, RuleTerms, TermFrom, TermPlaced, TestPlaced, RulePlaced}
+use Rattle.text_plan.specs.Listed.{isListed, withLine, Placeable, WordFound, Marked, Below, FoundMore, Finds}
+use Rattle.text_plan.proofs.Listing.{place-told}
 
 marked-both : {a b c : List Bool} → Marked a b → Marked b c → Marked a c
-marked-both h k = record { stays = λ i m. k .stays i (h .stays i m) }
+marked-both h k = record { stays = λ i m. k .stays i (h .stays i m); same = k .same ∙ h .same }
 
 marked-below : (a : List Bool) (i : ℕ) → getD a i false ≡ true → i < length a
 marked-below a i h =
     ⊎-elim (λ (k : i < length a). k) (λ (k : length a ≤ i). true-false h (List·getD-eq-default a false {n = i} k)) (lt-or-le i (length a))
 
-module _ (a b : List Bool) (m : Marked a b) where
-  wants-more : (x : Location) → Wants a x → Wants b x
-  wants-more Own h = tt
-  wants-more (Cell f) h = tt
-  wants-more (Line i) h = m .stays i h
+pub wants-more : {a b : List Bool} → Marked a b → (x : Location) → Wants a x → Wants b x
+wants-more m Own h = tt
+wants-more m (Cell f) h = tt
+wants-more m (Line i) h = m .stays i h
 
-  places-more : (p : Places) → PlacesWanted a p → PlacesWanted b p
-  places-more p h = record { first = wants-more (p .first) (h .first); second = wants-more (p .second) (h .second) }
+-- a word that is found stays so
+pub word-more : (l : List Fact) {a b : List Bool} → Marked a b → (at : Location) (w : List ℕ) → WordFound l a at w → WordFound l b at w
+word-more l m at w h = record { at-is = h .at-is; wants = λ k. wants-more m at (h .wants (rw (m .same) at k)) }
 
-  pub all-more : (at : Locations) → AllWanted a at → AllWanted b at
-  all-more at h = record { test = places-more (at .test) (h .test); rule = places-more (at .rule) (h .rule) }
-
--- marks keep their number, and stay
+-- the mark of one line
 module _ (wanted : List Bool) where
-  pub line-length : (x : Location) → length (withLine wanted x) ≡ length wanted
+  line-stays : (x : Location) (i : ℕ) → getD wanted i false ≡ true → getD (withLine wanted x) i false ≡ true
+  unfolding withLine
+  line-stays Own i h = h
+  line-stays (Cell f) i h = h
+  line-stays (Line k) i h = go (ℕ-discrete i k)
+    where
+      go : Dec (i ≡ k) → getD (set wanted k true) i false ≡ true
+      go (yes e) = rw (← e) (getD-set-same wanted i true false (marked-below wanted i h))
+      go (no n) = getD-set-other wanted k i true false n ∙ h
+
+  line-length : (x : Location) → length (withLine wanted x) ≡ length wanted
   unfolding withLine
   line-length Own = refl
   line-length (Cell f) = refl
   line-length (Line i) = length-set wanted i true
 
-  line-marked : (x : Location) → Marked wanted (withLine wanted x)
-  unfolding withLine
-  line-marked Own = record { stays = λ i h. h }
-  line-marked (Cell f) = record { stays = λ i h. h }
-  line-marked (Line k) = record { stays = λ i h. go i h (ℕ-discrete i k) }
-    where
-      go : (i : ℕ) → getD wanted i false ≡ true → Dec (i ≡ k) → getD (set wanted k true) i false ≡ true
-      go i h (yes e) = rw (← e) (getD-set-same wanted i true false (marked-below wanted i h))
-      go i h (no n) = getD-set-other wanted k i true false n ∙ h
+  pub line-marked : (x : Location) → Marked wanted (withLine wanted x)
+  line-marked x = record { stays = line-stays x; same = line-length x }
 
   line-wants : (x : Location) → isListed (length wanted) x ≡ true → Wants (withLine wanted x) x
   unfolding isListed withLine
@@ -64,38 +70,127 @@ module _ (wanted : List Bool) where
   line-wants (Cell f) h = tt
   line-wants (Line i) h = getD-set-same wanted i true false (ltb-true i (length wanted) h)
 
-module _ (wanted : List Bool) where
-  pub lines-length : (p : Places) → length (withLines wanted p) ≡ length wanted
-  unfolding withLines
-  lines-length p = line-length (withLine wanted (p .first)) (p .second) ∙ line-length wanted (p .first)
+  pub line-found : (l : List Fact) (x : Location) (w : List ℕ) → x ≡ locationOf l w → WordFound l (withLine wanted x) x w
+  line-found l x w e = record { at-is = e; wants = λ h. line-wants x (rw (line-length x) at h) }
 
-  lines-marked : (p : Places) → Marked wanted (withLines wanted p)
-  unfolding withLines
-  lines-marked p = marked-both (line-marked wanted (p .first)) (line-marked (withLine wanted (p .first)) (p .second))
+module _ (l : List Fact) (kinds chains : List ℕ) where
+  pub more-none : (wanted : List Bool) (places : List ℕ) → FoundMore l kinds chains wanted places wanted places
+  more-none wanted places = record { marked = record { stays = λ i h. h; same = refl }; sized = refl; keeps = λ from to h. h }
 
-  lines-wanted : (p : Places) → areListed (length wanted) p ≡ true → PlacesWanted (withLines wanted p) p
-  unfolding areListed withLines
-  lines-wanted p h =
-      let (a, b) = and-both _ _ h in
-      record {
-        first = wants-more _ _ (line-marked (withLine wanted (p .first)) (p .second)) (p .first) (line-wants wanted (p .first) a);
-        second = line-wants (withLine wanted (p .first)) (p .second) (rw (line-length wanted (p .first)) b);
-      }
+  -- marks alone
+  pub more-marks : {a b : List Bool} (places : List ℕ) → Marked a b → FoundMore l kinds chains a places b places
+  more-marks places m = record { marked = m; sized = refl; keeps = λ from to h i j k e. word-more l m _ _ (h i j k e) }
 
-module _ (wanted : List Bool) (at : Locations) where
-  pub wanted-length : length (withWanted wanted at) ≡ length wanted
-  unfolding withWanted
-  wanted-length = lines-length (withLines wanted (at .test)) (at .rule) ∙ lines-length wanted (at .test)
+  pub more-both : {a b c : List Bool} {p q r : List ℕ} → FoundMore l kinds chains a p b q → FoundMore l kinds chains b q c r → FoundMore l kinds chains a p c r
+  more-both h k = record {
+    marked = marked-both (h .marked) (k .marked);
+    sized = k .sized ∙ h .sized;
+    keeps = λ from to w. k .keeps from to (h .keeps from to w);
+  }
 
-  pub wanted-marked : Marked wanted (withWanted wanted at)
-  unfolding withWanted
-  wanted-marked = marked-both (lines-marked wanted (at .test)) (lines-marked (withLines wanted (at .test)) (at .rule))
+  -- the place of one chain
+  module _ {a b : List Bool} (m : Marked a b) (places : List ℕ) (i : ℕ) (x : Location) (inside : i < length places) (p : Placeable x)
+      (found : WordFound l b x (unpack (getD chains i 0))) where
+    abbrev placed : List ℕ
+    placed = set places i (placeOf x)
 
-  pub all-wanted : allListed (length wanted) at ≡ true → AllWanted (withWanted wanted at) at
-  unfolding allListed withWanted
-  all-wanted h =
-      let (a, b) = and-both _ _ h in
-      record {
-        test = places-more _ _ (lines-marked (withLines wanted (at .test)) (at .rule)) (at .test) (lines-wanted wanted (at .test) a);
-        rule = lines-wanted (withLines wanted (at .test)) (at .rule) (rw (lines-length wanted (at .test)) b);
-      }
+    here : WordFound l b (locationAt (getD placed i 0)) (unpack (getD chains i 0))
+    here = rw (getD-set-same places i (placeOf x) 0 inside, place-told x p) found
+
+    place-keeps : (from to : ℕ) → EachChain (WordFound l a) kinds chains places from to → EachChain (WordFound l b) kinds chains placed from to
+    place-keeps from to h j f t e = go (ℕ-discrete j i)
+      where
+        go : Dec (j ≡ i) → WordFound l b (locationAt (getD placed j 0)) (unpack (getD chains j 0))
+        go (yes q) = rw q here
+        go (no n) = rw (getD-set-other places i j (placeOf x) 0 n) (word-more l m _ _ (h j f t e))
+
+    pub more-place : FoundMore l kinds chains a places b placed
+    more-place = record { marked = m; sized = length-set places i (placeOf x); keeps = place-keeps }
+
+    pub each-place : EachChain (WordFound l b) kinds chains placed i (suc i)
+    each-place j f t e = let q : j ≡ i = omega arith in rw q here
+
+    pub below-place : (n : ℕ) → n ≤ i → Below n places placed
+    below-place n h j k = getD-set-other places i j (placeOf x) 0 (λ e. omega arith)
+
+  -- a code that is no chain
+  pub each-other : (P : Location → List ℕ → Type 0) (places : List ℕ) (i : ℕ) → getD kinds i 0 ≢ 0 → EachChain P kinds chains places i (suc i)
+  each-other P places i n j f t e = let q : j ≡ i = omega arith in absurd (n (rw q at e))
+
+  -- no code, and one code more
+  pub finds-none : (wanted : List Bool) (places : List ℕ) (from : ℕ)
+      → Finds l kinds chains (λ n. n ≤ from) (λ w q. EachChain (WordFound l w) kinds chains q from from) wanted places wanted places
+  finds-none wanted places from = record { more = more-none wanted places; below = λ n f i j. refl; found = λ i f t e. absurd (omega arith) }
+
+  finds-more : (from at : ℕ) → from ≤ at → {a b c : List Bool} {p q r : List ℕ}
+      → Finds l kinds chains (λ n. n ≤ from) (λ w z. EachChain (WordFound l w) kinds chains z from at) a p b q
+      → Finds l kinds chains (λ n. n ≤ at) (λ w z. EachChain (WordFound l w) kinds chains z at (suc at)) b q c r
+      → Finds l kinds chains (λ n. n ≤ from) (λ w z. EachChain (WordFound l w) kinds chains z from (suc at)) a p c r
+  finds-more from at o h k = record {
+    more = more-both (h .more) (k .more);
+    below = λ n f i j. k .below n (omega arith) i j ∙ h .below n f i j;
+    found = λ i f t e.
+        ⊎-elim (λ (b : i < at). k .more .keeps from at (h .found) i f b e) (λ (b : at ≤ i). k .found i b t e) (lt-or-le i at);
+  }
+
+  pub finds-plus : (from at : ℕ) → from ≤ at → {a b c : List Bool} {p q r : List ℕ}
+      → Finds l kinds chains (λ n. n ≤ from) (λ w z. EachChain (WordFound l w) kinds chains z from at) a p b q
+      → Finds l kinds chains (λ n. n ≤ at) (λ w z. EachChain (WordFound l w) kinds chains z at (suc at)) b q c r
+      → Finds l kinds chains (λ n. n ≤ from) (λ w z. EachChain (WordFound l w) kinds chains z from (at + 1)) a p c r
+  finds-plus from at o h k =
+      let f = finds-more from at o h k in
+      record { more = f .more; below = f .below; found = λ i g t e. f .found i g (omega arith) e }
+
+  -- the codes before those passed
+  pub finds-end : (from at to : ℕ) → to ≤ at → {a b : List Bool} {p q : List ℕ}
+      → Finds l kinds chains (λ n. n ≤ from) (λ w z. EachChain (WordFound l w) kinds chains z from at) a p b q
+      → Finds l kinds chains (λ n. n ≤ from) (λ w z. EachChain (WordFound l w) kinds chains z from to) a p b q
+  finds-end from at to o h = record { more = h .more; below = h .below; found = λ i g t e. h .found i g (omega arith) e }
+
+  -- a term whose chains are found stays so
+  pub term-more : {a b : List Bool} {p q : List ℕ} → FoundMore l kinds chains a p b q → (at : Location) (x : Term)
+      → TermPlaced (WordFound l a) kinds chains p at x → TermPlaced (WordFound l b) kinds chains q at x
+  term-more m at (Chain c) h = word-more l (m .marked) at (unpack c) h
+  term-more m at (Number z) h = tt
+  term-more m at (Tree from to) h = m .keeps from to h
+
+  -- a term by what it is known to be
+  pub finds-term : {x y : Term} → x ≡ y → (at : Location) {a b : List Bool} {p q : List ℕ}
+      → Finds l kinds chains (λ n. TermFrom n y) (λ w z. TermPlaced (WordFound l w) kinds chains z at y) a p b q
+      → Finds l kinds chains (λ n. TermFrom n x) (λ w z. TermPlaced (WordFound l w) kinds chains z at x) a p b q
+  finds-term e at h = rw e h
+
+  pub finds-test : {x y : Test} → x ≡ y → (at : Places) {a b : List Bool} {p q : List ℕ}
+      → Finds l kinds chains (λ n. TestTerms (TermFrom n) y) (λ w z. TestPlaced (WordFound l w) kinds chains z at y) a p b q
+      → Finds l kinds chains (λ n. TestTerms (TermFrom n) x) (λ w z. TestPlaced (WordFound l w) kinds chains z at x) a p b q
+  finds-test e at h = rw e h
+
+  pub finds-rule : {x y : Rule} → x ≡ y → (at : Places) {a b : List Bool} {p q : List ℕ}
+      → Finds l kinds chains (λ n. RuleTerms (TermFrom n) y) (λ w z. RulePlaced (WordFound l w) kinds chains z at y) a p b q
+      → Finds l kinds chains (λ n. RuleTerms (TermFrom n) x) (λ w z. RulePlaced (WordFound l w) kinds chains z at x) a p b q
+  finds-rule e at h = rw e h
+
+  pub test-more : {a b : List Bool} {p q : List ℕ} → FoundMore l kinds chains a p b q → (at : Places) (x : Test)
+      → TestPlaced (WordFound l a) kinds chains p at x → TestPlaced (WordFound l b) kinds chains q at x
+  test-more m at Always h = tt
+  test-more m at (When x c y) h = (term-more m (at .first) x (h .0), term-more m (at .second) y (h .1))
+
+  -- one, and then another: what the first found is still found
+  pub finds-both : {From From′ : ℕ → Type 0} {P P′ : List Bool → List ℕ → Type 0} {a b c : List Bool} {p q r : List ℕ}
+      → (FoundMore l kinds chains b q c r → P b q → P c r) → Finds l kinds chains From P a p b q → Finds l kinds chains From′ P′ b q c r
+      → Finds l kinds chains (λ n. From n × From′ n) (λ w z. P w z × P′ w z) a p c r
+  finds-both stays h k = record {
+    more = more-both (h .more) (k .more);
+    below = λ n f i j. k .below n (f .1) i j ∙ h .below n (f .0) i j;
+    found = (stays (k .more) (h .found), k .found);
+  }
+
+  -- a word, and then another thing
+  pub finds-word : {From : ℕ → Type 0} {P : List Bool → List ℕ → Type 0} {a b c : List Bool} {p q : List ℕ} → Marked a b
+      → (at : Location) (v : List ℕ) → WordFound l b at v → Finds l kinds chains From P b p c q
+      → Finds l kinds chains From (λ w z. WordFound l w at v × P w z) a p c q
+  finds-word m at v h k = record {
+    more = more-both (more-marks _ m) (k .more);
+    below = k .below;
+    found = (word-more l (k .more .marked) at v h, k .found);
+  }

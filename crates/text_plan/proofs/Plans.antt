@@ -1,40 +1,43 @@
 -- A step's plan and the readings behind those that it has.
-use Prim.Native.Nat.{ℕ, _≤_, _<_}
-use mathlib.Core.Path.{_≡_, refl, sym, ap, subst, _∙_}
-use mathlib.Core.Bool.{Bool, true, false}
+use Prim.Native.Nat.{ℕ, zero, suc, _+_, _-_, _≤_, _<_}
+use mathlib.Core.Path.{_≡_, refl, sym, ap, ap₂, subst, _∙_}
+use mathlib.Core.Logic.{_≢_}
+use mathlib.Core.Bool.{Bool, true, false, cond}
 use mathlib.Core.List.{List, [], _∷_, _++_, append-nil, append-assoc}
 use native.Mathlib.Omega.{arith}
-use borrow.Author.Tests.{ltb-true, lt-ltb, le-ltb}
-use lib.Dec.{ltb}
-use lib.ListN.{length}
+use native.Mathlib.Decide.{ℕ-discrete}
+use borrow.Author.Tests.{ltb-true, lt-ltb, le-ltb, eq-eqb, ne-eqb}
+use lib.Dec.{eqb, ltb}
+use lib.IntN.{ℤ, pos}
+use lib.ListN.{length, getD}
 use Rattle.laws.proofs.Bools.{true-false}
+use Rattle.laws.proofs.Lists.{each-of}
 use Rattle.chain.specs.Word.{unpack}
-use Rattle.chain.proofs.Packing.{unpack-none}
-use Rattle.plan_theory.specs.Plan.{Fact, read, add, addReadings, plan}
-use Rattle.plan_theory.proofs.Lines.{add-none, readings-append, plan-more, plan-length}
+use Rattle.plan_theory.specs.Plan.{read, add, plan}
+use Rattle.plan_theory.proofs.Lines.{plan-length}
 use Rattle.plan_lines.specs.Held.{facts, Keyed, Added, Extended, ExtendedTo}
 use Rattle.plan_lines.specs.declared.Plan.{Plan}
 use Rattle.plan_lines.proofs.Adding.{holds-facts, extended-holds, extended-more, extended-plan}
+use Rattle.program.specs.Code.{Code, chain, number, operator, decoded, codeReadings, operatorOf, codeOf, codeAt, codesFrom, Codes, codesOf, treeIn}
+use Rattle.program.proofs.Codes.{readings-append, postfix-readings, codes-first, codes-none, codes-more, chain-listed}
 use Rattle.program.specs.declared.term.Term.{Term}
-use Rattle.program.specs.declared.term.Term.the-variants.{Chain, Number}
+use Rattle.program.specs.declared.term.Term.the-variants.{Chain, Number, Tree}
 use Rattle.program.specs.declared.rule.Test.{Test}
 use Rattle.program.specs.declared.rule.Test.the-variants.{Always, When}
 use Rattle.program.specs.declared.rule.Rule.{Rule}
 use Rattle.program.specs.declared.rule.Rule.the-variants.{Set, Combine, Remote}
 use Rattle.program.specs.declared.rule.Slot.{Slot}
-use Rattle.program.specs.declared.location.Pair.{Pair}
-use Rattle.program.specs.declared.location.Readings.{Readings}
 use Rattle.program.specs.Program.{expressionReadings, testReadings, targetReadings, ruleReadings}
 use Rattle.program.specs.Stored.{termIn, testIn, targetIn, expressionIn, ruleIn}
-use Rattle.program.specs.Location.{chainIn, testChains, ruleChains, slotChains}
-use Rattle.text_plan.specs.Readings.{pairWords, words, Sound, PlannedWith, GrownBy}
+use Rattle.program.specs.Terms.{TestTerms, RuleTerms, SlotTerms, TermFormed}
+use Rattle.text_plan.specs.Readings.{codeWords, termWords, testWords, ruleWords, slotWords, Short, Sound, PlannedWith, Growing, GrownBy}
 
 pub grown-both : {p q r : Plan} (vs us : List (List ℕ)) → GrownBy p vs q → GrownBy q us r → GrownBy p (vs ++ us) r
 grown-both vs us h k = record { growing = k .growing; extends = λ ws e. rw (append-assoc ws vs us) at (k .extends (ws ++ vs) (h .extends ws e)) }
 
--- the readings of a test, and then those of its rule
-pub grown-readings : {p q r : Plan} {x y : Readings} → x ≡ y → GrownBy p (pairWords (x .test)) q → GrownBy q (pairWords (x .rule)) r → GrownBy p (words y) r
-grown-readings {p} {q} {r} {x} e h k = subst (λ (z : Readings). GrownBy p (words z) r) e (grown-both (pairWords (x .test)) (pairWords (x .rule)) h k)
+-- no reading more
+pub grown-none : (p : Plan) → Growing p → GrownBy p [] p
+grown-none p h = record { growing = h; extends = λ ws e. rw (append-nil ws) e }
 
 -- one reading more, of a plan that is full, and of any other
 pub grown-full : (p : Plan) (vs : List (List ℕ)) → 64 < p .count → GrownBy p vs p
@@ -69,49 +72,119 @@ module _ {p r : Plan} {full : Bool} {vs : List (List ℕ)} (n : full ≡ false) 
     extends = λ ws e. record { full-is = n ∙ sym (le-ltb 64 (r .count) k) ∙ grown ws e .full-is; holds = grown ws e .holds };
   }
 
--- readings that add the same lines to any others
-abbrev SameLines : List (List ℕ) → List (List ℕ) → Type 0
-SameLines vs us = (l : List Fact) → addReadings l vs ≡ addReadings l us
+-- the words of codes, whatever their numbers
+one-free : (kind : ℕ) (z z′ : ℤ) (packed : ℕ) (cs ds : List Code) → codeReadings cs ≡ codeReadings ds
+    → codeReadings (codeOf kind z packed ∷ cs) ≡ codeReadings (codeOf kind z′ packed ∷ ds)
+unfolding codeOf codeReadings
+one-free kind z z′ packed cs ds e = go (eqb kind 0) (eqb kind 1)
+  where
+    go : (a b : Bool) → codeReadings (cond a (chain (unpack packed)) (cond b (number z) (operator (operatorOf kind))) ∷ cs)
+        ≡ codeReadings (cond a (chain (unpack packed)) (cond b (number z′) (operator (operatorOf kind))) ∷ ds)
+    go true b = ap (λ (l : List (List ℕ)). unpack packed ∷ l) e
+    go false true = e
+    go false false = e
 
-same-both : (vs us ws ts : List (List ℕ)) → SameLines vs us → SameLines ws ts → SameLines (vs ++ ws) (us ++ ts)
-same-both vs us ws ts h k l = readings-append l vs ws ∙ k (addReadings l vs) ∙ ap (λ (m : List Fact). addReadings m ts) (h l) ∙ sym (readings-append l us ts)
+words-free : (kinds : List ℕ) (numbers numbers′ : List ℤ) (chains : List ℕ) (i n : ℕ)
+    → codeReadings (codesFrom kinds numbers chains i n) ≡ codeReadings (codesFrom kinds numbers′ chains i n)
+unfolding codesFrom codeAt
+words-free kinds numbers numbers′ chains i zero = refl
+words-free kinds numbers numbers′ chains i (suc n) = one-free _ _ _ _ _ _ (words-free kinds numbers numbers′ chains (suc i) n)
 
--- the chain `u` adds none
-none-same : SameLines (unpack 0 ∷ []) []
-unfolding addReadings
-none-same l = rw unpack-none (add-none l (read []) (omega arith))
+-- the words of one code
+module _ (kinds chains : List ℕ) (at : ℕ) where
+  one-code : codeWords kinds chains at (suc at) ≡ codeReadings (codeAt kinds [] chains at ∷ [])
+  one-code = ap codeReadings (codes-first kinds [] chains at (suc at) (omega arith)
+      ∙ ap (λ (l : List Code). codeAt kinds [] chains at ∷ l) (codes-none kinds [] chains (suc at) (suc at) (omega arith)))
 
-module _ where
-  term-same : (t : Term) → SameLines (unpack (chainIn t) ∷ []) (expressionReadings (termIn t))
-  unfolding chainIn expressionReadings termIn
-  term-same (Chain n) l = refl
-  term-same (Number z) l = none-same l
+  pub words-chain : getD kinds at 0 ≡ 0 → codeWords kinds chains at (suc at) ≡ unpack (getD chains at 0) ∷ []
+  unfolding codeAt codeOf codeReadings
+  words-chain k = one-code ∙ simp (eq-eqb (getD kinds at 0) 0 k)
 
-  terms-same : (x y : Term) → SameLines (unpack (chainIn x) ∷ unpack (chainIn y) ∷ []) (expressionReadings (termIn x) ++ expressionReadings (termIn y))
-  terms-same x y =
-      same-both (unpack (chainIn x) ∷ []) (expressionReadings (termIn x)) (unpack (chainIn y) ∷ []) (expressionReadings (termIn y)) (term-same x) (term-same y)
+  pub words-other : getD kinds at 0 ≢ 0 → codeWords kinds chains at (suc at) ≡ []
+  unfolding codeAt codeOf codeReadings
+  words-other k = one-code ∙ go (eqb (getD kinds at 0) 0) (eqb (getD kinds at 0) 1) (ne-eqb (getD kinds at 0) 0 k)
+    where
+      go : (a b : Bool) → a ≡ false
+          → codeReadings (cond a (chain (unpack (getD chains at 0))) (cond b (number (getD [] at (pos 0))) (operator (operatorOf (getD kinds at 0)))) ∷ []) ≡ []
+      go true b e = true-false refl e
+      go false true e = refl
+      go false false e = refl
 
-  target-same : (c : ℕ) (x : Term) → SameLines (unpack c ∷ unpack (chainIn x) ∷ []) (unpack c ∷ expressionReadings (termIn x))
-  unfolding addReadings
-  target-same c x l = term-same x (add l (read (unpack c)))
+-- the words of one code more
+words-more : (kinds chains : List ℕ) (from at : ℕ) → from ≤ at
+    → codeWords kinds chains from (suc at) ≡ codeWords kinds chains from at ++ codeWords kinds chains at (suc at)
+words-more kinds chains from at h =
+    let n : suc at - from ≡ suc (at - from) = omega arith in
+    let m : from + (at - from) ≡ at = omega arith in
+    ap (λ (k : ℕ). codeReadings (codesFrom kinds [] chains from k)) n
+    ∙ ap codeReadings (codes-more kinds [] chains from (at - from))
+    ∙ readings-append (codesFrom kinds [] chains from (at - from)) (codeAt kinds [] chains (from + (at - from)) ∷ [])
+    ∙ ap (λ (k : ℕ). codeWords kinds chains from at ++ codeReadings (codeAt kinds [] chains k ∷ [])) m
+    ∙ ap (λ (l : List (List ℕ)). codeWords kinds chains from at ++ l) (sym (one-code kinds chains at))
 
-  test-same : (t : Test) → SameLines (pairWords (testChains t)) (testReadings (testIn t))
-  unfolding testChains testReadings testIn
-  test-same Always = same-both (unpack 0 ∷ []) [] (unpack 0 ∷ []) [] none-same none-same
-  test-same (When x c y) = terms-same x y
+pub words-plus : (kinds chains : List ℕ) (from at : ℕ) → from ≤ at
+    → codeWords kinds chains from (at + 1) ≡ codeWords kinds chains from at ++ codeWords kinds chains at (suc at)
+words-plus kinds chains from at h = let e : at + 1 ≡ suc at = omega arith in ap (codeWords kinds chains from) e ∙ words-more kinds chains from at h
 
-  rule-same : (r : Rule) → SameLines (pairWords (ruleChains r)) (targetReadings (targetIn r) ++ expressionReadings (expressionIn r))
-  unfolding ruleChains targetReadings targetIn expressionIn expressionReadings
-  rule-same (Set f x) = λ (l : List Fact). same-both (unpack (chainIn x) ∷ []) (expressionReadings (termIn x)) (unpack 0 ∷ []) [] (term-same x) none-same l
-      ∙ ap (addReadings l) (append-nil (expressionReadings (termIn x)))
-  rule-same (Combine f op x y) = terms-same x y
-  rule-same (Remote k f c x) = target-same c x
+-- of no code, and of as many
+pub words-none : (kinds chains : List ℕ) (from : ℕ) → codeWords kinds chains from from ≡ []
+unfolding codeReadings
+words-none kinds chains from = ap codeReadings (codes-none kinds [] chains from from (omega arith))
 
--- the plan with the chains of a rule in the array is that with the readings of the rule
-pub slot-plan : (ws : List (List ℕ)) (x : Slot) → plan (ws ++ words (slotChains x)) ≡ plan (ws ++ ruleReadings (ruleIn x))
-unfolding plan slotChains ruleReadings ruleIn
-slot-plan ws x =
-    readings-append [] ws (words (slotChains x))
-    ∙ same-both (pairWords (testChains (x .test))) (testReadings (testIn (x .test))) (pairWords (ruleChains (x .rule))) _
-    (test-same (x .test)) (rule-same (x .rule)) (addReadings [] ws)
-    ∙ sym (readings-append [] ws (ruleReadings (ruleIn x)))
+pub words-end : (kinds chains : List ℕ) (from at to : ℕ) → at - from ≡ to - from → codeWords kinds chains from at ≡ codeWords kinds chains from to
+words-end kinds chains from at to e = ap (λ (n : ℕ). codeReadings (codesFrom kinds [] chains from n)) e
+
+-- each chain of short words is short
+pub short-at : (kinds chains : List ℕ) (from to at : ℕ) → from ≤ at → at < to → Short (codeWords kinds chains from to) → Short (codeWords kinds chains at (suc at))
+short-at kinds chains from to at f t h = go (ℕ-discrete (getD kinds at 0) 0)
+  where
+    go : Dec (getD kinds at 0 ≡ 0) → Short (codeWords kinds chains at (suc at))
+    go (yes e) = rw (words-chain kinds chains at e) (each-of _ h (chain-listed kinds [] chains from to at f t e), tt)
+    go (no n) = rw (words-other kinds chains at n) tt
+
+-- a term by what it is known to be
+module _ (kinds chains : List ℕ) {x y : Term} (e : x ≡ y) where
+  pub term-short : Short (termWords kinds chains x) → Short (termWords kinds chains y)
+  term-short h = subst (λ (t : Term). Short (termWords kinds chains t)) e h
+
+  pub term-grown : {p r : Plan} → GrownBy p (termWords kinds chains y) r → GrownBy p (termWords kinds chains x) r
+  term-grown {p} {r} h = subst (λ (t : Term). GrownBy p (termWords kinds chains t) r) (sym e) h
+
+-- a test and a rule so
+module _ (kinds chains : List ℕ) {x y : Test} (e : x ≡ y) where
+  pub test-short : Short (testWords kinds chains x) → Short (testWords kinds chains y)
+  test-short h = subst (λ (t : Test). Short (testWords kinds chains t)) e h
+
+  pub test-grown : {p r : Plan} → GrownBy p (testWords kinds chains y) r → GrownBy p (testWords kinds chains x) r
+  test-grown {p} {r} h = subst (λ (t : Test). GrownBy p (testWords kinds chains t) r) (sym e) h
+
+module _ (kinds chains : List ℕ) {x y : Rule} (e : x ≡ y) where
+  pub rule-short : Short (ruleWords kinds chains x) → Short (ruleWords kinds chains y)
+  rule-short h = subst (λ (t : Rule). Short (ruleWords kinds chains t)) e h
+
+  pub rule-grown : {p r : Plan} → GrownBy p (ruleWords kinds chains y) r → GrownBy p (ruleWords kinds chains x) r
+  rule-grown {p} {r} h = subst (λ (t : Rule). GrownBy p (ruleWords kinds chains t) r) (sym e) h
+
+-- the words of a rule in the array are the readings of the rule
+module _ (k : Codes) where
+  term-words : (x : Term) → TermFormed k x → termWords (k .kinds) (k .chains) x ≡ expressionReadings (termIn k x)
+  unfolding termWords expressionReadings termIn treeIn
+  term-words (Chain c) h = refl
+  term-words (Number z) h = refl
+  term-words (Tree from to) h =
+      words-free (k .kinds) [] (k .numbers) (k .chains) from (to - from) ∙ ap codeReadings (h .formed) ∙ postfix-readings (decoded (codesOf k from to))
+
+  test-words : (x : Test) → TestTerms (TermFormed k) x → testWords (k .kinds) (k .chains) x ≡ testReadings (testIn k x)
+  unfolding testWords testReadings testIn
+  test-words Always h = refl
+  test-words (When x c y) h = ap₂ (λ (v w : List (List ℕ)). v ++ w) (term-words x (h .0)) (term-words y (h .1))
+
+  rule-words : (x : Rule) → RuleTerms (TermFormed k) x → ruleWords (k .kinds) (k .chains) x ≡ targetReadings (targetIn x) ++ expressionReadings (expressionIn k x)
+  unfolding ruleWords targetReadings targetIn expressionIn expressionReadings
+  rule-words (Set f x) h = term-words x h
+  rule-words (Combine f op x y) h = ap₂ (λ (v w : List (List ℕ)). v ++ w) (term-words x (h .0)) (term-words y (h .1))
+  rule-words (Remote sort f c x) h = ap (λ (v : List (List ℕ)). unpack c ∷ v) (term-words x h)
+
+  pub slot-words : (x : Slot) → SlotTerms (TermFormed k) x → slotWords (k .kinds) (k .chains) x ≡ ruleReadings (ruleIn k x)
+  unfolding ruleReadings ruleIn
+  slot-words x h = ap₂ (λ (v w : List (List ℕ)). v ++ w) (test-words (x .test) (h .0)) (rule-words (x .rule) (h .1))

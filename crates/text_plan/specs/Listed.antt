@@ -1,18 +1,20 @@
 -- The lines that locations name: whether a plan has them, and that they are wanted; what planning one more rule does.
-use Prim.Native.Nat.{ℕ}
+use Prim.Native.Nat.{ℕ, _≤_, _<_}
 use mathlib.Core.Path.{_≡_}
-use mathlib.Core.Bool.{Bool, true, _&&_}
+use mathlib.Core.Bool.{Bool, true, false}
 use mathlib.Core.List.{List}
 use lib.Dec.{ltb}
-use lib.ListN.{set}
+use lib.ListN.{length, getD, set}
+use Rattle.plan_theory.specs.Plan.{Fact}
 use Rattle.plan_lines.specs.Held.{facts, Added}
-use Rattle.program.specs.Location.{slotChains, locationsIn}
+use Rattle.program.specs.Code.{EachChain}
+use Rattle.program.specs.Location.{locationOf, Wants}
 use Rattle.program.specs.declared.rule.Slot.{Slot}
 use Rattle.program.specs.declared.location.Location.{Location}
 use Rattle.program.specs.declared.location.Location.the-variants.{Own, Cell, Line}
-use Rattle.program.specs.declared.location.Places.{Places}
 use Rattle.program.specs.declared.location.Locations.{Locations}
-use Rattle.text_plan.specs.Readings.{words, PlannedWith}
+use Rattle.program.specs.Terms.{SlotTerms, TermFrom, SlotPlaced}
+use Rattle.text_plan.specs.Readings.{slotWords, PlannedWith}
 
 -- whether a location names no line, or one of n lines
 unfoldable pub isListed : ℕ → Location → Bool
@@ -20,26 +22,49 @@ isListed n Own = true
 isListed n (Cell f) = true
 isListed n (Line i) = ltb i n
 
-unfoldable pub areListed : ℕ → Places → Bool
-areListed n p = isListed n (p .first) && isListed n (p .second)
-
-unfoldable pub allListed : ℕ → Locations → Bool
-allListed n at = areListed n (at .test) && areListed n (at .rule)
-
--- the wanted lines, with those that locations name
+-- the wanted lines, with the one that a location names
 unfoldable pub withLine : List Bool → Location → List Bool
 withLine wanted Own = wanted
 withLine wanted (Cell f) = wanted
 withLine wanted (Line i) = set wanted i true
 
-unfoldable pub withLines : List Bool → Places → List Bool
-withLines wanted p = withLine (withLine wanted (p .first)) (p .second)
+-- a location that has a place of its own as a byte: fields are below 16, lines at most 64
+abbrev pub Placeable : Location → Type 0
+Placeable Own = Unit {0}
+Placeable (Cell f) = f < 16
+Placeable (Line i) = i ≤ 64
 
-unfoldable pub withWanted : List Bool → Locations → List Bool
-withWanted wanted at = withLines (withLines wanted (at .test)) (at .rule)
+-- a word found among the lines l: its line is wanted, if there is a mark for it
+pub record WordFound (l : List Fact) (wanted : List Bool) (at : Location) (w : List ℕ) : Type 0 where
+  pub at-is : at ≡ locationOf l w
+  pub wants : isListed (length wanted) at ≡ true → Wants wanted at
+
+-- what one list marks, the other marks too, and it is as long
+pub record Marked (a b : List Bool) : Type 0 where
+  pub stays : (i : ℕ) → getD a i false ≡ true → getD b i false ≡ true
+  pub same : length b ≡ length a
+
+-- places below n are as they were
+abbrev pub Below : ℕ → List ℕ → List ℕ → Type 0
+Below n places places′ = (i : ℕ) → i < n → getD places′ i 0 ≡ getD places i 0
+
+module _ (l : List Fact) (kinds chains : List ℕ) where
+  -- more lines are wanted and more chains have their places, and those that had them still do
+  pub record FoundMore (wanted : List Bool) (places : List ℕ) (wanted′ : List Bool) (places′ : List ℕ) : Type 0 where
+    pub marked : Marked wanted wanted′
+    pub sized : length places′ ≡ length places
+    pub keeps : (from to : ℕ) → EachChain (WordFound l wanted) kinds chains places from to → EachChain (WordFound l wanted′) kinds chains places′ from to
+
+  -- and P holds then; nothing is changed below the trees, which stand where From says
+  pub record Finds (From : ℕ → Type 0) (P : List Bool → List ℕ → Type 0) (wanted : List Bool) (places : List ℕ) (wanted′ : List Bool) (places′ : List ℕ)
+      : Type 0 where
+    pub more : FoundMore wanted places wanted′ places′
+    pub below : (n : ℕ) → From n → Below n places places′
+    pub found : P wanted′ places′
 
 -- one more rule of a step: its readings are added to the plan, they are found there, and their lines are wanted
-pub record RulePlanned (x : Slot) (p : Added) (wanted : List Bool) (p′ : Added) (wanted′ : List Bool) (at : Locations) : Type 0 where
-  pub planned : PlannedWith p (words (slotChains x)) p′
-  pub found : at ≡ locationsIn (facts (p′ .plan)) (slotChains x)
-  pub marked : wanted′ ≡ withWanted wanted at
+pub record RulePlanned (kinds chains : List ℕ) (x : Slot) (p : Added) (wanted : List Bool) (places : List ℕ)
+    (p′ : Added) (wanted′ : List Bool) (places′ : List ℕ) (at : Locations) : Type 0 where
+  pub planned : PlannedWith p (slotWords kinds chains x) p′
+  pub finds : Finds (facts (p′ .plan)) kinds chains (λ n. SlotTerms (TermFrom n) x)
+      (λ w q. SlotPlaced (WordFound (facts (p′ .plan)) w) kinds chains q (record { slot = x; at = at })) wanted places wanted′ places′

@@ -8,16 +8,38 @@ use Rattle.chain.specs.Word.{unpack}
 use Rattle.plan_theory.specs.Plan.{plan}
 use Rattle.plan_lines.specs.Held.{facts, Keyed, HoldsLines, Added, Extended, planOf, ExtendedTo}
 use Rattle.plan_lines.specs.declared.Plan.{Plan}
-use Rattle.program.specs.declared.location.Pair.{Pair}
-use Rattle.program.specs.declared.location.Readings.{Readings}
+use Rattle.program.specs.Code.{codeReadings, codesIn}
+use Rattle.program.specs.declared.term.Term.{Term}
+use Rattle.program.specs.declared.term.Term.the-variants.{Chain, Number, Tree}
+use Rattle.program.specs.declared.rule.Test.{Test}
+use Rattle.program.specs.declared.rule.Test.the-variants.{Always, When}
+use Rattle.program.specs.declared.rule.Rule.{Rule}
+use Rattle.program.specs.declared.rule.Rule.the-variants.{Set, Combine, Remote}
+use Rattle.program.specs.declared.rule.Slot.{Slot}
 use Rattle.laws.specs.Lists.{Each}
 
--- the hop words of a rule's chains
-abbrev pub pairWords : Pair → List (List ℕ)
-pairWords p = unpack (p .first) ∷ unpack (p .second) ∷ []
+-- the words of the chains of the codes from..to, in which their numbers have no part
+abbrev pub codeWords : List ℕ → List ℕ → ℕ → ℕ → List (List ℕ)
+codeWords kinds chains from to = codeReadings (codesIn kinds [] chains from to)
 
-abbrev pub words : Readings → List (List ℕ)
-words x = pairWords (x .test) ++ pairWords (x .rule)
+-- the hop words of a rule's chains, from left to right
+module _ (kinds chains : List ℕ) where
+  unfoldable pub termWords : Term → List (List ℕ)
+  termWords (Chain c) = unpack c ∷ []
+  termWords (Number z) = []
+  termWords (Tree from to) = codeWords kinds chains from to
+
+  unfoldable pub testWords : Test → List (List ℕ)
+  testWords Always = []
+  testWords (When x c y) = termWords x ++ termWords y
+
+  unfoldable pub ruleWords : Rule → List (List ℕ)
+  ruleWords (Set f x) = termWords x
+  ruleWords (Combine f op x y) = termWords x ++ termWords y
+  ruleWords (Remote sort f c x) = unpack c ∷ termWords x
+
+  abbrev pub slotWords : Slot → List (List ℕ)
+  slotWords x = testWords (x .test) ++ ruleWords (x .rule)
 
 -- each of at most 16 hops
 abbrev pub Short : List (List ℕ) → Type 0

@@ -8,75 +8,93 @@ use native.Mathlib.Omega.{arith}
 use native.Mathlib.Numerals.{add-one}
 use borrow.Author.Tests.{ltb-true}
 use lib.Dec.{ltb}
-use lib.ListN.{length, getD, drop, set, length-drop, drop-of-length-le}
+use lib.ListN.{length, getD, take, drop, set, replicate, length-drop, drop-of-length-le}
 use lib.Seq.{drop-drop}
 use Rattle.register.specs.Shape.{Limits}
 use Rattle.laws.specs.Outcome.{Outcome, refused, unless, after}
 use Rattle.laws.specs.Outcome as O
 use Rattle.register.specs.declared.Sizes.{Sizes}
-use Rattle.plan_lines.specs.Held.{facts, HoldsLines, Added}
-use Rattle.text_forms.specs.Written as W
-use Rattle.text_forms.specs.Written.{Line, step, end, done, rule}
-use Rattle.text_forms.specs.Line.{lineForm}
-use Rattle.text_local.specs.ActionRead.{packedRule}
-use Rattle.text_local.specs.ActionRead as R
-use Rattle.text_line.specs.LineRead.{lineRead}
-use Rattle.text_terms.specs.declared.term.Checks.{Checks}
-use Rattle.text_line.specs.declared.line.LineRead.{LineRead}
-use Rattle.text_line.specs.declared.line.LineRead.the-variants as L
+use Rattle.plan_lines.specs.Held.{HoldsLines, Added}
+use Rattle.text_syntax.specs.Written.{Line, step, end, done}
+use Rattle.text_syntax.specs.Lexing.{tokens}
+use Rattle.text_syntax.specs.Grammar.{lineForm}
+use Rattle.text_rules.specs.declared.line.Checks.{Checks}
+use Rattle.text_rules.specs.declared.line.LineRead.the-variants as L
+use Rattle.text_rules.specs.LineRead.{Reads}
+use Rattle.text_lines.specs.Line.{Leaves}
+use Rattle.text_lines.specs.declared.line.LineParts.{LineParts}
 use Rattle.program.specs.declared.rule.Slot.{Slot}
 use Rattle.program.specs.Program.{Program, stepPlan}
 use Rattle.text_rules.specs.Check.{State, isOutside, isOpen, openRules, lineRefusal}
 use Rattle.text_rules.specs.Text.{lines, advance, lineOutcome, closedText, readFrom, start}
 use Rattle.text_rules.proofs.Checked.{Clean, refusal-none, rule-passes}
 use Rattle.text_rules.proofs.Passing.{Reached, start-reached, advance-reached}
-use Rattle.text_next.specs.Front.{lineBytes, firstForm}
+use Rattle.text_next.specs.Front.{lineBytes, firstForm, CodeRoom, LineNext}
 use Rattle.program.specs.Stored.{rulesIn}
 use Rattle.program.specs.Kept.{stepsIn, programOf}
-use Rattle.text_reader.specs.Answers.{checkOutcome, Answers}
+use Rattle.text_reader.specs.Answers.{emptySlot, CodeArrays, checkOutcome, Answers}
 use Rattle.program.specs.declared.location.Located.{Located}
 use Rattle.program.specs.declared.location.Locations.{Locations}
-use Rattle.program.specs.Location.{slotChains, locationsIn}
-use Rattle.text_plan.specs.Readings.{words, Short, PlannedWith, addedOf}
-use Rattle.text_plan.specs.Listed.{withWanted}
+use Rattle.program.specs.Code.{Codes}
+use Rattle.program.specs.Code as K
+use Rattle.program.specs.Terms.{SlotTerms, TermInside}
+use Rattle.text_plan.specs.Readings.{slotWords, Short, addedOf}
+use Rattle.text_plan.specs.Listed.{RulePlanned}
+use Rattle.text_plan.proofs.Plans.{slot-words}
 use Rattle.text_state.specs.State.{noRules, startState, frameOf, lastFrame, advanceOf}
 use Rattle.text_refusals.specs.Refusal.{refusalOf, lastRefusal}
 use Rattle.program.specs.declared.Program as C
 use Rattle.program.specs.declared.frame.Frame.{Frame}
 use Rattle.text_state.specs.declared.state.State as S
+use Rattle.text_reader.proofs.Lists.{each-replicate}
+use Rattle.program.proofs.Agreeing.{slot-map, inside-more}
+use Rattle.text_reader.proofs.Agreeing.{SlotKept, all-located}
 use Rattle.text_reader.proofs.Opening.{open-none}
-use Rattle.text_reader.proofs.Arms.{Behind, step-line, loop-line, end-line, done-line, rule-line, no-line, at-step, at-loop, at-rule, at-end, at-done, slot-short, rule-is, rule-steps, rule-rules, end-steps, end-none, end-count, done-steps}
+use Rattle.text_reader.proofs.Forms.{rule-short, step-form, end-form, done-form, loop-form, no-form, Written, rule-form, codes-kept}
+use Rattle.text_reader.proofs.Arms.{Behind, behind-same, behind-more, at-step, at-loop, at-rule, at-end, at-done, rule-steps, rule-rules, end-steps, end-none, end-count, done-steps}
 use Rattle.text_next.proofs.Fronts.{lines-first}
 use Rattle.text_state.proofs.Standing.{Stands, start-stands, advance-stands}
 use Rattle.text_refusals.proofs.Refusals.{number, refusal-is, last-is}
 
--- the state of the definition before line k, which begins at `at`, and what the code has of it
-pub record Read (s : Sizes) (t : List ℕ) (plan : Added) (wanted : List Bool) (slots : List Located)
-    (frames : List Frame) (x : S.State) (at k : ℕ) : Type 0 where
+-- the state of the definition before line i, which begins at `at`, and what the code has of it, with n codes in the arrays a
+pub record Read (s : Sizes) (t : List ℕ) (plan : Added) (wanted : List Bool) (a : Codes) (places : List ℕ) (slots : List Located)
+    (frames : List Frame) (x : S.State) (n at i : ℕ) : Type 0 where
   pub state : State
   pub reached : Reached s state
   pub stands : Stands x state
-  pub behind : Behind slots frames plan wanted x state
-  pub rest : readFrom s start 1 (lines t) ≡ readFrom s state k (lines (drop at t))
+  pub behind : Behind a places n slots frames plan wanted x state
+  pub lent : CodeArrays (a .kinds) (a .numbers) (a .chains) places
+  pub rest : readFrom s start 1 (lines t) ≡ readFrom s state i (lines (drop at t))
   pub within : at ≤ length t
-  pub few : k ≤ at + 1
+  pub few : i ≤ at + 1
+  pub few-codes : n ≤ at
 
 -- before the first line
-pub begun : (s : Sizes) (t : List ℕ) {plan : Added} {wanted : List Bool} {slots : List Located} {frames : List Frame} {x : S.State}
-    → (plan .full ≡ false) × HoldsLines (plan .plan) [] → length wanted ≡ 64 → length slots ≡ 1024 → length frames ≡ 32 → x ≡ startState
-    → Read s t plan wanted slots frames x 0 1
+pub begun : (s : Sizes) (t : List ℕ) {plan : Added} {wanted : List Bool} {a : Codes} {places : List ℕ} {y : Located} {frames : List Frame} {x : S.State}
+    → (plan .full ≡ false) × HoldsLines (plan .plan) [] → length wanted ≡ 64 → CodeArrays (a .kinds) (a .numbers) (a .chains) places
+    → y .slot ≡ emptySlot → length frames ≡ 32 → x ≡ startState → Read s t plan wanted a places (replicate 1024 y) frames x 0 0 1
 unfolding startState start openRules stepsIn rulesIn noRules
-begun s t h lw ls lf e = record {
+begun s t {a = a} {y = y} h lw lent ey lf e = record {
   state = start;
   reached = start-reached s;
   stands = rw e start-stands;
   behind = rw e (record {
-    kept = record { slots-length = ls; frames-length = lf; steps-are = refl; rules-are = refl; framed = tt; located = tt };
+    kept = record {
+      slots-length = refl;
+      frames-length = lf;
+      steps-are = refl;
+      rules-are = refl;
+      framed = tt;
+      placed = tt;
+      terms = each-replicate (SlotKept a 0) 1024 y (rw ey (tt, (tt, tt)));
+    };
     opened = open-none h lw;
   });
+  lent = lent;
   rest = refl;
   within = omega arith;
   few = omega arith;
+  few-codes = omega arith;
 }
 
 -- the outcome of a text from its first line
@@ -116,181 +134,209 @@ first-some : (t : List ℕ) (l : Line) → firstForm t ≡ some l → length (li
 unfolding firstForm
 first-some t l h = go (ltb (length (lineBytes t)) (length t)) refl h
   where
-    go : (b : Bool) → ltb (length (lineBytes t)) (length t) ≡ b → cond b (lineForm (lineBytes t)) none ≡ some l → length (lineBytes t) < length t
+    go : (b : Bool) → ltb (length (lineBytes t)) (length t) ≡ b → cond b (lineForm (tokens (lineBytes t))) none ≡ some l → length (lineBytes t) < length t
     go true e h = ltb-true (length (lineBytes t)) (length t) e
     go false e h = absurd (let z : _≡_ {A = ℕ} 0 1 = cc in omega arith)
 
-module _ (s : Sizes) (lim : Limits s) {t : List ℕ} {plan : Added} {wanted : List Bool} {slots : List Located}
-    {frames : List Frame} {x : S.State} {at k : ℕ} (q : Read s t plan wanted slots frames x at k) where
+module _ (s : Sizes) {t : List ℕ} {plan : Added} {wanted : List Bool} {a : Codes} {places : List ℕ} {slots : List Located}
+    {frames : List Frame} {x : S.State} {n at i : ℕ} (q : Read s t plan wanted a places slots frames x n at i) where
   -- the next line, where it passes
-  pub record Passes (read : LineRead) : Type 0 where
+  pub record Passes (b : Codes) (r : LineParts) : Type 0 where
     pub form : Line
     pub clean : Clean s (q .state) form
-    pub is-read : read ≡ lineRead s (some form)
+    pub reads : Reads s b (some form) (r .line)
+    pub leaves : Leaves a b n (r .codes) (r .line)
+    pub more-codes : n ≤ r .codes
+    pub few-codes : r .codes ≤ at + length (lineBytes (drop at t))
     pub inside : at + length (lineBytes (drop at t)) < length t
-    pub onward : readFrom s start 1 (lines t) ≡ readFrom s (advance (q .state) form) (suc k) (lines (drop (at + length (lineBytes (drop at t)) + 1) t))
+    pub onward : readFrom s start 1 (lines t) ≡ readFrom s (advance (q .state) form) (suc i) (lines (drop (at + length (lineBytes (drop at t)) + 1) t))
 
-  module _ (read : LineRead) (here : at < length t) (e : read ≡ lineRead s (firstForm (drop at t))) where
+  module _ {b : Codes} (r : LineParts) {stop : ℕ} (e : stop ≡ at + length (lineBytes (drop at t))) (here : at < length t)
+      (l : LineNext s (firstForm (drop at t)) stop a b n r) where
     -- what follows it
     abbrev follows : State → Outcome Program
-    follows st = readFrom s st (suc k) (lines (drop (length (lineBytes (drop at t)) + 1) (drop at t)))
+    follows st = readFrom s st (suc i) (lines (drop (length (lineBytes (drop at t)) + 1) (drop at t)))
 
-    outcome : readFrom s start 1 (lines t) ≡ after (lineOutcome s (q .state) k (firstForm (drop at t))) follows
-    outcome = q .rest ∙ first-line s (q .state) k (drop at t) (simp length-drop (omega arith))
+    outcome : readFrom s start 1 (lines t) ≡ after (lineOutcome s (q .state) i (firstForm (drop at t))) follows
+    outcome = q .rest ∙ first-line s (q .state) i (drop at t) (simp length-drop (omega arith))
 
-    numbered : refusalOf x (plan .full) read ≡ number s (q .state) (firstForm (drop at t))
-    numbered = ap (refusalOf x (plan .full)) e ∙ refusal-is s (q .stands) (plan .full) (q .behind .opened .planned .full-is) (firstForm (drop at t))
+    numbered : refusalOf x (plan .full) (r .line) ≡ number s (q .state) (firstForm (drop at t))
+    numbered = refusal-is s (q .stands) (plan .full) (q .behind .opened .planned .full-is) (l .reads)
 
     -- a line that is refused
-    pub stopped : (refusalOf x (plan .full) read ≡ 0 → ⊥) → readFrom s start 1 (lines t) ≡ refused (refusalOf x (plan .full) read) k
-    stopped h = outcome ∙ refused-line s (q .state) k (firstForm (drop at t)) follows (λ z. h (numbered ∙ z)) ∙ ap (λ (n : ℕ). refused n k) (sym numbered)
+    pub stopped : (refusalOf x (plan .full) (r .line) ≡ 0 → ⊥) → readFrom s start 1 (lines t) ≡ refused (refusalOf x (plan .full) (r .line)) i
+    stopped h = outcome ∙ refused-line s (q .state) i (firstForm (drop at t)) follows (λ z. h (numbered ∙ z)) ∙ ap (λ (m : ℕ). refused m i) (sym numbered)
 
-    pub passes : refusalOf x (plan .full) read ≡ 0 → Passes read
+    pub passes : refusalOf x (plan .full) (r .line) ≡ 0 → Passes b r
     passes h =
-        let p = passed-line s (q .state) k (firstForm (drop at t)) follows (sym numbered ∙ h) in
+        let p = passed-line s (q .state) i (firstForm (drop at t)) follows (sym numbered ∙ h) in
         let behind : at + (length (lineBytes (drop at t)) + 1) ≡ at + length (lineBytes (drop at t)) + 1 = omega arith in
         record {
           form = p .0;
           clean = p .2;
-          is-read = e ∙ ap (lineRead s) (p .1);
+          reads = subst (λ (o : Option Line). Reads s b o (r .line)) (p .1) (l .reads);
+          leaves = l .leaves;
+          more-codes = l .more-codes;
+          few-codes = omega (arith, l .few-codes, e);
           inside = omega (arith, first-some (drop at t) (p .0) (p .1), length-drop at t);
           onward = outcome ∙ p .3
-              ∙ ap (λ (u : List ℕ). readFrom s (advance (q .state) (p .0)) (suc k) (lines u))
-              (drop-drop (length (lineBytes (drop at t)) + 1) at t ∙ ap (λ (i : ℕ). drop i t) behind);
+              ∙ ap (λ (u : List ℕ). readFrom s (advance (q .state) (p .0)) (suc i) (lines u))
+              (drop-drop (length (lineBytes (drop at t)) + 1) at t ∙ ap (λ (j : ℕ). drop j t) behind);
         }
 
-  rule-stored : (n : ℕ) {l : Line} {z : Slot} (c : W.Condition) (a : W.Action) → l ≡ rule c a → z ≡ record { test = R.packedTest c; rule = packedRule a }
-      → (ch : Checks) → Clean s (q .state) l → {o : Added} → PlannedWith plan (words (slotChains z)) o
-      → {at : Locations} → at ≡ locationsIn (facts (o .plan)) (slotChains z)
-      → Behind (set slots (32 * x .steps + x .tally .rules) (record { slot = z; at = at })) frames o (withWanted wanted at)
-      (advanceOf x n (L.Rule z ch)) (advance (q .state) l)
-  rule-stored n c a i j ch k {o} h e = rw (i, j) (at-rule s lim (q .reached) (q .stands) (q .behind) n c a (rw i at k) ch (rw j at h) (rw j at e))
+-- the arrays and the plan behind each sort of line; m is the number of lines of the open step's plan
+module _ {s : Sizes} (lim : Limits s) {t : List ℕ} {plan : Added} {wanted : List Bool} {a : Codes} {places : List ℕ} {slots : List Located}
+    {frames : List Frame} {x : S.State} {n at i : ℕ} {q : Read s t plan wanted a places slots frames x n at i} where
+  module _ {b : Codes} {r : LineParts} (p : Passes s q b r) (m : ℕ) where
+    -- what stood before the line, in the arrays behind it
+    same : Behind b places n slots frames plan wanted x (q .state)
+    same = behind-same (q .behind) (record { same-codes = codes-kept a b n (r .codes) (p .reads) (p .clean) (p .leaves); same-places = λ j l. refl })
 
--- the arrays and the plan behind each sort of line
-module _ {s : Sizes} {lim : Limits s} {t : List ℕ} {plan : Added} {wanted : List Bool} {slots : List Located}
-    {frames : List Frame} {x : S.State} {at k : ℕ} {q : Read s t plan wanted slots frames x at k} where
-  module _ {read : LineRead} (p : Passes s lim q read) (n : ℕ) where
-    pub arm-step : read ≡ L.Step → Behind slots frames plan wanted (advanceOf x n read) (advance (q .state) (p .form))
+    more : Behind b places (r .codes) slots frames plan wanted x (q .state)
+    more = behind-more same (p .more-codes)
+
+    pub arm-step : r .line ≡ L.Step → Behind b places (r .codes) slots frames plan wanted (advanceOf x m (r .line)) (advance (q .state) (p .form))
     arm-step e =
-        let is : p .form ≡ step = step-line s (p .form) (sym (p .is-read) ∙ e) in
-        rw (e, is) (at-step s lim (q .reached) (q .stands) (q .behind) n (subst (Clean s (q .state)) is (p .clean)))
+        let is : p .form ≡ step = step-form (p .reads) e in
+        rw (e, is) (at-step s (q .reached) (q .stands) more m (subst (Clean s (q .state)) is (p .clean)))
 
-    pub arm-loop : {f : ℕ} {named : Bool} → read ≡ L.Loop f named → Behind slots frames plan wanted (advanceOf x n read) (advance (q .state) (p .form))
+    pub arm-loop : {f : ℕ} {named : Bool} → r .line ≡ L.Loop f named
+        → Behind b places (r .codes) slots frames plan wanted (advanceOf x m (r .line)) (advance (q .state) (p .form))
     arm-loop {f} {named} e =
-        let v = loop-line s (p .form) (sym (p .is-read) ∙ e) in
-        rw (e, v .1) (at-loop s lim (q .reached) (q .stands) (q .behind) n (v .0) f named (subst (Clean s (q .state)) (v .1) (p .clean)))
+        let v = loop-form (p .reads) e in
+        rw (e, v .1) (at-loop s (q .reached) (q .stands) more m (v .0) f named (subst (Clean s (q .state)) (v .1) (p .clean)))
 
-    pub arm-none : {A : Type 0} → read ≡ L.NoForm → A
-    arm-none e = absurd (no-line s (p .form) (sym (p .is-read) ∙ e))
+    pub arm-none : {A : Type 0} → r .line ≡ L.NoForm → A
+    arm-none e = absurd (no-form (p .reads) e)
 
-    module _ (e : read ≡ L.End) where
-      end-is : p .form ≡ end
-      end-is = end-line s (p .form) (sym (p .is-read) ∙ e)
-
+    module _ (e : r .line ≡ L.End) where
       end-clean : Clean s (q .state) end
-      end-clean = subst (Clean s (q .state)) end-is (p .clean)
+      end-clean = subst (Clean s (q .state)) (end-form (p .reads) e) (p .clean)
 
       pub arm-end-steps : x .steps < 32
-      arm-end-steps = end-steps s lim (q .reached) (q .stands) (q .behind) n end-clean
+      arm-end-steps = end-steps s (q .reached) (q .stands) more m end-clean
 
       pub arm-end : {marks : List Bool} → length marks ≡ 64
-          → let a = plan .plan in
-          Behind slots (set frames (x .steps) (frameOf x a wanted)) (addedOf (a .keys) (a .rounds) (a .backs) (a .reads) 0 (plan .full)) marks
-          (advanceOf x n read) (advance (q .state) (p .form))
+          → let o = plan .plan in
+          Behind b places (r .codes) slots (set frames (x .steps) (frameOf x o wanted))
+          (addedOf (o .keys) (o .rounds) (o .backs) (o .reads) 0 (plan .full)) marks (advanceOf x m (r .line)) (advance (q .state) (p .form))
       arm-end l =
-          rw (e, end-is) (at-end s lim (q .reached) (q .stands) (q .behind) n end-clean (end-none s lim (q .reached) (q .stands) (q .behind) n end-clean) l)
+          rw (e, end-form (p .reads) e)
+          (at-end s (q .reached) (q .stands) more m end-clean (end-none s (q .reached) (q .stands) more m end-clean) l)
 
-    module _ (e : read ≡ L.Done) where
-      done-is : p .form ≡ done
-      done-is = done-line s (p .form) (sym (p .is-read) ∙ e)
-
+    module _ (e : r .line ≡ L.Done) where
       done-clean : Clean s (q .state) done
-      done-clean = subst (Clean s (q .state)) done-is (p .clean)
+      done-clean = subst (Clean s (q .state)) (done-form (p .reads) e) (p .clean)
 
       pub arm-done-steps : 1 ≤ x .steps
-      arm-done-steps = done-steps s lim (q .reached) (q .stands) (q .behind) n done-clean
+      arm-done-steps = done-steps s (q .reached) (q .stands) more m done-clean
 
       pub arm-done : (d : Frame)
-          → Behind slots (set frames (x .steps - 1) (lastFrame (getD frames (x .steps - 1) d))) plan wanted (advanceOf x n read) (advance (q .state) (p .form))
-      arm-done d = rw (e, done-is) (at-done s lim (q .reached) (q .stands) (q .behind) n done-clean d)
+          → Behind b places (r .codes) slots (set frames (x .steps - 1) (lastFrame (getD frames (x .steps - 1) d))) plan wanted
+          (advanceOf x m (r .line)) (advance (q .state) (p .form))
+      arm-done d = rw (e, done-form (p .reads) e) (at-done s (q .reached) (q .stands) more m done-clean d)
 
-    module _ {y : Slot} {ch : Checks} (e : read ≡ L.Rule y ch) where
-      rule-form : (c : W.Condition) × (a : W.Action) × (p .form ≡ rule c a) × (y ≡ record { test = R.packedTest c; rule = packedRule a })
-      rule-form = rule-line s (p .form) (sym (p .is-read) ∙ e)
-
-      rule-clean : Clean s (q .state) (rule (rule-form .0) (rule-form .1))
-      rule-clean = subst (Clean s (q .state)) (rule-form .2) (p .clean)
+    module _ {y : Slot} {ch : Checks} (e : r .line ≡ L.Rule y ch) where
+      abbrev written : Written s (q .state) b n (r .codes) (p .form) y
+      written = rule-form a b n (r .codes) (p .reads) (p .clean) (p .leaves) e
 
       pub arm-steps : x .steps < 32
-      arm-steps = rule-steps s lim (q .reached) (q .stands) (q .behind) n (rule-form .0) (rule-form .1) rule-clean
+      arm-steps = rule-steps s (q .reached) (q .stands) more m (written .clean)
 
       pub arm-rules : x .tally .rules < 32
-      arm-rules = rule-rules s lim (q .reached) (q .stands) (q .behind) n (rule-form .0) (rule-form .1) rule-clean
+      arm-rules = rule-rules s (q .reached) (q .stands) more m (written .clean)
 
-      pub arm-short : Short (words (slotChains y))
+      pub arm-short : Short (slotWords (b .kinds) (b .chains) y)
       arm-short =
-          let v = rule-form in
-          rw (v .3) (slot-short s _ (rw (rule-is s lim (q .reached) (q .stands) (q .behind) n (v .0) (v .1) rule-clean)
-          (rule-passes s lim (q .state) (v .0) (v .1) rule-clean)))
+          rw (slot-words b y (written .formed), written .rule-is)
+          (rule-short s _ (rule-passes s lim (q .state) (written .condition) (written .action) (written .clean)))
 
-      pub arm-rule : {o : Added} → PlannedWith plan (words (slotChains y)) o → {at : Locations} → at ≡ locationsIn (facts (o .plan)) (slotChains y)
-          → Behind (set slots (32 * x .steps + x .tally .rules) (record { slot = y; at = at })) frames o (withWanted wanted at)
-          (advanceOf x n read) (advance (q .state) (p .form))
-      arm-rule h i = rw e (rule-stored s lim q n (rule-form .0) (rule-form .1) (rule-form .2) (rule-form .3) ch (p .clean) h i)
+      pub arm-inside : {k : ℕ} → length t ≤ 8192 → k ≡ 8192 → SlotTerms (TermInside k) y
+      arm-inside h e = slot-map (inside-more (omega (arith, p .few-codes, p .inside, e))) y (written .inside)
+
+      pub arm-rule : {o : Added} {wanted′ : List Bool} {places′ : List ℕ} {at′ : Locations}
+          → RulePlanned (b .kinds) (b .chains) y plan wanted places o wanted′ places′ at′
+          → Behind b places′ (r .codes) (set slots (32 * x .steps + x .tally .rules) (record { slot = y; at = at′ })) frames o wanted′
+          (advanceOf x m (r .line)) (advance (q .state) (p .form))
+      arm-rule h =
+          rw (e, written .line-is)
+          (at-rule s (q .reached) (q .stands) same m (written .clean) y (written .rule-is) (written .formed) (written .behind)
+          (p .more-codes) (written .inside) h ch)
 
     -- the count of the open step's plan, which its `end` asks for
     pub end-lines : p .form ≡ end → plan .plan .count ≡ length (stepPlan (openRules (q .state)))
-    end-lines e = end-count s lim (q .reached) (q .stands) (q .behind) n (subst (Clean s (q .state)) e (p .clean))
+    end-lines e = end-count s (q .reached) (q .stands) more m (subst (Clean s (q .state)) e (p .clean))
 
   -- one line further
-  pub again : {read : LineRead} (p : Passes s lim q read) {slots' : List Located} {frames' : List Frame} {plan' : Added} {wanted' : List Bool}
-      → Behind slots' frames' plan' wanted' (advanceOf x (plan .plan .count) read) (advance (q .state) (p .form))
-      → Read s t plan' wanted' slots' frames' (advanceOf x (plan .plan .count) read) (at + length (lineBytes (drop at t)) + 1) (k + 1)
-  again {read} p b = record {
+  pub again : {b : Codes} {r : LineParts} (p : Passes s q b r) {slots′ : List Located} {frames′ : List Frame} {plan′ : Added} {wanted′ : List Bool}
+      {places′ : List ℕ} {x′ : S.State} {stop : ℕ} → x′ ≡ advanceOf x (plan .plan .count) (r .line) → stop ≡ at + length (lineBytes (drop at t))
+      → CodeArrays (b .kinds) (b .numbers) (b .chains) places′
+      → Behind b places′ (r .codes) slots′ frames′ plan′ wanted′ (advanceOf x (plan .plan .count) (r .line)) (advance (q .state) (p .form))
+      → Read s t plan′ wanted′ b places′ slots′ frames′ x′ (r .codes) (stop + 1) (i + 1)
+  again p ex es lent b = rw (ex, es) (record {
     state = advance (q .state) (p .form);
     reached = advance-reached s lim (q .state) (p .form) (q .reached) (p .clean);
-    stands = rw (p .is-read) (advance-stands s lim (q .stands) (plan .plan .count) (p .form) (p .clean) (end-lines p (plan .plan .count)));
+    stands = advance-stands s lim (q .stands) (plan .plan .count) (p .reads) (p .clean) (end-lines p (plan .plan .count));
     behind = b;
-    rest = p .onward ∙ ap (λ (i : ℕ). readFrom s (advance (q .state) (p .form)) i (lines (drop (at + length (lineBytes (drop at t)) + 1) t))) (sym (add-one k));
+    lent = lent;
+    rest = p .onward ∙ ap (λ (j : ℕ). readFrom s (advance (q .state) (p .form)) j (lines (drop (at + length (lineBytes (drop at t)) + 1) t))) (sym (add-one i));
     within = omega (arith, p .inside);
     few = omega (arith, q .few);
-  }
+    few-codes = omega (arith, p .few-codes);
+  })
 
 -- the answer with a refusal, and with the program
-pub answer-refused : {o : Outcome Program} (n k : ℕ) (p : C.Program) → (n ≡ 0 → ⊥) → o ≡ refused n k → Answers o (record { refusal = n; line = k; program = p })
+pub answer-refused : {k : Codes} {places : List ℕ} {o : Outcome Program} (n i : ℕ) (p : C.Program) → (n ≡ 0 → ⊥) → o ≡ refused n i
+    → Answers k places o (record { refusal = n; line = i; program = p })
 unfolding checkOutcome
-answer-refused n k p h e = record { outcome-is = refuse-none n k (O.done (programOf p)) h ∙ sym e; complete = λ z. absurd (h z) }
+answer-refused {k} n i p h e = record { outcome-is = refuse-none n i (O.done (programOf k p)) h ∙ sym e; complete = λ z. absurd (h z) }
 
-module _ {s : Sizes} {t : List ℕ} {plan : Added} {wanted : List Bool} {slots : List Located}
-    {frames : List Frame} {x : S.State} {at k : ℕ} (q : Read s t plan wanted slots frames x at k) where
+module _ {s : Sizes} {t : List ℕ} {plan : Added} {wanted : List Bool} {a : Codes} {places : List ℕ} {slots : List Located}
+    {frames : List Frame} {x : S.State} {n at i : ℕ} (q : Read s t plan wanted a places slots frames x n at i) where
   pub small : (x .steps ≤ 32) × (x .tally .rules ≤ 32)
   small = (omega (arith, q .reached .few, q .stands .steps-are), omega (arith, q .reached .rules .few, q .stands .tally-is .rules-are))
 
   program : C.Program
   program = record { slots = slots; frames = frames; steps = x .steps; lines = x .lines }
 
-  program-is : programOf program ≡ q .state .steps
+  program-is : programOf a program ≡ q .state .steps
   unfolding programOf program
   program-is = q .behind .kept .steps-are
 
-  pub answer-read : length t ≤ at
-      → Answers (readFrom s start 1 (lines t))
-      (record { refusal = lastRefusal x; line = k; program = record { slots = slots; frames = frames; steps = x .steps; lines = x .lines } })
+  pub room : length t ≤ 8192 → CodeRoom (length t) a
+  room h = let l = q .lent in record {
+    in-kinds = omega (arith, l .kinds-length);
+    in-numbers = omega (arith, l .numbers-length);
+    in-chains = omega (arith, l .chains-length);
+    few = omega (arith, l .kinds-length);
+  }
+
+  codes-inside : length t ≤ 8192 → K.Arrays (a .kinds) (a .numbers) places n
+  codes-inside h = let l = q .lent in record {
+    in-kinds = omega (arith, l .kinds-length, q .few-codes, q .within);
+    in-numbers = omega (arith, l .numbers-length, q .few-codes, q .within);
+    in-places = omega (arith, l .places-length, q .few-codes, q .within);
+  }
+
+  pub answer-read : length t ≤ 8192 → length t ≤ at
+      → Answers a places (readFrom s start 1 (lines t))
+      (record { refusal = lastRefusal x; line = i; program = record { slots = slots; frames = frames; steps = x .steps; lines = x .lines } })
   unfolding checkOutcome program lines readFrom closedText unless
-  answer-read h =
-      let ended : readFrom s start 1 (lines t) ≡ closedText (q .state) k =
-      q .rest ∙ ap (λ (u : List ℕ). readFrom s (q .state) k (lines u)) (drop-of-length-le t h) in
+  answer-read o h =
+      let ended : readFrom s start 1 (lines t) ≡ closedText (q .state) i =
+      q .rest ∙ ap (λ (u : List ℕ). readFrom s (q .state) i (lines u)) (drop-of-length-le t h) in
+      let kept = q .behind .kept in
       record {
         outcome-is = rw (ended, last-is (q .stands), program-is) (go (not (isOpen (q .state)) && isOutside (q .state .around)));
         complete = λ z. record {
-          slots-length = q .behind .kept .slots-length;
-          framed = rw program-is (q .behind .kept .framed);
-          located = q .behind .kept .located;
+          slots-length = kept .slots-length;
+          framed = rw program-is (kept .framed);
+          located = all-located a places n (codes-inside o) slots (take (x .steps) frames) (kept .terms) (kept .placed);
           steps-are = rw program-is (q .stands .steps-are);
           lines-are = rw program-is (q .stands .lines-are);
         };
       }
     where
-      go : (b : Bool) → unless (cond b 0 8) k (O.done (q .state .steps)) ≡ cond b (O.done (q .state .steps)) (refused 8 k)
+      go : (b : Bool) → unless (cond b 0 8) i (O.done (q .state .steps)) ≡ cond b (O.done (q .state .steps)) (refused 8 i)
       go true = refl
       go false = refl

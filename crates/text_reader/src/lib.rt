@@ -1,14 +1,16 @@
-// The text reader: one loop over the lines that holds the program. The open step's plan is lent to it.
+// The text reader: one loop over the lines that holds the program. The open step's plan is lent to it, and so are the arrays
+// for the codes of expressions.
 ghost use mathlib.Core.Path.{_≡_};
 ghost use mathlib.Core.Bool.{false};
 ghost use mathlib.Core.List.{[]};
 ghost use Prim.Native.Nat.{_≤_};
 ghost use lib.ListN.{length};
 ghost use Rattle.plan_lines.specs.Held.{HoldsLines, planOf};
+ghost use Rattle.program.specs.Code.{codesKept};
 ghost use Rattle.register.specs.Shape.{Limits};
 ghost use Rattle.text_rules.specs.Text.{lines, start as startOf, readFrom};
 ghost use Rattle.text_state.specs.State.{frameOf};
-ghost use Rattle.text_reader.specs.Answers.{Answers};
+ghost use Rattle.text_reader.specs.Answers.{emptySlot, CodeArrays, Answers};
 use plan_lines::Plan;
 use program::Program;
 use program::frame::Frame;
@@ -22,8 +24,8 @@ use program::rule::Test;
 use program::setting::Setting;
 use program::term::Term;
 use register::Sizes;
-use text_line::line::LineRead;
 use text_plan::locate::plan_rule;
+use text_rules::line::LineRead;
 use text_state::state;
 use text_state::state::State;
 
@@ -35,7 +37,9 @@ pub struct Checked {
 }
 
 // A place that holds no rule.
-fn empty_slot() -> Located {
+fn empty_slot() -> Located
+    ensures { λ r. ⌜ r .slot ≡ emptySlot ⌝ }
+{
     let slot = Slot {
         test: Test::Always,
         rule: Rule::Set(0, Term::Number(0)),
@@ -93,8 +97,8 @@ fn close(
     frame
 }
 
-// The program of the lines of a text. Lent are the arrays of a plan that has no line yet, and the number and the line of the
-// refusal.
+// The program of the lines of a text. Lent are the arrays of a plan that has no line yet, the arrays for the codes of its
+// expressions and where their readings are found, and the number and the line of the refusal.
 fn read_program(
     text: &[u8],
     sizes: Sizes,
@@ -105,20 +109,28 @@ fn read_program(
     count: &mut usize,
     full: &mut bool,
     wanted: &mut [bool; 64],
+    kinds: &mut [u8],
+    numbers: &mut [i32],
+    chains: &mut [u64],
+    places: &mut [u8],
     refusal: &mut u32,
     line: &mut usize,
 ) -> Program
     requires { ⌜ Limits sizes × (length (now text) ≤ 8192) × HoldsLines (planOf (now keys) (now rounds) (now backs) (now reads) (now count)) []
-        × (now full ≡ false) × (length (now wanted) ≡ 64) × (now refusal ≡ 0) × (now line ≡ 1) ⌝ }
-    ensures { λ r. ⌜ Answers (readFrom sizes startOf 1 (lines (now (text .entry)))) (record { refusal = now (refusal .exit); line = now (line .exit); program = r }) ⌝ }
+        × (now full ≡ false) × (length (now wanted) ≡ 64) × CodeArrays (now kinds) (now numbers) (now chains) (now places)
+        × (now refusal ≡ 0) × (now line ≡ 1) ⌝ }
+    ensures { λ r. ⌜ Answers (codesKept (now (kinds .exit)) (now (numbers .exit)) (now (chains .exit))) (now (places .exit))
+        (readFrom sizes startOf 1 (lines (now (text .entry)))) (record { refusal = now (refusal .exit); line = now (line .exit); program = r }) ⌝ }
 {
     let mut slots = [empty_slot(); 1024];
     let mut frames = [empty_frame(); 32];
     let mut state = state::start();
+    let mut codes = 0;
     let mut at = 0;
     while at < text.len() {
         let end = text_next::line_end(text, at);
-        let read = text_next::read_first(text, at, end, sizes);
+        let first = text_next::read_first(text, at, end, sizes, kinds, numbers, chains, codes);
+        let read = first.line;
         *refusal = text_refusals::refusal(state, *full, read);
         if *refusal != 0 {
             break;
@@ -127,7 +139,19 @@ fn read_program(
         let lines = *count;
         match read {
             LineRead::Rule(slot, _) => {
-                let found = plan_rule(keys, rounds, backs, reads, count, full, wanted, slot);
+                let found = plan_rule(
+                    keys,
+                    rounds,
+                    backs,
+                    reads,
+                    count,
+                    full,
+                    wanted,
+                    kinds,
+                    chains,
+                    places,
+                    slot,
+                );
                 slots[state::place(state)] = Located { slot, at: found };
             }
             LineRead::End => {
@@ -141,6 +165,7 @@ fn read_program(
             LineRead::NoForm => {}
         }
         state = state::advance(state, lines, read);
+        codes = first.codes;
         at = end + 1;
         *line += 1;
     }
@@ -153,10 +178,18 @@ fn read_program(
     }
 }
 
-// The program of the lines of a text.
-pub fn read_lines(text: &[u8], sizes: Sizes) -> Checked
-    requires { ⌜ Limits sizes × (length (now text) ≤ 8192) ⌝ }
-    ensures { λ r. ⌜ Answers (readFrom sizes startOf 1 (lines (now (text .entry)))) r ⌝ }
+// The program of the lines of a text, the codes of its expressions in the lent arrays.
+pub fn read_lines(
+    text: &[u8],
+    sizes: Sizes,
+    kinds: &mut [u8],
+    numbers: &mut [i32],
+    chains: &mut [u64],
+    places: &mut [u8],
+) -> Checked
+    requires { ⌜ Limits sizes × (length (now text) ≤ 8192) × CodeArrays (now kinds) (now numbers) (now chains) (now places) ⌝ }
+    ensures { λ r. ⌜ Answers (codesKept (now (kinds .exit)) (now (numbers .exit)) (now (chains .exit))) (now (places .exit))
+        (readFrom sizes startOf 1 (lines (now (text .entry)))) r ⌝ }
 {
     let mut keys = [0u64; 64];
     let mut rounds = [0u8; 64];
@@ -177,6 +210,10 @@ pub fn read_lines(text: &[u8], sizes: Sizes) -> Checked
         &mut count,
         &mut full,
         &mut wanted,
+        kinds,
+        numbers,
+        chains,
+        places,
         &mut refusal,
         &mut line,
     );

@@ -3,22 +3,24 @@ use Prim.Native.Nat.{ℕ}
 use mathlib.Core.Bool.{Bool, cond, not, _||_}
 use lib.Dec.{ltb}
 use Rattle.laws.specs.Outcome.{orElse}
-use Rattle.text_terms.specs.declared.term.Checks.{Checks}
+use Rattle.text_rules.specs.declared.line.Checks.{Checks}
 use Rattle.program.specs.declared.rule.Rule.{Rule}
-use Rattle.text_line.specs.declared.line.LineRead.{LineRead}
-use Rattle.text_line.specs.declared.line.LineRead.the-variants as L
+use Rattle.text_rules.specs.declared.line.LineRead.{LineRead}
+use Rattle.text_rules.specs.declared.line.LineRead.the-variants as L
 use Rattle.text_rules.specs.Check.{isOutside, isUsed}
 use Rattle.text_state.specs.State.{otherSort}
 use Rattle.text_state.specs.declared.state.State.{State}
 
--- the lowest of 9 to 12
+-- the first of 9 to 12, 24 and 25
 unfoldable pub checksRefusal : Checks → ℕ
 checksRefusal c =
     cond (not (c .named)) 9
     (cond (not (c .kinded)) 10
     (cond (not (c .short)) 11
     (cond (not (c .ranged)) 12
-    0)))
+    (cond (not (c .shallow)) 24
+    (cond (not (c .few)) 25
+    0)))))
 
 -- 8, for a line that stands outside steps; fits: the loop around, or none, is one that it asks for
 unfoldable pub misplaced : State → Bool → Bool

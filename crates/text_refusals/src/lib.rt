@@ -3,13 +3,13 @@ ghost use mathlib.Core.Path.{_≡_};
 ghost use Rattle.laws.specs.Outcome.{orElse};
 ghost use Rattle.text_refusals.specs.Refusal.{checksRefusal, ruleRefusal, stepRefusal, endRefusal, misplaced, loopRefusal, doneRefusal, refusalOf, lastRefusal};
 use program::rule::Rule;
-use text_line::line::LineRead;
 use text_rules::around;
+use text_rules::line::Checks;
+use text_rules::line::LineRead;
 use text_state::state::State;
 use text_state::tally;
-use text_terms::term::Checks;
 
-// The lowest of 9 to 12.
+// The first of 9 to 12, 24 and 25.
 fn checks_refusal(checks: Checks) -> u32
     ensures { λ r. ⌜ r ≡ checksRefusal checks ⌝ }
 {
@@ -24,6 +24,12 @@ fn checks_refusal(checks: Checks) -> u32
     }
     if !checks.ranged {
         return 12;
+    }
+    if !checks.shallow {
+        return 24;
+    }
+    if !checks.few {
+        return 25;
     }
     0
 }

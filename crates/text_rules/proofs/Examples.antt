@@ -13,18 +13,22 @@ use Rattle.integers.specs.Range.{inRange}
 use Rattle.chain_text.specs.Text as C
 use Rattle.chain_text.specs.Scan.{startsWith}
 use Rattle.plan_theory.specs.Plan.{back, read, result, round, rounds, plan, addReadings, add, withTree as planLines, listed, lineIndex, sameFact, sameWord, tree, treeWithin, half, doubled, front, rest}
-use Rattle.text_forms.specs.Numeral.{isDigit, digits, decimal, whole, metres, allDigits, centimetres, wholeDigits, noLeadingZero, twoDecimals, isNumeral, withDecimals, numeral, printedNumeral, signedForm, numberForm, numberValue, signedValue}
-use Rattle.text_forms.specs.Written as W
-use Rattle.text_forms.specs.Token.{capital, then, literal, or, finished}
-use Rattle.text_forms.specs.Term.{ofNumber, ofChain, termForm}
-use Rattle.text_forms.specs.Line.{assigned, localForm, sentForms, remoteForm, actionForm, ruleLine, compared, testedForm, lineForm}
-use Rattle.text_forms.specs.Parts.{numbersInRange, termInRange, short, termShort, kinded, kindsAgree, actionKinds, areMeasures, conditionKinds, sameKind, isReferenceTerm, termKinded, named, fieldNamed, termNamed, target, everyTerm, terms, actionTerms, conditionTerms}
+use Rattle.text_numerals.specs.Numeral.{isDigit, digits, decimal, whole, metres, allDigits, centimetres, wholeDigits, noLeadingZero, twoDecimals, isNumeral, withDecimals, numeral, printedNumeral, signedForm, numberValue, signedValue}
+use Rattle.text_numerals.specs.Span.{span}
+use Rattle.text_numerals.specs.Word.{opensWith}
+use Rattle.text_syntax.specs.Written as W
+use Rattle.text_syntax.specs.Lexing.{spelled, words, signs, fixedToken, numberToken, firstToken, operandBehind, isSpace, unlessEmpty, skipped, followed, tokensFrom, tokensAt, tokens}
+use Rattle.text_syntax.specs.Kind.{kind, fixedIn, letterIn, writeIn, operatorIn, comparisonIn, same, is}
+use Rattle.text_syntax.specs.Form as F
+use Rattle.text_syntax.specs.Grammar.{linked, chainForm, numberIn, termForm, groupForm, operandForm, isSum, isSmaller, operatorForm, joinedTo, joined, expressionForm, expression, localForm, sentForm, remoteForm, ruleForm, comparedForm, testedForm, anyForm, lineForm}
+use Rattle.text_syntax.specs.Parts.{conditionExpressions, actionExpressions, expressions, everyExpression, everyTerm, termsPass, target, termNamed, fieldNamed, named, termKinded, isReferenceTerm, isReference, isMeasure, oneKind, sameKind, conditionKinds, actionKinds, kindsAgree, kinded, termShort, short, termInRange, numbersInRange, depth, shallow, operators, fewOperators}
+use Rattle.text_syntax.specs.Tree.{termTree, treeOf, testOf, targetOf, sourceOf, ruleOf}
 use Rattle.laws.specs.Bytes.{bytes}
 use Rattle.text_rules.specs.Check.{lineRefusal, planFits, sortsAgree, oneSort, hasRoom, inPlace, openRules, isOpen, isUsed, isOutside}
 use Rattle.program.specs.Program.{someTarget, isTotal, isLeast, Rule, Program, hasRemote, isRemote, stepPlan, readings, ruleReadings, targetReadings, testReadings, expressionReadings}
 use Rattle.program.specs.Program as P
 use Rattle.program.specs.declared.setting.Setting.the-variants.{Single, Looped}
-use Rattle.text_rules.specs.Text.{planResult, rulesAt, textProgram, readFrom, start, closedText, lineOutcome, advance, closeLoop, lastOf, withStep, settingIn, writtenRule as programRule, writtenTarget, writtenExpression, writtenTest, writtenTerm, pieceForm, lines, onto}
+use Rattle.text_rules.specs.Text.{planResult, rulesAt, textProgram, readFrom, start, closedText, lineOutcome, advance, closeLoop, lastOf, withStep, settingIn, pieceForm, lines, onto}
 
 -- "n 3, r 1, m 1": the fields A, which is 0, and M, which is 8
 abbrev pub sizes : Sizes
@@ -32,7 +36,7 @@ sizes = record { records = 3; references = 1; measures = 1 }
 
 -- the program or refusal of some bytes over a register of some sizes, and of a text over that register
 unfoldable pub answerOver : Sizes → List ℕ → Outcome Program
-unfolding textProgram readFrom start closedText lineOutcome advance closeLoop lastOf withStep settingIn programRule writtenTarget writtenExpression writtenTest writtenTerm pieceForm lines onto after unless lineRefusal planFits sortsAgree oneSort someTarget isTotal isLeast hasRoom numbersInRange termInRange short termShort kinded kindsAgree actionKinds areMeasures conditionKinds sameKind isReferenceTerm termKinded named fieldNamed termNamed target everyTerm terms actionTerms conditionTerms inPlace openRules isOpen isUsed isOutside lineForm testedForm compared ruleLine actionForm remoteForm sentForms localForm assigned termForm ofChain ofNumber capital then literal or finished isDigit digits decimal allDigits centimetres wholeDigits noLeadingZero twoDecimals isNumeral withDecimals numeral printedNumeral signedForm numberForm numberValue signedValue inRange startsWith C.isCapital C.closed C.form C.letterField C.isReferenceLetter C.names every C.innerReferences C.wordOf stepPlan readings ruleReadings targetReadings testReadings expressionReadings plan addReadings add planLines listed lineIndex sameFact sameWord tree treeWithin half doubled front rest
+unfolding textProgram readFrom start closedText lineOutcome advance closeLoop lastOf withStep settingIn ruleOf testOf targetOf sourceOf treeOf termTree pieceForm lines onto after unless lineRefusal planFits sortsAgree oneSort someTarget isTotal isLeast hasRoom fewOperators operators shallow depth numbersInRange termInRange short termShort kinded kindsAgree actionKinds conditionKinds sameKind oneKind isMeasure isReference isReferenceTerm termKinded named fieldNamed termNamed target termsPass everyTerm everyExpression expressions actionExpressions conditionExpressions inPlace openRules isOpen isUsed isOutside lineForm anyForm testedForm comparedForm ruleForm remoteForm sentForm localForm expression expressionForm joined joinedTo operatorForm isSmaller isSum operandForm groupForm termForm numberIn chainForm linked F.held F.oneOf F.past F.then F.thenOr F.or F.whole is same comparisonIn operatorIn writeIn letterIn fixedIn kind tokens tokensAt tokensFrom followed firstToken fixedToken words signs spelled opensWith span numberToken operandBehind skipped unlessEmpty isSpace isDigit digits decimal allDigits centimetres wholeDigits noLeadingZero twoDecimals isNumeral withDecimals numeral printedNumeral signedForm numberValue signedValue inRange startsWith C.isCapital C.letterField C.isReferenceLetter C.names every C.innerReferences C.wordOf stepPlan readings ruleReadings targetReadings testReadings expressionReadings plan addReadings add planLines listed lineIndex sameFact sameWord tree treeWithin half doubled front rest
 answerOver s t = textProgram s t
 
 unfoldable pub answer : String → Outcome Program
@@ -83,10 +87,18 @@ pub empty-passes : answer "" ≡ O.done []
 unfolding answer
 empty-passes = refl
 
--- "spaces stand exactly as shown"; "no leading zero, no `-0`"; "a last line without byte 10": 7
-pub spaces-missing : answer "step\nM[u]:=1\nend\n" ≡ refused 7 2
+-- "spaces between tokens are free, none stand at a line's ends"; "no leading zero, no `-0`"; "a last line without byte 10": 7
+pub spaces-free : map answer ("step\nM[u]:=1\nend\n" ∷ "step\nM [ u ]  :=  1\nend\n" ∷ []) ≡ replicate 2 (answer "step\nM[u] := 1\nend\n")
 unfolding answer
-spaces-missing = refl
+spaces-free = refl
+
+pub space-first : answer "step\n M[u] := 1\nend\n" ≡ refused 7 2
+unfolding answer
+space-first = refl
+
+pub space-last : answer "step\nM[u] := 1 \nend\n" ≡ refused 7 2
+unfolding answer
+space-last = refl
 
 pub leading-zero : answer "step\nM[u] := 01\nend\n" ≡ refused 7 2
 unfolding answer
@@ -202,13 +214,42 @@ pub number-below : answer "step\nM[u] := -2147483649\nend\n" ≡ refused 12 2
 unfolding answer
 number-below = refl
 
+-- k groups around a number, of which 9 are 24; k sums, of which 65 are 25
+unfoldable pub groups : ℕ → List ℕ
+groups k = bytes "step\nM[u] := " ++ (replicate k 40 ++ (bytes "1" ++ (replicate k 41 ++ bytes "\nend\n")))
+
+pub groups-8 : passes (answerOver sizes (groups 8)) ≡ true
+unfolding answerOver groups passes
+groups-8 = refl
+
+pub groups-9 : answerOver sizes (groups 9) ≡ refused 24 2
+unfolding answerOver groups
+groups-9 = refl
+
+unfoldable pub sums : ℕ → List ℕ
+unfolding times
+sums k = bytes "step\nM[u] := 1" ++ (times k (bytes "+1") ++ bytes "\nend\n")
+
+pub sums-64 : passes (answerOver sizes (sums 64)) ≡ true
+unfolding answerOver sums passes
+sums-64 = refl
+
+pub sums-65 : answerOver sizes (sums 65) ≡ refused 25 2
+unfolding answerOver sums
+sums-65 = refl
+
+-- "`<?` binds tighter", "equal ranks go from left to right"
+pub ranks-groups : answer "step\nM[u] := 1 - 2 - M[u] <? 3\nend\n" ≡ answer "step\nM[u] := (1 - 2) - (M[u] <? 3)\nend\n"
+unfolding answer
+ranks-groups = refl
+
 -- depths in metres (document 02, M-104): what a rule that stores a number is answered
 abbrev stores : String → Outcome Program
 stores x = answerOver sizes (bytes "step\nM[u] := " ++ (bytes x ++ bytes "\nend\n"))
 
 -- a number in metres is the constant that its digits without the point are in centimetres
-pub metres-constant : (negative : Bool) (ds cs : List ℕ) → writtenTerm (W.number negative (metres ds cs)) ≡ writtenTerm (W.number negative (whole (ds ++ cs)))
-unfolding writtenTerm numberValue centimetres allDigits
+pub metres-constant : (negative : Bool) (ds cs : List ℕ) → termTree (W.number negative (metres ds cs)) ≡ termTree (W.number negative (whole (ds ++ cs)))
+unfolding termTree numberValue centimetres allDigits
 metres-constant negative ds cs = refl
 
 pub metres-read : map stores ("1.80" ∷ "1.00" ∷ "-0.05" ∷ "0.00" ∷ []) ≡ map stores ("180" ∷ "100" ∷ "-5" ∷ "0" ∷ [])

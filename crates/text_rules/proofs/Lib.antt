@@ -6,3 +6,4 @@ pub mod Sorts
 pub mod Loops
 pub mod Passing
 pub mod Examples
+pub mod Same

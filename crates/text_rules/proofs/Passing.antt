@@ -17,8 +17,8 @@ use Rattle.chain_text.specs.Text.{names}
 use Rattle.register.specs.Load.{load}
 use Rattle.register.proofs.Roundtrip.{loads}
 use Rattle.register.proofs.Bounds.{limits}
-use Rattle.text_forms.specs.Written.{Line, step, end, done, loop, rule}
-use Rattle.text_forms.specs.Parts.{terms, everyTerm, fieldNamed, named, sameKind}
+use Rattle.text_syntax.specs.Written.{Line, step, end, done, loop, rule}
+use Rattle.text_syntax.specs.Parts.{expressions, everyExpression, termsPass, fieldNamed, named, sameKind}
 use Rattle.program.specs.Program.{Step, Program, someTarget}
 use Rattle.text_rules.specs.Check.{isOutside, isUsed, State, isOpen, openRules, inPlace, hasRoom, sortsAgree, planFits, lineRefusal}
 use Rattle.text_rules.specs.Text.{Piece, lines, pieceForm, closeLoop, advance, lineOutcome, closedText, readFrom, start, textProgram, check}
@@ -60,7 +60,7 @@ close-length (x ∷ y ∷ xs) = ap suc (close-length (y ∷ xs))
 
 module _ (s : Sizes) (lim : Limits s) where
   pub advance-reached : (st : State) (l : Line) → Reached s st → Clean s st l → Reached s (advance st l)
-  unfolding advance isOpen openRules inPlace hasRoom sortsAgree planFits openLoop named fieldNamed terms everyTerm
+  unfolding advance isOpen openRules inPlace hasRoom sortsAgree planFits openLoop named fieldNamed termsPass expressions everyExpression
   advance-reached st step w k = record { each = w .each; few = w .few; room = λ o. ltb-true _ 32 (k .room); rules = rules-none s; loops = w .loops; field = w .field }
   advance-reached st end w k = record {
     each = each-append (StepPasses s) (st .steps) _ (w .each) (record { rules = w .rules; fits = leb-true _ 64 (k .fits); field = setting-passes s (st .around) (w .field) }, tt);

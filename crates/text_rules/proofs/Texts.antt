@@ -1,35 +1,33 @@
--- The printed text of some lines, each with byte 10 behind it, is read as those lines.
-use Prim.Native.Nat.{ℕ, _≤_}
+-- A text that spells some lines, each with byte 10 behind it, is read as those lines, whatever its free spaces.
+use Prim.Native.Nat.{ℕ, zero, suc, _≤_}
 use mathlib.Core.Path.{_≡_, refl, sym, ap, ap₂, _∙_}
-use mathlib.Core.Bool.{true, false, _&&_}
+use mathlib.Core.Bool.{Bool, true, false, _&&_}
 use mathlib.Core.List.{List, [], _∷_, _++_, map}
 use mathlib.Core.Option.{Option, some}
 use native.Mathlib.Omega.{arith}
 use borrow.Author.Tests.{leb-true, ne-eqb}
 use lib.Dec.{leb}
-use Rattle.chain_text.specs.Text.{isCapital, printed}
-use Rattle.laws.specs.Lists.{every, Each}
+use Rattle.chain_text.specs.Text.{isCapital}
+use Rattle.laws.specs.Lists.{every}
 use Rattle.laws.proofs.Bools.{and-both, and-true}
-use Rattle.laws.specs.Bytes.{bytes}
-use Rattle.text_forms.specs.Numeral.{isDigit, Numeral, whole, metres, printedNumeral, allDigits, signedText, printedNumber}
-use Rattle.text_forms.specs.Written.{Term, chain, number, always, when, Action, set, combine, remote, Line, step, end, done, loop, rule}
-use Rattle.program.specs.declared.rule.Comparison.{Comparison}
 use Rattle.program.specs.declared.rule.Comparison.the-variants.{Less, Equal, Unequal}
-use Rattle.program.specs.declared.rule.Operator.{Operator}
-use Rattle.program.specs.declared.rule.Operator.the-variants.{Plus, Minus}
-use Rattle.program.specs.declared.rule.Sort.{Sort}
 use Rattle.program.specs.declared.rule.Sort.the-variants.{Least, Total}
-use Rattle.text_forms.specs.Term.{printedTerm, ProperTerm}
-use Rattle.text_forms.specs.Line.{comparisonText, operatorText, sortText, printedAction, printedLine, ProperAction, Proper}
-use Rattle.text_forms.proofs.Spans.{every-parts}
-use Rattle.text_forms.proofs.Lines.{printed-line}
+use Rattle.text_numerals.specs.Numeral.{isDigit, Numeral, whole, metres, printedNumeral, allDigits, signedText, printedNumber}
+use Rattle.text_numerals.proofs.Spans.{every-parts}
+use Rattle.program.specs.declared.rule.Operator.the-variants.{Plus, Minus, Smaller}
+use Rattle.text_syntax.specs.Token.{Token, stepWord, endWord, doneWord, loopWord, ifWord, remoteWord, own, letter, number, becomes, colon, write, operator, comparison, openSquare, closeSquare, openRound, closeRound, unknown}
+use Rattle.text_syntax.specs.Lexing.{spelled}
+use Rattle.text_syntax.specs.Spelling.{Stands, spaces, Spells, empty, last, spaced}
+use Rattle.text_syntax.specs.Written.{Line}
+use Rattle.text_syntax.specs.Printed.{printedLine, Proper}
+use Rattle.text_syntax.proofs.Texts.{text-exactly}
 use Rattle.text_rules.specs.Text.{isWithin, lines, pieceForm}
 use Rattle.text_rules.proofs.Pieces.{lines-ended}
 
--- the text of some lines
-unfoldable pub printedText : List Line → List ℕ
-printedText [] = []
-printedText (l ∷ ls) = printedLine l ++ (10 ∷ printedText ls)
+-- the text of some lines: each spells the tokens of its form
+pub data SpellsText : List Line → List ℕ → Type 0 where
+  no-line : SpellsText [] []
+  one-more : {l : Line} {ls : List Line} {t u : List ℕ} → Spells false (printedLine l) t → Proper l → SpellsText ls u → SpellsText (l ∷ ls) (t ++ (10 ∷ u))
 
 -- no byte of a text is 10
 abbrev Within : List ℕ → Type 0
@@ -43,6 +41,11 @@ within-append : (t u : List ℕ) → Within t → Within u → Within (t ++ u)
 unfolding every
 within-append [] u w v = v
 within-append (b ∷ t) u w v = let both = and-both (isWithin b) (every isWithin t) w in sym (and-true (every isWithin (t ++ u)) (both .0)) ∙ within-append t u (both .1) v
+
+within-spaces : (n : ℕ) (t : List ℕ) → Within t → Within (spaces n ++ t)
+unfolding spaces
+within-spaces zero t w = w
+within-spaces (suc n) t w = within-cons 32 (spaces n ++ t) (omega arith) (within-spaces n t w)
 
 capital-above : (l : ℕ) → isCapital l ≡ true → 11 ≤ l
 unfolding isCapital
@@ -62,62 +65,49 @@ numeral-within (metres ds cs) h =
     let both = every-parts isDigit ds cs h in
     within-append ds (46 ∷ cs) (digits-within ds (both .0)) (digits-within cs (both .1))
 
-chain-within : (ls : List ℕ) → every isCapital ls ≡ true → Within (printed ls)
-unfolding every printed isWithin
-chain-within [] h = refl
-chain-within (l ∷ ls) h =
-    let both = and-both (isCapital l) (every isCapital ls) h in
-    within-cons l (91 ∷ (printed ls ++ (93 ∷ []))) (capital-above l (both .0)) (within-append (printed ls) (93 ∷ []) (chain-within ls (both .1)) refl)
+number-within : (negative : Bool) (x : Numeral) → every isDigit (allDigits x) ≡ true → Within (printedNumber negative x)
+unfolding printedNumber signedText every isWithin
+number-within true x h = numeral-within x h
+number-within false x h = numeral-within x h
 
-term-within : (x : Term) → ProperTerm x → Within (printedTerm x)
-unfolding printedTerm printedNumber signedText every isWithin
-term-within (chain ls) p = chain-within ls p
-term-within (number true x) p = numeral-within x (p .1)
-term-within (number false x) p = numeral-within x (p .1)
+token-within : (operand : Bool) (k : Token) (r : List ℕ) → Stands operand k r → Within (spelled k)
+unfolding spelled every isWithin
+token-within operand stepWord r h = refl
+token-within operand endWord r h = refl
+token-within operand doneWord r h = refl
+token-within operand loopWord r h = refl
+token-within operand ifWord r h = refl
+token-within operand remoteWord r h = refl
+token-within operand own r h = refl
+token-within operand (letter l) r h = within-cons l [] (capital-above l h) refl
+token-within operand (number negative x) r h = number-within negative x (h .digits)
+token-within operand becomes r h = refl
+token-within operand colon r h = refl
+token-within operand (write Least) r h = refl
+token-within operand (write Total) r h = refl
+token-within operand (operator Plus) r h = refl
+token-within operand (operator Minus) r h = refl
+token-within operand (operator Smaller) r h = refl
+token-within operand (comparison Less) r h = refl
+token-within operand (comparison Equal) r h = refl
+token-within operand (comparison Unequal) r h = refl
+token-within operand openSquare r h = refl
+token-within operand closeSquare r h = refl
+token-within operand openRound r h = refl
+token-within operand closeRound r h = refl
+token-within operand unknown r h = refl
 
-comparison-within : (c : Comparison) → Within (comparisonText c)
-unfolding every isWithin
-comparison-within Less = refl
-comparison-within Equal = refl
-comparison-within Unequal = refl
+spells-within : {operand : Bool} {ks : List Token} {t : List ℕ} → Spells operand ks t → Within t
+unfolding every
+spells-within empty = refl
+spells-within {operand} (last {k = k} h) = token-within operand k [] h
+spells-within {operand} (spaced {k = k} {r = r} n h more) =
+    within-append (spelled k) (spaces n ++ r) (token-within operand k (spaces n ++ r) h) (within-spaces n r (spells-within more))
 
-operator-within : (op : Operator) → Within (operatorText op)
-unfolding every isWithin
-operator-within Plus = refl
-operator-within Minus = refl
-
-sort-within : (k : Sort) → Within (sortText k)
-unfolding every isWithin
-sort-within Least = refl
-sort-within Total = refl
-
-action-within : (a : Action) → ProperAction a → Within (printedAction a)
-unfolding printedAction every isWithin
-action-within (set f x) p = within-cons f (bytes "[u] := " ++ printedTerm x) (capital-above f (p .0)) (term-within x (p .1))
-action-within (combine f op x y) p =
-    within-cons f (bytes "[u] := " ++ (printedTerm x ++ (operatorText op ++ printedTerm y))) (capital-above f (p .0))
-    (within-append (printedTerm x) (operatorText op ++ printedTerm y) (term-within x (p .1))
-    (within-append (operatorText op) (printedTerm y) (operator-within op) (term-within y (p .2))))
-action-within (remote k f c x) p =
-    within-append (printed (f ∷ c)) (sortText k ++ printedTerm x) (chain-within (f ∷ c) (p .0))
-    (within-append (sortText k) (printedTerm x) (sort-within k) (term-within x (p .1)))
-
-line-within : (l : Line) → Proper l → Within (printedLine l)
-unfolding printedLine every isWithin
-line-within step p = refl
-line-within end p = refl
-line-within done p = refl
-line-within (loop f) p = within-cons f [] (capital-above f p) refl
-line-within (rule always a) p = action-within a (p .1)
-line-within (rule (when x c y) a) p =
-    within-append (printedTerm x) (comparisonText c ++ (printedTerm y ++ (bytes ": " ++ printedAction a))) (term-within x (p .0 .0))
-    (within-append (comparisonText c) (printedTerm y ++ (bytes ": " ++ printedAction a)) (comparison-within c)
-    (within-append (printedTerm y) (bytes ": " ++ printedAction a) (term-within y (p .0 .1)) (action-within a (p .1))))
-
--- the lines of a printed text have the forms that were printed
-pub printed-text : (ls : List Line) → Each Proper ls → map pieceForm (lines (printedText ls)) ≡ map some ls
-unfolding printedText lines pieceForm
-printed-text [] p = refl
-printed-text (l ∷ ls) p =
-    ap (map pieceForm) (lines-ended (printedLine l) (printedText ls) (line-within l (p .0)))
-    ∙ ap₂ (λ (o : Option Line) (os : List (Option Line)). o ∷ os) (printed-line l (p .0)) (printed-text ls (p .1))
+-- the lines of such a text have the forms that it spells
+pub spelled-text : {ls : List Line} {t : List ℕ} → SpellsText ls t → map pieceForm (lines t) ≡ map some ls
+unfolding lines pieceForm
+spelled-text no-line = refl
+spelled-text (one-more {l} {ls} {t} {u} h p more) =
+    ap (map pieceForm) (lines-ended t u (spells-within h))
+    ∙ ap₂ (λ (o : Option Line) (os : List (Option Line)). o ∷ os) (text-exactly t l .1 (h, p)) (spelled-text more)

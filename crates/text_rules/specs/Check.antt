@@ -1,5 +1,5 @@
 -- Where a line of a rules text may stand and what a step may hold: one definition for each of the refusals 8, 13, 14 and 15, and the
--- lowest that applies of these and of 9 to 12, which are in the Parts of `text_forms`.
+-- first that applies of these and of 9 to 12, 24 and 25, which are in the Parts of `text_syntax`.
 use Prim.Native.Nat.{ℕ}
 use mathlib.Core.Bool.{Bool, true, false, cond, not, _&&_}
 use mathlib.Core.List.{List, []}
@@ -8,8 +8,8 @@ use lib.Dec.{leb, ltb}
 use lib.ListN.{length}
 use Rattle.register.specs.declared.Sizes.{Sizes}
 use Rattle.chain_text.specs.Text.{letterField}
-use Rattle.text_forms.specs.Written.{Action, set, combine, remote, Line, step, end, done, loop, rule}
-use Rattle.text_forms.specs.Parts.{named, kinded, short, numbersInRange}
+use Rattle.text_syntax.specs.Written.{Action, set, remote, Line, step, end, done, loop, rule}
+use Rattle.text_syntax.specs.Parts.{named, kinded, short, numbersInRange, shallow, fewOperators}
 use Rattle.program.specs.declared.rule.Sort.the-variants.{Least, Total}
 use Rattle.text_rules.specs.declared.around.Around.{Around}
 use Rattle.text_rules.specs.declared.around.Around.the-variants.{Outside, Unused, Used}
@@ -58,7 +58,6 @@ hasRoom st (rule c a) = ltb (length (openRules st)) 32
 -- 14: "Within a step one field takes one sort of remote write": whether a rule behind these is of the sort that its field has taken so far
 unfoldable pub oneSort : List Rule → Action → Bool
 oneSort rs (set f x) = true
-oneSort rs (combine f op x y) = true
 oneSort rs (remote Least f c x) = not (someTarget (isTotal (letterField f)) rs)
 oneSort rs (remote Total f c x) = not (someTarget (isLeast (letterField f)) rs)
 
@@ -77,7 +76,7 @@ planFits st done = true
 planFits st (loop f) = true
 planFits st (rule c a) = true
 
--- the lowest number that applies to a line that has a form, 0 for a line that passes
+-- the number that applies to a line that has a form, the lowest first but for 24 and 25, which are asked after 12; 0 for a line that passes
 unfoldable pub lineRefusal : Sizes → State → Line → ℕ
 lineRefusal s st l =
     cond (not (inPlace st l)) 8
@@ -85,7 +84,9 @@ lineRefusal s st l =
     (cond (not (kinded l)) 10
     (cond (not (short l)) 11
     (cond (not (numbersInRange l)) 12
+    (cond (not (shallow l)) 24
+    (cond (not (fewOperators l)) 25
     (cond (not (hasRoom st l)) 13
     (cond (not (sortsAgree st l)) 14
     (cond (not (planFits st l)) 15
-    0)))))))
+    0)))))))))

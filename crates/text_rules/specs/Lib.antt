@@ -1,3 +1,4 @@
 -- The rules text of document 01.
 pub mod Check
 pub mod Text
+pub mod LineRead

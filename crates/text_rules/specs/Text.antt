@@ -9,16 +9,16 @@ use Rattle.laws.specs.Outcome.{Outcome, refused, unless, after}
 use Rattle.laws.specs.Outcome as O
 use Rattle.register.specs.Load.{load}
 use Rattle.register.specs.declared.Sizes.{Sizes}
-use Rattle.chain_text.specs.Text.{letterField, wordOf}
+use Rattle.chain_text.specs.Text.{letterField}
 use Rattle.plan_theory.specs.Plan.{Fact, result}
-use Rattle.text_forms.specs.Numeral.{numberValue}
-use Rattle.text_forms.specs.Written.{Term, chain, number, Condition, always, when, Action, set, combine, remote, Line, step, end, done, loop, rule}
-use Rattle.text_forms.specs.Line.{lineForm}
+use Rattle.text_syntax.specs.Written.{Line, step, end, done, loop, rule}
+use Rattle.text_syntax.specs.Lexing.{tokens}
+use Rattle.text_syntax.specs.Grammar.{lineForm}
+use Rattle.text_syntax.specs.Tree.{ruleOf}
 use Rattle.text_rules.specs.declared.around.Around.{Around}
 use Rattle.text_rules.specs.declared.around.Around.the-variants.{Outside, Unused, Used}
 use Rattle.program.specs.declared.setting.Setting.{Setting}
 use Rattle.program.specs.declared.setting.Setting.the-variants.{Single, Looped}
-use Rattle.program.specs.Program as P
 use Rattle.program.specs.Program.{Rule, Step, Program, readings, hasRemote}
 use Rattle.text_rules.specs.Check.{State, isOutside, isOpen, openRules, lineRefusal}
 
@@ -43,30 +43,8 @@ lines (b ∷ t) = cond (eqb b 10) (ended [] ∷ lines t) (onto b (lines t))
 
 -- 7: "no such line, or a last line without byte 10"
 unfoldable pub pieceForm : Piece → Option Line
-pieceForm (ended t) = lineForm t
+pieceForm (ended t) = lineForm (tokens t)
 pieceForm (cut t) = none
-
--- a written rule as a rule of the program
-unfoldable pub writtenTerm : Term → P.Expression
-writtenTerm (chain ls) = P.reading (wordOf ls)
-writtenTerm (number negative x) = P.constant (numberValue negative x)
-
-unfoldable pub writtenTest : Condition → P.Test
-writtenTest always = P.always
-writtenTest (when x c y) = P.when (writtenTerm x) c (writtenTerm y)
-
-unfoldable pub writtenTarget : Action → P.Target
-writtenTarget (set f x) = P.own (letterField f)
-writtenTarget (combine f op x y) = P.own (letterField f)
-writtenTarget (remote k f c x) = P.remote k (letterField f) (wordOf c)
-
-unfoldable pub writtenExpression : Action → P.Expression
-writtenExpression (set f x) = writtenTerm x
-writtenExpression (combine f op x y) = P.operation op (writtenTerm x) (writtenTerm y)
-writtenExpression (remote k f c x) = writtenTerm x
-
-unfoldable pub writtenRule : Condition → Action → Rule
-writtenRule c a = record { test = writtenTest c; target = writtenTarget a; expression = writtenExpression a }
 
 -- where the next step stands, whether or not it will be the last of its loop
 unfoldable pub settingIn : Around → Setting
@@ -103,7 +81,7 @@ advance st done = record { steps = closeLoop (st .steps); around = Outside; open
 advance st (rule c a) = record {
   steps = st .steps;
   around = st .around;
-  open-rules = some (openRules st ++ (writtenRule c a ∷ []));
+  open-rules = some (openRules st ++ (ruleOf c a ∷ []));
 }
 
 -- line k of the text: "lowest number first"

@@ -12,22 +12,25 @@ use lib.ListN.{length, getD, set, replicate, length-append, length-set}
 use lib.Seq.{getD-set-same, getD-set-other}
 use Rattle.register.specs.Shape.{Limits}
 use Rattle.register.specs.declared.Sizes.{Sizes}
-use Rattle.laws.proofs.Bools.{and-both}
 use Rattle.chain.proofs.Fields.{field-below}
-use Rattle.chain_text.specs.Text.{names, letterField}
-use Rattle.text_forms.specs.Written as W
-use Rattle.text_forms.specs.Written.{Line, step, end, done, loop, rule}
-use Rattle.text_forms.specs.Parts.{named, fieldNamed, target}
-use Rattle.text_local.specs.ActionRead.{packedRule}
-use Rattle.text_line.specs.LineRead.{lineRead}
+use Rattle.text_syntax.specs.Tree.{ruleOf}
+use Rattle.text_syntax.specs.Written.{Line, end}
+use Rattle.text_syntax.specs.Parts.{named, fieldNamed}
 use Rattle.text_rules.proofs.Passing.{close-length}
 use Rattle.program.specs.declared.rule.Sort.the-variants.{Least, Total}
+use Rattle.program.specs.declared.rule.Rule as C
+use Rattle.program.specs.declared.rule.Rule.the-variants.{Set, Combine, Remote}
+use Rattle.program.specs.declared.rule.Slot.{Slot}
+use Rattle.program.specs.Code.{Codes}
+use Rattle.program.specs.Stored.{targetIn, ruleIn}
 use Rattle.program.specs.Program as P
 use Rattle.program.specs.Program.{Target, Rule, Step, stepPlan, writes, isRemote, hasRemote, mostLines, isLeast, isTotal, someTarget}
 use Rattle.text_rules.specs.Check.{isOpen, openRules}
-use Rattle.text_rules.specs.Check as C
-use Rattle.text_rules.specs.Text.{writtenRule, writtenTarget, closeLoop, withStep, advance, start}
-use Rattle.text_rules.proofs.Checked.{Clean, letter-field}
+use Rattle.text_rules.specs.Check as K
+use Rattle.text_rules.specs.Text.{closeLoop, withStep, advance, start}
+use Rattle.text_rules.specs.LineRead.{lineChecks, allPass, Reads, step-line, end-line, done-line, loop-line, rule-line}
+use Rattle.text_rules.specs.declared.line.LineRead.{LineRead}
+use Rattle.text_rules.proofs.Checked.{Clean, rule-passes}
 use Rattle.program.proofs.Rules.{some-append}
 use Rattle.text_state.specs.State.{noRules, moreRules, withRemote, withRule, startState, standing, advanceOf}
 use Rattle.text_state.specs.declared.tally.Tally.{Tally}
@@ -44,7 +47,7 @@ pub record Counts (x : Tally) (rs : List Rule) : Type 0 where
   pub leasts-are : (f : ℕ) → getD (x .leasts) f false ≡ someTarget (isLeast f) rs
   pub totals-are : (f : ℕ) → getD (x .totals) f false ≡ someTarget (isTotal f) rs
 
-pub record Stands (x : State) (st : C.State) : Type 0 where
+pub record Stands (x : State) (st : K.State) : Type 0 where
   pub steps-are : x .steps ≡ length (st .steps)
   pub lines-are : x .lines ≡ mostLines (st .steps)
   pub around-is : x .around ≡ st .around
@@ -120,22 +123,31 @@ module _ {x : Tally} {rs : List Rule} (h : Counts x rs) (r : Rule) where
         counts-more (x .remote) (x .leasts) (x .totals) (h .remote-is ∙ sym (rw (a, or-false))) (h .leasts-length) (h .totals-length)
         (sort-same isLeast (x .leasts) (h .leasts-are) b) (sort-same isTotal (x .totals) (h .totals-are) d)
 
--- a rule that has passed
-counts-rule : {x : Tally} {rs : List Rule} (t : W.Condition) (a : W.Action) → Counts x rs → letterField (target a) < 16
-    → Counts (withRule x (packedRule a)) (rs ++ (writtenRule t a ∷ []))
-unfolding withRule moreRules withRemote packedRule writtenRule writtenTarget target P.targetField isRemote isLeast isTotal
-counts-rule t (W.set f x) h k = counts-local h _ k refl (λ i. refl) (λ i. refl)
-counts-rule t (W.combine f op x y) h k = counts-local h _ k refl (λ i. refl) (λ i. refl)
-counts-rule {x} {rs} t (W.remote Least f c y) h k =
-    let taken = sort-taken h _ isLeast (x .leasts) (h .leasts-are) (letterField f) (omega (arith, k, h .leasts-length)) (λ i. refl) in
-    counts-more h _ k true (set (x .leasts) (letterField f) true) (x .totals) (sym (or-true (hasRemote rs)))
-    (length-set (x .leasts) (letterField f) true ∙ h .leasts-length) (h .totals-length)
-    taken (sort-same h _ isTotal (x .totals) (h .totals-are) (λ i. refl))
-counts-rule {x} {rs} t (W.remote Total f c y) h k =
-    let taken = sort-taken h _ isTotal (x .totals) (h .totals-are) (letterField f) (omega (arith, k, h .totals-length)) (λ i. refl) in
-    counts-more h _ k true (x .leasts) (set (x .totals) (letterField f) true) (sym (or-true (hasRemote rs)))
-    (h .leasts-length) (length-set (x .totals) (letterField f) true ∙ h .totals-length)
-    (sort-same h _ isLeast (x .leasts) (h .leasts-are) (λ i. refl)) taken
+-- a rule in the array, which writes where a rule of the program does
+counts-rule : {x : Tally} {rs : List Rule} (c : C.Rule) (r : Rule) → Counts x rs → r .target ≡ targetIn c → P.targetField (r .target) < 16
+    → Counts (withRule x c) (rs ++ (r ∷ []))
+unfolding withRule moreRules withRemote targetIn P.targetField isRemote isLeast isTotal
+counts-rule {x} {rs} c r h e k = go c e k
+  where
+    go : (c : C.Rule) → r .target ≡ targetIn c → P.targetField (r .target) < 16 → Counts (withRule x c) (rs ++ (r ∷ []))
+    go (Set f y) e k = rw (ap P.targetField e) at (counts-local h r k (ap isRemote e) (λ i. ap (isLeast i) e) (λ i. ap (isTotal i) e))
+    go (Combine f op y z) e k = rw (ap P.targetField e) at (counts-local h r k (ap isRemote e) (λ i. ap (isLeast i) e) (λ i. ap (isTotal i) e))
+    go (Remote Least f c y) e k =
+        let n : f < 16 = rw (ap P.targetField e) at k in
+        let taken = sort-taken h r isLeast (x .leasts) (h .leasts-are) f (omega (arith, n, h .leasts-length)) (λ i. ap (isLeast i) e) in
+        rw (ap P.targetField e) at (counts-more h r k true (set (x .leasts) f true) (x .totals) (sym (rw (ap isRemote e) (or-true (hasRemote rs))))
+        (length-set (x .leasts) f true ∙ h .leasts-length) (h .totals-length)
+        taken (sort-same h r isTotal (x .totals) (h .totals-are) (λ i. ap (isTotal i) e)))
+    go (Remote Total f c y) e k =
+        let n : f < 16 = rw (ap P.targetField e) at k in
+        let taken = sort-taken h r isTotal (x .totals) (h .totals-are) f (omega (arith, n, h .totals-length)) (λ i. ap (isTotal i) e) in
+        rw (ap P.targetField e) at (counts-more h r k true (x .leasts) (set (x .totals) f true) (sym (rw (ap isRemote e) (or-true (hasRemote rs))))
+        (h .leasts-length) (length-set (x .totals) f true ∙ h .totals-length)
+        (sort-same h r isLeast (x .leasts) (h .leasts-are) (λ i. ap (isLeast i) e)) taken)
+
+rule-target : (k : Codes) (x : Slot) (r : Rule) → ruleIn k x ≡ r → r .target ≡ targetIn (x .rule)
+unfolding ruleIn
+rule-target k x r e = sym (ap (λ (r : Rule). r .target) e)
 
 -- the most lines with one more step, and with the last step the last of its loop
 most-append : (xs : List Step) (x : Step) → mostLines (xs ++ (x ∷ [])) ≡ max (mostLines xs) (length (stepPlan (x .rules)))
@@ -149,32 +161,39 @@ most-close [] = refl
 most-close (x ∷ []) = refl
 most-close (x ∷ y ∷ xs) = ap (max (length (stepPlan (x .rules)))) (most-close (y ∷ xs))
 
--- behind a line that has passed; n is the number of lines of the open step's plan
-module _ (s : Sizes) (lim : Limits s) {x : State} {st : C.State} (h : Stands x st) where
-  pub advance-stands : (n : ℕ) (l : Line) → Clean s st l → (l ≡ end → n ≡ length (stepPlan (openRules st)))
-      → Stands (advanceOf x n (lineRead s (some l))) (advance st l)
-  unfolding advanceOf standing lineRead advance isOpen openRules named fieldNamed
-  advance-stands n step k e = record { steps-are = h .steps-are; lines-are = h .lines-are; around-is = h .around-is; in-step = refl; tally-is = counts-none }
-  advance-stands n end k e = record {
+-- a line that is clean passes what is asked of it
+pub clean-passes : {s : Sizes} {st : K.State} {l : Line} → Clean s st l → allPass (lineChecks s l) ≡ true
+unfolding allPass lineChecks
+clean-passes k = rw (k .is-named, k .is-kinded, k .is-short, k .in-range, k .is-shallow, k .few-operators)
+
+-- behind a line that has passed; n is the number of lines of the open step's plan, y is what was read of the line
+module _ (s : Sizes) (lim : Limits s) {x : State} {st : K.State} (h : Stands x st) (n : ℕ) where
+  pub advance-stands : {codes : Codes} {l : Line} {y : LineRead} → Reads s codes (some l) y → Clean s st l → (l ≡ end → n ≡ length (stepPlan (openRules st)))
+      → Stands (advanceOf x n y) (advance st l)
+  unfolding advanceOf standing advance isOpen openRules named fieldNamed
+  advance-stands step-line k e = record { steps-are = h .steps-are; lines-are = h .lines-are; around-is = h .around-is; in-step = refl; tally-is = counts-none }
+  advance-stands end-line k e = record {
     steps-are = rw (h .steps-are, length-append);
     lines-are = rw (h .lines-are, e refl, most-append);
     around-is = ap withStep (h .around-is);
     in-step = refl;
     tally-is = counts-none;
   }
-  advance-stands n done k e = record {
+  advance-stands done-line k e = record {
     steps-are = h .steps-are ∙ sym (close-length (st .steps));
     lines-are = h .lines-are ∙ sym (most-close (st .steps));
     around-is = refl;
     in-step = refl;
     tally-is = counts-none;
   }
-  advance-stands n (loop f) k e = record { steps-are = h .steps-are; lines-are = h .lines-are; around-is = refl; in-step = refl; tally-is = counts-none }
-  advance-stands n (rule c a) k e = record {
-    steps-are = h .steps-are;
-    lines-are = h .lines-are;
-    around-is = h .around-is;
-    in-step = refl;
-    tally-is = counts-rule c a (h .tally-is)
-        (field-below s lim (letterField (target a)) (letter-field s lim (target a) (and-both (names s (target a)) _ (k .is-named) .0)));
-  }
+  advance-stands (loop-line f) k e = record { steps-are = h .steps-are; lines-are = h .lines-are; around-is = refl; in-step = refl; tally-is = counts-none }
+  advance-stands {codes} (rule-line c a y w) k e =
+      let r : Rule = ruleOf c a in
+      let passed = rule-passes s lim st c a k in
+      record {
+        steps-are = h .steps-are;
+        lines-are = h .lines-are;
+        around-is = h .around-is;
+        in-step = refl;
+        tally-is = counts-rule (y .rule) r (h .tally-is) (rule-target codes y r (w (clean-passes k) .rule-is)) (field-below s lim (P.targetField (r .target)) (passed .field));
+      }

@@ -8,8 +8,8 @@ use Rattle.program.specs.declared.rule.Rule.{Rule}
 use Rattle.program.specs.declared.rule.Rule.the-variants.{Set, Combine, Remote}
 use Rattle.program.specs.declared.rule.Sort.{Sort}
 use Rattle.program.specs.declared.rule.Sort.the-variants.{Least, Total}
-use Rattle.text_line.specs.declared.line.LineRead.{LineRead}
-use Rattle.text_line.specs.declared.line.LineRead.the-variants as L
+use Rattle.text_rules.specs.declared.line.LineRead.{LineRead}
+use Rattle.text_rules.specs.declared.line.LineRead.the-variants as L
 use Rattle.text_rules.specs.Text.{settingIn, withStep, lastOf}
 use Rattle.text_rules.specs.declared.around.Around.{Around}
 use Rattle.text_rules.specs.declared.around.Around.the-variants.{Outside, Unused}

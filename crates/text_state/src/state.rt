@@ -6,9 +6,9 @@ use crate::tally;
 use crate::tally::Tally;
 use plan_lines::Plan;
 use program::frame::Frame;
-use text_line::line::LineRead;
 use text_rules::around;
 use text_rules::around::Around;
+use text_rules::line::LineRead;
 
 // The number of closed steps, the most plan lines of any of them, the loop around, whether a step is open and what is kept
 // of its rules.

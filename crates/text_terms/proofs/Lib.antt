@@ -1,2 +1,4 @@
--- Laws of the definitions of `specs/`, for the proofs here and in the crates above.
-pub mod Answers
+-- Laws of the readers of chains and terms, for the crates above.
+pub mod Places
+pub mod ChainForms
+pub mod Terms

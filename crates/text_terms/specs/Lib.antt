@@ -1,2 +1,4 @@
--- What the reader of terms answers.
-pub mod Read
+-- What the readers of chains and terms answer.
+pub mod Place
+pub mod Chain
+pub mod Term

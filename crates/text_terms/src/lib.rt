@@ -1,2 +1,4 @@
-// The terms of a line, read from a place of it on.
+// The chains and numbers of a line, read token by token.
+pub mod chains;
+pub mod place;
 pub mod term;

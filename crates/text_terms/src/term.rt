@@ -1,34 +1,33 @@
-// Terms of a rules text: chains and numbers.
+// The terms of a line: chains and numbers.
 ghost use mathlib.Core.Path.{_≡_};
+ghost use mathlib.Core.Bool.{true};
 ghost use Prim.Native.Nat.{_≤_};
-ghost use lib.ListN.{length, drop};
+ghost use lib.ListN.{length};
 ghost use Rattle.register.specs.Shape.{Limits};
 ghost use Rattle.integers.specs.Range.{sumOf};
-ghost use Rattle.text_forms.specs.Term.{termForm};
-ghost use Rattle.text_terms.specs.Read.{chainParts, plainParts, numberParts, numberTerm, termRead};
+ghost use Rattle.text_terms.specs.Chain.{NoChain};
+ghost use Rattle.text_terms.specs.Term.{chainParts, chainTerm, plainParts, numberParts, ChainPartsAt, TermAt};
+use crate::chains;
+use crate::chains::ChainRead;
+use crate::chains::Link;
+use chain_text::letters;
 use chain_text::letters::Letters;
-use chain_text::text;
-use chain_text::text::Scanned;
 use integers::Sum;
-use program::term::Term;
 use register::Sizes;
-use text_tokens::numeral;
-use text_tokens::numeral::NumberRead;
+use text_lexer::lexer;
+use text_lexer::token::Token;
 
-// What refusals 9 to 12 ask: that capitals name fields, that kinds fit, that chains have at most 16 hops, that numbers are
-// in the range of sums.
-pub struct Checks {
+// A term as a code of its kind (0 a chain, packed; 1 a number), and what 9 to 12 ask of it: that capitals name fields, that
+// the chain goes over references, whether it is one, that it has at most 16 hops, that the number is in range.
+pub struct TermParts {
+    pub kind: u8,
+    pub number: i32,
+    pub packed: u64,
     pub named: bool,
     pub kinded: bool,
+    pub reference: bool,
     pub short: bool,
     pub ranged: bool,
-}
-
-// A term, whether it is a reference, and what it passes.
-pub struct TermParts {
-    pub term: Term,
-    pub reference: bool,
-    pub checks: Checks,
 }
 
 // A term and the place behind it; or no term stands there.
@@ -37,37 +36,44 @@ pub enum TermRead {
     NoForm,
 }
 
-// A chain, by its letters and the first byte of its text.
-pub fn chain_parts(letters: Letters, first: u8) -> TermParts
-    ensures { λ r. ⌜ r ≡ chainParts letters first ⌝ }
+fn chain_parts(letters: Letters, reference: bool) -> TermParts
+    ensures { λ r. ⌜ r ≡ chainParts letters reference ⌝ }
 {
-    let checks = Checks {
+    TermParts {
+        kind: 0,
+        number: 0,
+        packed: letters.packed,
         named: letters.named,
         kinded: letters.kinded,
+        reference,
         short: !letters.long,
         ranged: true,
-    };
-    TermParts {
-        term: Term::Chain(letters.packed),
-        reference: (first < b'M') | (b'Z' < first),
-        checks,
     }
+}
+
+// A chain's answer as a term's, by the kind of its outermost letter.
+fn chain_term(read: ChainRead, reference: bool) -> TermRead
+    ensures { λ r. ⌜ r ≡ chainTerm read reference ⌝ }
+{
+    let ChainRead::Chain(letters, end) = read else {
+        return TermRead::NoForm;
+    };
+    TermRead::Parts(chain_parts(letters, reference), end)
 }
 
 // A number, in range or not.
 fn plain_parts(number: i32, ranged: bool) -> TermParts
     ensures { λ r. ⌜ r ≡ plainParts number ranged ⌝ }
 {
-    let checks = Checks {
+    TermParts {
+        kind: 1,
+        number,
+        packed: 0,
         named: true,
         kinded: true,
+        reference: false,
         short: true,
         ranged,
-    };
-    TermParts {
-        term: Term::Number(number),
-        reference: false,
-        checks,
     }
 }
 
@@ -80,23 +86,48 @@ fn number_parts(value: i64) -> TermParts
     }
 }
 
-// A number's answer, as a term's.
-fn number_term(read: NumberRead) -> TermRead
-    ensures { λ r. ⌜ r ≡ numberTerm read ⌝ }
+// The number at `at`, where no chain stands.
+fn number_term(line: &[u8], at: usize, sizes: Sizes) -> TermRead
+    requires { ⌜ (at ≤ length (now line)) × NoChain true (now line) at ⌝ }
+    ensures { λ r. ⌜ TermAt sizes (now (line .entry)) at r ⌝ }
 {
-    let NumberRead::Number(value, end) = read else {
+    let read = lexer::next_token(line, at, true);
+    let token = read.token;
+    let Token::Number(value) = token else {
         return TermRead::NoForm;
     };
-    TermRead::Parts(number_parts(value), end)
+    TermRead::Parts(number_parts(value), read.end)
+}
+
+// The chain at `at`, where an operand is due or not, as a term.
+pub fn read_chain(line: &[u8], at: usize, due: bool, sizes: Sizes) -> TermRead
+    requires { ⌜ Limits sizes × (at ≤ length (now line)) ⌝ }
+    ensures { λ r. ⌜ ChainPartsAt sizes due (now (line .entry)) at r ⌝ }
+{
+    let start = Letters {
+        packed: 0,
+        named: true,
+        kinded: true,
+        long: false,
+    };
+    match chains::first_link(line, at, due) {
+        Link::Own(end) => TermRead::Parts(chain_parts(start, true), end),
+        Link::Letter(letter, end) => {
+            let next = letters::step(sizes, 16, start, letter);
+            let read = chains::closed(line, chains::read(line, end, sizes, next, 15));
+            chain_term(read, letter < b'M')
+        }
+        Link::Nothing => TermRead::NoForm,
+    }
 }
 
 // The term at `at`.
 pub fn read_term(line: &[u8], at: usize, sizes: Sizes) -> TermRead
     requires { ⌜ Limits sizes × (at ≤ length (now line)) ⌝ }
-    ensures { λ r. ⌜ r ≡ termRead sizes at (termForm (drop at (now (line .entry)))) ⌝ }
+    ensures { λ r. ⌜ TermAt sizes (now (line .entry)) at r ⌝ }
 {
-    let Scanned::Chain(letters, end) = text::scan(line, at, sizes) else {
-        return number_term(numeral::read_number(line, at));
+    let TermRead::Parts(parts, end) = read_chain(line, at, true, sizes) else {
+        return number_term(line, at, sizes);
     };
-    TermRead::Parts(chain_parts(letters, line[at]), end)
+    TermRead::Parts(parts, end)
 }

@@ -5,6 +5,10 @@ use plot::{Kind, Sizes};
 
 /// The most hops of a chain.
 const MAX_HOPS: usize = 16;
+/// How deep groups may stand in each other.
+const MAX_GROUPS: usize = 8;
+/// The most operators of an expression.
+const MAX_OPERATORS: usize = 64;
 
 /// The place in a line, or in a chain that stands alone, of a refusal of this
 /// kind. The library has looked for the lower numbers first.
@@ -17,7 +21,7 @@ pub fn place(sizes: Sizes, kind: Kind, line: &[u8], alone: bool) -> usize {
         // A line that has a form is refused for its missing line break.
         Ok(_) if kind == Kind::Form => return line.len(),
         Ok(scan) => scan.parts,
-        Err(furthest) => return furthest,
+        Err(misfit) => return misfit.at,
     };
     let first = |wanted: &dyn Fn(&Part) -> bool| {
         let part = parts.iter().find(|part| wanted(part));
@@ -28,6 +32,8 @@ pub fn place(sizes: Sizes, kind: Kind, line: &[u8], alone: bool) -> usize {
         Kind::FieldKind => mixed(line, &parts),
         Kind::Hops => first(&|part| part.is_chain() && hops(line, part) > MAX_HOPS),
         Kind::Number => first(&|part| is_out_of_range(line, part)),
+        Kind::Groups => first(&|part| part.sort == PartSort::Group && part.count > MAX_GROUPS),
+        Kind::Operators => first(&|part| is_operator(part) && part.count > MAX_OPERATORS),
         Kind::RemoteSorts => first(&|part| part.sort == PartSort::Written),
         _ => None,
     };
@@ -41,6 +47,10 @@ fn unknown_field(sizes: Sizes, line: &[u8]) -> Option<usize> {
         byte.is_ascii_uppercase() && !sizes.fields().any(|field| field == char::from(byte))
     };
     line.iter().position(unknown)
+}
+
+fn is_operator(part: &Part) -> bool {
+    matches!(part.sort, PartSort::Sum | PartSort::Smaller)
 }
 
 fn hops(line: &[u8], part: &Part) -> usize {
@@ -99,7 +109,11 @@ fn kind(line: &[u8], part: &Part) -> Option<bool> {
     match part.sort {
         PartSort::Number => Some(true),
         PartSort::Written | PartSort::Chain => Some(is_measure(line[part.start])),
-        PartSort::Target | PartSort::Sum | PartSort::TestEnd => None,
+        PartSort::Target
+        | PartSort::Sum
+        | PartSort::Smaller
+        | PartSort::Group
+        | PartSort::TestEnd => None,
     }
 }
 

@@ -4,7 +4,7 @@ use crate::failure::Failure;
 use crate::pointer::Place;
 use crate::scan::Scan;
 use crate::style::{Look, Style};
-use crate::{caret, faulty, json};
+use crate::{caret, faulty, json, misfit};
 use plot::{Kind, Refusal, Register, Sizes};
 use std::io;
 
@@ -50,26 +50,40 @@ fn rules_advice(sizes: Sizes, text: &[u8], kind: Kind, place: Option<Place<'_>>)
         (Kind::Place, None) => {
             "The text ends here, and a step or a loop is not closed by end or done."
         }
+        (Kind::Form, Some(Place { line, .. })) => form_advice(line),
         (Kind::FieldKind, Some(Place { line, at, .. })) => kind_advice(line, at),
         (kind, _) => return advice(kind, sizes),
     };
     advice.to_owned()
 }
 
+/// What to do about a line that has no form.
+fn form_advice(line: &[u8]) -> &'static str {
+    let misfit = Scan::line(line).err();
+    let advice = misfit.and_then(|misfit| misfit.advice(line));
+    advice.unwrap_or(Kind::Form.advice())
+}
+
 /// Whether this place is in or behind what was meant as a number and is none.
 fn is_no_number(line: &[u8], at: usize) -> bool {
-    let meant = |byte: &u8| matches!(byte, b'0'..=b'9' | b'-' | b'.' | b',');
+    let meant = |byte: &u8| matches!(byte, b'0'..=b'9' | b'.' | b',');
     let before = line[..at].iter().rev().take_while(|byte| meant(byte));
     let behind = line[at..].iter().take_while(|byte| meant(byte));
-    let token = &line[at - before.count()..at + behind.count()];
+    let start = at - before.count();
+    let minus = usize::from(line[..start].ends_with(b"-"));
+    let token = &line[start - minus..at + behind.count()];
     token.iter().any(u8::is_ascii_digit) && !Scan::is_number(token)
 }
 
 /// What to do about references and measures that are mixed at this place.
 fn kind_advice(line: &[u8], at: usize) -> &'static str {
-    match (line[..at].last(), &line[at..]) {
+    let before = line[..at].trim_ascii_end().last();
+    match (before, &line[at..]) {
         (Some(b'['), _) => "What stands in square brackets leads to a record: A to H, or u.",
-        (_, [b'+' | b'-', b' ' | b'=', ..]) => "Sums take measures only: M to T, and numbers.",
+        // Behind an operand a minus is the operator.
+        (Some(b']' | b'u' | b')' | b'0'..=b'9'), [b'+' | b'-', ..]) => {
+            "Sums take measures only: M to T, and numbers."
+        }
         _ => "Both sides are references, or both are measures; a number is a measure.",
     }
 }
@@ -83,7 +97,7 @@ pub fn reading(register: &Register, chain: &str, record: usize, refusal: Refusal
     let line = chain.as_bytes();
     let at = caret::place(sizes, refusal.kind, line, true);
     let advice = match refusal.kind {
-        Kind::Form => "A chain is u, or a field letter and a chain in square brackets: M[A[u]].",
+        Kind::Form => misfit::CHAIN,
         Kind::FieldKind => kind_advice(line, at),
         kind => &advice(kind, sizes),
     };

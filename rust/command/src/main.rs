@@ -14,6 +14,7 @@ mod gaps;
 mod gaps_svg;
 mod inspect;
 mod json;
+mod misfit;
 mod pack;
 mod plan;
 mod plan_svg;
@@ -36,7 +37,7 @@ use std::process::ExitCode;
 use std::thread::{self, JoinHandle};
 
 /// The stack of the thread that works, whatever the shell allows the first one: a
-/// run needs about 700 KB.
+/// call of the library needs up to about 900 KB.
 const STACK: usize = 8 << 20;
 
 fn main() -> ExitCode {

@@ -1,13 +1,25 @@
 //! Registers that load, each with a text that passes for it.
 
 use crate::marks;
+use crate::offences::{Fate, Offence, offences};
 use crate::random::Random;
 use crate::registers;
 use crate::texts::{self, Shape};
+use crate::tokens;
 use reference::program::Program;
-use reference::register::{Sizes, encode};
+use reference::register::{Cell, Register, Sizes, encode};
 use reference::run::scratch_length;
-use reference::text::read_text;
+use reference::text::{MAX_BYTES, read_text};
+
+/// Measures whose sums are often out of range.
+const FAR: [i32; 6] = [
+    i32::MAX,
+    i32::MAX - 1,
+    1 << 30,
+    -1 << 30,
+    i32::MIN + 1,
+    i32::MIN,
+];
 
 /// A register that loads and a text that passes for it.
 #[derive(Clone, Debug)]
@@ -68,6 +80,68 @@ impl Case {
                 let density = random.pick(densities);
                 case.register = encode(sizes, &registers::cells(random, sizes, density));
                 return case;
+            }
+        }
+    }
+
+    /// A small case with expressions, in any spacing.
+    pub fn with_expressions(random: &mut Random) -> Case {
+        let sizes = Sizes {
+            records: random.below(8),
+            references: random.between(1, 3),
+            measures: random.between(1, 3),
+        };
+        Case::respaced(random, sizes, texts::right_expression_shape)
+    }
+
+    /// A case of one step, whose sums are mostly out of range, and seldom the whole
+    /// expression that they stand in.
+    pub fn near_the_range(random: &mut Random) -> Case {
+        let wanted = random.below(100);
+        loop {
+            let case = Case::of_far_cells(random);
+            let register = Register::load(&case.register).expect("it loads");
+            let step = case.program.step(1).expect("it has a step");
+            let sums = offences(step, &register);
+            let plain = |sum: &Offence| sum.fate == Fate::Outside;
+            match wanted {
+                0..70 if sums.iter().all(plain) => (),
+                70..90 if sums.is_empty() => (),
+                _ => return case,
+            }
+        }
+    }
+
+    fn of_far_cells(random: &mut Random) -> Case {
+        let sizes = Sizes {
+            records: random.between(1, 2),
+            references: 1,
+            measures: random.between(2, 4),
+        };
+        let mut case = Case::respaced(random, sizes, texts::range_shape);
+        let density = random.pick(&[50, 70, 90]);
+        let mut cells = registers::cells(random, sizes, density);
+        for record in cells.chunks_mut(sizes.fields()) {
+            for cell in &mut record[sizes.references..] {
+                if let Cell::Measured(value) | Cell::WorkedOut(value) = cell
+                    && random.percent(70)
+                {
+                    *value = random.pick(&FAR);
+                }
+            }
+        }
+        case.register = encode(sizes, &cells);
+        case
+    }
+
+    fn respaced(random: &mut Random, sizes: Sizes, shape: fn(&mut Random) -> Shape) -> Case {
+        loop {
+            let shape = shape(random);
+            if let Some(mut case) = Case::of_shape(random, sizes, shape) {
+                case.text = tokens::respaced(random, &case.text);
+                if case.text.len() <= MAX_BYTES {
+                    return case;
+                }
             }
         }
     }

@@ -15,7 +15,7 @@ pub const MUTATIONS: [(&str, Mutation); 5] = [
 ];
 
 /// The bytes of the format; letters and digits that decide something stand often.
-pub const ALPHABET: &[u8] = b"steploopdoneifremoteu ABCHIMNOTUZAM[]:=+-<?!0123456789..\n\n";
+pub const ALPHABET: &[u8] = b"steploopdoneifremoteu ABCHIMNOTUZAM[]():=+-<?!0123456789..\n\n";
 
 /// A byte of the format more often than any other.
 fn byte(random: &mut Random) -> u8 {

@@ -67,14 +67,14 @@ impl<'a> RuleWriter<'a> {
     fn test(&mut self) -> String {
         let kind = self.random.pick(&[Kind::Reference, Kind::Measure]);
         let sign = self.random.pick(&["<", "==", "!="]);
-        format!("if {} {sign} {}: ", self.term(kind), self.term(kind))
+        format!("if {} {sign} {}: ", self.side(kind), self.side(kind))
     }
 
     fn local(&mut self, field: usize) -> String {
         let letter = char::from(self.sizes.letter(field));
         let kind = self.sizes.kind(field);
-        let x = self.term(kind);
-        if kind == Kind::Reference || self.random.percent(40) {
+        let x = self.side(kind);
+        if self.shape.operators > 0 || kind == Kind::Reference || self.random.percent(40) {
             return format!("{letter}[u] := {x}");
         }
         let sign = self.random.pick(&['+', '-']);
@@ -89,11 +89,74 @@ impl<'a> RuleWriter<'a> {
             _ => "<?=",
         };
         let target = self.term(Kind::Reference);
-        format!("remote {letter}[{target}] {sign} {}", self.term(kind))
+        format!("remote {letter}[{target}] {sign} {}", self.side(kind))
+    }
+
+    /// A side of a test or what is written: a term, or where the shape has
+    /// operators an expression.
+    fn side(&mut self, kind: Kind) -> String {
+        let (most, deepest) = (self.shape.operators, self.shape.groups);
+        if most == 0 {
+            return self.term(kind);
+        }
+        let operators = match self.random.below(4) {
+            0 => most,
+            1 => self.random.between(0, most.min(3)),
+            _ => self.random.between(0, most),
+        };
+        let groups = match self.random.percent(30) {
+            true => deepest,
+            false => self.random.between(0, deepest),
+        };
+        self.expression(kind, operators, groups)
+    }
+
+    /// An expression of exactly so many operators, whose groups stand in each other
+    /// exactly so deep; many of its brackets are spare.
+    pub(crate) fn expression(&mut self, kind: Kind, operators: usize, groups: usize) -> String {
+        let outside = match groups {
+            0 => operators,
+            _ => self.random.between(0, operators),
+        };
+        let mut inside = operators - outside;
+        let mut operands: Vec<String> = (0..outside)
+            .map(|_| match groups > 0 && self.random.percent(30) {
+                true => {
+                    let within = self.random.between(0, inside);
+                    inside -= within;
+                    let deep = self.random.below(groups);
+                    self.group(kind, within, deep)
+                }
+                false => self.term(kind),
+            })
+            .collect();
+        let deepest = match groups {
+            0 => self.term(kind),
+            _ => self.group(kind, inside, groups - 1),
+        };
+        let place = self.random.between(0, operands.len());
+        operands.insert(place, deepest);
+        let mut operands = operands.into_iter();
+        let first = operands.next().unwrap_or_default();
+        operands.fold(first, |text, operand| {
+            format!("{text} {} {operand}", self.operator(kind))
+        })
+    }
+
+    fn group(&mut self, kind: Kind, operators: usize, groups: usize) -> String {
+        format!("({})", self.expression(kind, operators, groups))
+    }
+
+    /// An operator that takes a kind.
+    pub(crate) fn operator(&mut self, kind: Kind) -> &'static str {
+        match kind {
+            Kind::Reference => "<?",
+            Kind::Measure => self.random.pick(&["+", "-", "<?"]),
+        }
     }
 
     /// A chain of a kind, or a number.
-    fn term(&mut self, kind: Kind) -> String {
+    pub(crate) fn term(&mut self, kind: Kind) -> String {
         let hops = self.random.between(0, self.shape.hops);
         let numeric = self.sizes.measures == 0 || self.random.percent(self.shape.numbers);
         let letters = match kind {
@@ -107,7 +170,7 @@ impl<'a> RuleWriter<'a> {
 
     /// A number, in metres or in centimetres.
     fn number(&mut self) -> String {
-        let number = number(self.random);
+        let number = number(self.random, self.shape.large);
         match self.shape.metres > 0 && self.random.percent(self.shape.metres) {
             true => metres::text(number),
             false => number.to_string(),
@@ -146,9 +209,9 @@ impl<'a> RuleWriter<'a> {
     }
 }
 
-/// A number of a rules text, seldom near the ends of the range.
-fn number(random: &mut Random) -> i32 {
-    match random.percent(85) {
+/// A number of a rules text, large so many times in a hundred.
+fn number(random: &mut Random, large: usize) -> i32 {
+    match random.percent(100 - large) {
         true => random.below(21) as i32 - 10,
         false => registers::measure(random),
     }

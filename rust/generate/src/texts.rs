@@ -28,6 +28,12 @@ pub struct Shape {
     pub repeats: usize,
     /// Chains in a hundred that take letters over from an earlier chain of their step.
     pub shared: usize,
+    /// Numbers in a hundred that may be large.
+    pub large: usize,
+    /// Operators of an expression; with 0 only the forms of document 01 are written.
+    pub operators: usize,
+    /// How deep groups stand in each other.
+    pub groups: usize,
 }
 
 /// Any shape, small more often than large.
@@ -43,6 +49,7 @@ pub fn shape(random: &mut Random) -> Shape {
         metres: 40,
         repeats: 20,
         shared: random.pick(&[0, 50]),
+        ..DOCUMENT_01
     }
 }
 
@@ -60,6 +67,7 @@ pub fn plan_shape(random: &mut Random) -> Shape {
         metres: 40,
         repeats: 20,
         shared: random.pick(&[0, 50, 90, 98]),
+        ..DOCUMENT_01
     }
 }
 
@@ -75,7 +83,7 @@ pub fn gap_shape(random: &mut Random) -> Shape {
         numbers: 40,
         metres: 40,
         repeats: 90,
-        shared: 0,
+        ..DOCUMENT_01
     }
 }
 
@@ -91,9 +99,74 @@ pub fn overflow_shape(random: &mut Random) -> Shape {
         numbers: 5,
         metres: 40,
         repeats: 20,
-        shared: 0,
+        ..DOCUMENT_01
     }
 }
+
+/// A shape with expressions on both sides of 8 groups and of 64 operators.
+pub fn expression_shape(random: &mut Random) -> Shape {
+    Shape {
+        parts: random.pick(&[1, 1, 1, 2, 3]),
+        rules: random.pick(&[1, 2, 2, 3, 5]),
+        fewest_rules: 1,
+        hops: random.pick(&[0, 1, 1, 2, 2, 3]),
+        tests: 50,
+        remotes: 35,
+        numbers: random.pick(&[20, 50, 80]),
+        metres: 40,
+        shared: random.pick(&[0, 50]),
+        operators: random.pick(&[1, 1, 2, 3, 4, 6, 10, 20, 40, 64, 64, 65, 66, 80]),
+        groups: random.pick(&[0, 1, 1, 2, 2, 3, 4, 6, 8, 8, 9, 10, 12]),
+        ..DOCUMENT_01
+    }
+}
+
+/// A shape with expressions that are right, long and deep ones among them.
+pub fn right_expression_shape(random: &mut Random) -> Shape {
+    Shape {
+        parts: random.pick(&[1, 1, 2, 3]),
+        rules: random.pick(&[1, 2, 4, 8]),
+        operators: random.pick(&[1, 2, 3, 4, 8, 16, 64]),
+        groups: random.pick(&[0, 1, 2, 3, 8]),
+        ..expression_shape(random)
+    }
+}
+
+/// A shape with one step whose sums are often out of range.
+pub fn range_shape(random: &mut Random) -> Shape {
+    Shape {
+        parts: 1,
+        rules: random.pick(&[1, 1, 1, 2]),
+        fewest_rules: 1,
+        hops: 1,
+        tests: 50,
+        remotes: 50,
+        numbers: 50,
+        metres: 10,
+        large: 85,
+        operators: random.pick(&[1, 2, 2, 3, 3, 4]),
+        groups: random.pick(&[0, 1, 1, 2]),
+        ..DOCUMENT_01
+    }
+}
+
+/// No more than the forms of document 01, and in them neither numbers in metres
+/// nor what is alike.
+pub const DOCUMENT_01: Shape = Shape {
+    parts: 0,
+    rules: 0,
+    fewest_rules: 0,
+    hops: 0,
+    tests: 0,
+    remotes: 0,
+    numbers: 0,
+    metres: 0,
+    repeats: 0,
+    shared: 0,
+    large: 15,
+    operators: 0,
+    groups: 0,
+};
 
 /// A shape of either sort.
 pub fn any_shape(random: &mut Random) -> Shape {

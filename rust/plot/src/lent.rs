@@ -10,7 +10,7 @@ pub use runs::{RunBuffers, RunBy, run_direct, run_messages};
 /// The numbers that a call answers; unused places are 0.
 pub type Answer = [u64; 8];
 
-/// The place of the line, for refusals 6 to 15.
+/// The place of the line, for refusals 6 to 15, 24 and 25.
 pub const LINE: usize = 0;
 /// The place of a run's finished steps.
 pub const FINISHED: usize = 1;

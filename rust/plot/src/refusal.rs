@@ -57,6 +57,10 @@ pub enum Kind {
     Budget,
     /// 21: a sum or total is out of range.
     Range,
+    /// 24: groups stand more than 8 deep.
+    Groups,
+    /// 25: an expression has more than 64 operators.
+    Operators,
     /// A number that this crate does not know.
     Other(u32),
 }
@@ -64,9 +68,9 @@ pub enum Kind {
 /// A kind, what it means, and what to do.
 type Row = (Kind, &'static str, &'static str);
 
-/// The kinds in the order of their numbers, from 1.
+/// The kinds in the order of their numbers, which [`NUMBERS`] has.
 #[rustfmt::skip]
-const KINDS: [Row; 21] = [
+const KINDS: [Row; 23] = [
     (Kind::FileLength, "the register file has the wrong length",
      "A register file has 12 bytes of sizes and 5 for each cell. Was it cut short, or is it another file?"),
     (Kind::Size, "a size of the register is over its limit",
@@ -80,7 +84,7 @@ const KINDS: [Row; 21] = [
     (Kind::TextLength, "the rules text is too long",
      "A rules text has at most 8192 bytes."),
     (Kind::Form, "this does not have the right form",
-     "Spaces stand exactly as the forms show them, and each line ends in a line break."),
+     "Lines are step, end, loop F, done, and rules: F[u] := X, remote F[C] <?= X, remote F[C] += X, or if X < Y: before one."),
     (Kind::Place, "a line is out of place, or the text ends too early",
      "Rules stand between step and end, steps may stand between loop and done, and a loop holds at least one step."),
     (Kind::Field, "a letter names no field of this register",
@@ -110,14 +114,22 @@ const KINDS: [Row; 21] = [
      "Give a larger budget, at most 65535 steps; a loop whose field never settles does not end."),
     (Kind::Range, "a sum or total is out of range",
      "Sums and totals go from -2147483648 to 2147483647."),
+    (Kind::Groups, "groups stand more than 8 deep",
+     "Leave out brackets that change nothing, or store a part in a field in one step and go on from there in the next."),
+    (Kind::Operators, "an expression has more than 64 operators",
+     "Store a part in a field in one step, and go on from there in the next."),
+];
+
+/// The number of each kind: 22 and 23 are not given.
+const NUMBERS: [u32; 23] = [
+    1, 2, 3, 4, 5, 6, 7, 8, 9, 10, 11, 12, 13, 14, 15, 16, 17, 18, 19, 20, 21, 24, 25,
 ];
 
 impl Kind {
     /// The kind with this number.
     pub fn of(number: u32) -> Kind {
-        let place = (number as usize).checked_sub(1);
-        match place.and_then(|place| KINDS.get(place)) {
-            Some((kind, ..)) => *kind,
+        match NUMBERS.iter().position(|&given| given == number) {
+            Some(place) => KINDS[place].0,
             None => Kind::Other(number),
         }
     }
@@ -133,7 +145,7 @@ impl Kind {
             return number;
         }
         let place = KINDS.iter().position(|(kind, ..)| *kind == self);
-        place.expect("every kind has a row") as u32 + 1
+        NUMBERS[place.expect("every kind has a row")]
     }
 
     /// What it means, in a few words.
@@ -166,8 +178,8 @@ impl Kind {
 pub struct Refusal {
     /// What it is about.
     pub kind: Kind,
-    /// The line, counted from 1, for the numbers 7 to 15; else 0. Where a text
-    /// ends too early it is one past the last line.
+    /// The line, counted from 1, for the numbers 7 to 15, 24 and 25; else 0.
+    /// Where a text ends too early it is one past the last line.
     pub line: u64,
 }
 

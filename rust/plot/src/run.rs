@@ -61,7 +61,7 @@ pub struct Run {
 
 impl Register {
     /// Checks a text and runs it over this register, at most `budget` steps.
-    /// Refusal 6 to 15; how the run ended is told in the [`Run`].
+    /// Refusal 6 to 15, 24 or 25; how the run ended is told in the [`Run`].
     ///
     /// This looks at the text once: the working arrays are long enough for every
     /// text. [`Text::run`](crate::Text::run) lends shorter ones.

@@ -34,7 +34,7 @@ pub struct Text<'a> {
 pub type Messages = Vec<Option<i32>>;
 
 impl<'a> Text<'a> {
-    /// Checks a text for a register. Refusal 6 to 15.
+    /// Checks a text for a register. Refusal 6 to 15, 24 or 25.
     pub fn check(register: &'a Register, text: impl Into<Vec<u8>>) -> Result<Text<'a>, Refusal> {
         let text = text.into();
         let mut answer = Answer::default();

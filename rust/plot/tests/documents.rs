@@ -88,11 +88,13 @@ fn refusals_of_the_manual() {
 
 #[test]
 fn kinds_and_numbers() {
-    for (number, kind) in (1..).zip(Kind::all()) {
+    let numbers = (1..=21).chain([24, 25]);
+    assert_eq!(numbers.clone().count(), Kind::all().count());
+    for (number, kind) in numbers.zip(Kind::all()) {
         assert_eq!((Kind::of(number), kind.number()), (kind, number));
         assert!(!kind.advice().is_empty());
     }
-    for number in [0, 22, u32::MAX] {
+    for number in [0, 22, 23, 26, u32::MAX] {
         assert_eq!(Kind::of(number), Kind::Other(number));
         assert_eq!(Kind::Other(number).number(), number);
     }

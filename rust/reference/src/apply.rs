@@ -1,10 +1,11 @@
 //! What a step does with its readings: local rules, then remote writes. Both
 //! machines do it alike; they differ in how a record comes to know a reading.
 
+use crate::evaluate::{Evaluated, evaluate};
 use crate::marks::{Transition, Transitions};
 use crate::program::{PlannedRule, Reading, Step};
 use crate::register::{Cell, Sizes};
-use crate::rule::{Action, Comparison, Sort, Stored, Term, Test};
+use crate::rule::{Action, Comparison, Expression, Sort, Test};
 
 /// What the records know of the cells as they stood before a step.
 pub trait Knowledge {
@@ -24,7 +25,8 @@ pub struct Place {
 /// All places where a sum or a total is out of range.
 #[derive(Clone, Debug, Default, PartialEq, Eq)]
 pub struct OutOfRange {
-    /// The sums that rules form, in each record from the top.
+    /// The sums that rules form, also in tests and in remote amounts, in each record
+    /// from the top: the record that reads, and the field that the rule writes.
     pub sums: Vec<Place>,
     /// The totals, of cells without such a sum.
     pub totals: Vec<Place>,
@@ -98,23 +100,23 @@ impl Work {
     /// For each record, each local rule in order; later ones overwrite earlier
     /// ones, but a sum out of range stops the run even where overwritten. A rule
     /// that reads nothing leaves the cell as earlier rules left it. Gives the
-    /// places of sums out of range.
+    /// places of sums out of range, those of remote rules among them.
     fn local_writes(&mut self, step: &Step, known: &impl Knowledge) -> Vec<Place> {
         let mut outside = Vec::new();
         for record in 0..self.sizes.records {
             for (index, rule) in step.rules.iter().enumerate() {
                 let field = rule.field;
                 match written(rule, record, known) {
-                    Written::Nothing => {}
-                    Written::Gap => {
+                    None => {}
+                    Some(Evaluated::Missing) => {
                         let earlier = &step.rules[..index];
                         self.kept += u64::from(is_stored(earlier, field, record, known));
                     }
-                    Written::Value(value) => {
+                    Some(Evaluated::Value(value)) => {
                         let place = self.place(record, field);
                         self.assign(place, value);
                     }
-                    Written::OutOfRange => outside.push(Place { record, field }),
+                    Some(Evaluated::OutOfRange) => outside.push(Place { record, field }),
                 }
             }
         }
@@ -130,11 +132,11 @@ impl Work {
                 let Action::Remote(sort, target, x) = &rule.action else {
                     continue;
                 };
-                if !passes(&rule.test, record, known) {
+                if tested(&rule.test, record, known) != Tested::Holds {
                     continue;
                 }
-                let (target, x) = (known.read(target, record), value(x, record, known));
-                if let (Some(target), Some(x)) = (target, x) {
+                let (target, x) = (known.read(target, record), evaluate(x, record, known));
+                if let (Some(target), Evaluated::Value(x)) = (target, x) {
                     self.deliver(*sort, self.place(target as usize, rule.field), x);
                     letters += 1;
                 }
@@ -208,69 +210,74 @@ impl Work {
     }
 }
 
-/// Whether a rule is done: without a test, or with one that holds. A test with a
-/// missing side does not hold, `!=` included.
-fn passes(test: &Option<Test<Reading>>, record: usize, known: &impl Knowledge) -> bool {
-    let Some(test) = test else {
-        return true;
-    };
-    let sides = (
-        value(&test.left, record, known),
-        value(&test.right, record, known),
-    );
-    match sides {
-        (Some(left), Some(right)) => match test.comparison {
+/// What comes of a rule's test.
+#[derive(Clone, Copy, PartialEq, Eq)]
+enum Tested {
+    /// There is none, or it holds: the rule is done.
+    Holds,
+    /// It does not hold. So does one with a missing side, `!=` included.
+    Fails,
+    /// A sum of it is out of range. Both sides are formed, whatever the other is.
+    OutOfRange,
+}
+
+fn tested(test: &Option<Test<Reading>>, record: usize, known: &impl Knowledge) -> Tested {
+    match test {
+        None => Tested::Holds,
+        Some(test) => compared(test, record, known),
+    }
+}
+
+fn compared(test: &Test<Reading>, record: usize, known: &impl Knowledge) -> Tested {
+    let left = evaluate(&test.left, record, known);
+    let right = evaluate(&test.right, record, known);
+    let holds = match (left, right) {
+        (Evaluated::Value(left), Evaluated::Value(right)) => match test.comparison {
             Comparison::Less => left < right,
             Comparison::Equal => left == right,
             Comparison::NotEqual => left != right,
         },
+        (Evaluated::OutOfRange, _) | (_, Evaluated::OutOfRange) => return Tested::OutOfRange,
         _ => false,
-    }
-}
-
-fn value(term: &Term<Reading>, record: usize, known: &impl Knowledge) -> Option<i32> {
-    match term {
-        Term::Chain(reading) => known.read(reading, record),
-        Term::Number(number) => Some(*number as i32),
-    }
-}
-
-/// What comes of a rule in its own record.
-enum Written {
-    /// It is not done, or is remote.
-    Nothing,
-    /// What it reads, or its sum, is missing.
-    Gap,
-    Value(i32),
-    OutOfRange,
-}
-
-fn written(rule: &PlannedRule, record: usize, known: &impl Knowledge) -> Written {
-    let Action::Local(stored) = &rule.action else {
-        return Written::Nothing;
     };
-    if !passes(&rule.test, record, known) {
-        return Written::Nothing;
-    }
-    let value = |term| value(term, record, known);
-    match stored {
-        Stored::Term(x) => value(x).map_or(Written::Gap, Written::Value),
-        Stored::Sum(x, y) => combine(value(x), value(y), i32::checked_add),
-        Stored::Difference(x, y) => combine(value(x), value(y), i32::checked_sub),
+    match holds {
+        true => Tested::Holds,
+        false => Tested::Fails,
     }
 }
 
-/// A sum with a missing side is missing.
-fn combine(x: Option<i32>, y: Option<i32>, sum: impl Fn(i32, i32) -> Option<i32>) -> Written {
-    match (x, y) {
-        (Some(x), Some(y)) => sum(x, y).map_or(Written::OutOfRange, Written::Value),
-        _ => Written::Gap,
+/// What comes of a rule in its own record: what it stores there, out of range where a
+/// sum of its test is, or where the test holds one of what it writes. None if it is
+/// not done, or is remote.
+fn written(rule: &PlannedRule, record: usize, known: &impl Knowledge) -> Option<Evaluated> {
+    let x = match &rule.action {
+        Action::Local(x) => x,
+        Action::Remote(_, _, x) if forms_any(rule) => x,
+        Action::Remote(..) => return None,
+    };
+    let written = match tested(&rule.test, record, known) {
+        Tested::Holds => evaluate(x, record, known),
+        Tested::Fails => return None,
+        Tested::OutOfRange => Evaluated::OutOfRange,
+    };
+    match (&rule.action, written) {
+        (Action::Remote(..), Evaluated::Missing | Evaluated::Value(_)) => None,
+        _ => Some(written),
     }
+}
+
+/// Whether a rule may form a sum: it does not where all it has are terms.
+#[inline]
+fn forms_any(rule: &PlannedRule) -> bool {
+    let is_term = |expression: &Expression<Reading>| matches!(expression, Expression::Term(_));
+    let test = rule.test.as_ref();
+    let tests_terms = test.is_none_or(|test| is_term(&test.left) && is_term(&test.right));
+    !(tests_terms && is_term(rule.action.expression()))
 }
 
 /// Whether one of these rules stores a value in a field of a record.
 fn is_stored(rules: &[PlannedRule], field: usize, record: usize, known: &impl Knowledge) -> bool {
     rules.iter().any(|rule| {
-        rule.field == field && matches!(written(rule, record, known), Written::Value(_))
+        rule.field == field && matches!(written(rule, record, known), Some(Evaluated::Value(_)))
     })
 }

@@ -10,36 +10,59 @@ pub const MAX_HOPS: usize = 16;
 /// may be any number of hops.
 #[derive(Clone, Copy, Debug, PartialEq, Eq)]
 pub struct ChainForm<'a> {
-    /// What stands before the `u`, as `M[A[` of `M[A[u]]`.
+    /// What stands before the `u`, as `M[A[` of `M[A[u]]`, and spaces.
     opening: &'a [u8],
+    hops: usize,
 }
 
 impl<'a> ChainForm<'a> {
     /// Takes a chain off the front of a text, and gives what is left behind it.
+    /// No space stands in it, as in a chain that is handed in by itself.
     pub fn take(text: &'a [u8]) -> Option<(ChainForm<'a>, &'a [u8])> {
-        let opens = |pair: &&[u8; 2]| pair[0].is_ascii_uppercase() && pair[1] == b'[';
-        let hops = text.as_chunks().0.iter().take_while(opens).count();
-        let (opening, rest) = text.split_at(2 * hops);
-        let rest = rest.strip_prefix(b"u")?;
-        let (closing, rest) = rest.split_at_checked(hops)?;
-        let closed = closing.iter().all(|&byte| byte == b']');
-        closed.then_some((ChainForm { opening }, rest))
+        ChainForm::take_with(text, |rest| rest)
+    }
+
+    /// The same with free spaces behind each of its tokens, as in a rules text.
+    pub fn take_spaced(text: &'a [u8]) -> Option<(ChainForm<'a>, &'a [u8])> {
+        ChainForm::take_with(text, skip_spaces)
+    }
+
+    fn take_with(
+        text: &'a [u8],
+        skip: impl Fn(&'a [u8]) -> &'a [u8],
+    ) -> Option<(ChainForm<'a>, &'a [u8])> {
+        let mut rest = text;
+        let mut hops = 0;
+        while let [b'A'..=b'Z', behind @ ..] = rest {
+            rest = skip(skip(behind).strip_prefix(b"[")?);
+            hops += 1;
+        }
+        let opening = &text[..text.len() - rest.len()];
+        rest = skip(rest.strip_prefix(b"u")?);
+        for _ in 0..hops {
+            rest = skip(rest.strip_prefix(b"]")?);
+        }
+        Some((ChainForm { opening, hops }, rest))
     }
 
     /// The letters from the outside in.
     pub fn letters(&self) -> impl DoubleEndedIterator<Item = u8> + use<'a> {
-        self.opening.as_chunks().0.iter().map(|[letter, _]| *letter)
+        let letters = self.opening.iter().filter(|byte| byte.is_ascii_uppercase());
+        letters.copied()
     }
 
     /// The number of hops.
     pub fn hops(&self) -> usize {
-        self.opening.len() / 2
+        self.hops
     }
 
     /// The outermost letter and the chain in its brackets; none for `u`.
     pub fn split_outermost(&self) -> Option<(u8, ChainForm<'a>)> {
-        let (outermost, opening) = self.opening.split_at_checked(2)?;
-        Some((outermost[0], ChainForm { opening }))
+        let (outermost, rest) = self.opening.split_first()?;
+        let inner = rest.iter().position(u8::is_ascii_uppercase);
+        let opening = &rest[inner.unwrap_or(rest.len())..];
+        let hops = self.hops - 1;
+        Some((*outermost, ChainForm { opening, hops }))
     }
 
     /// 9 does not apply: every letter names a field.
@@ -69,6 +92,15 @@ impl<'a> ChainForm<'a> {
         }
         word
     }
+}
+
+/// What is left of a text behind the spaces that it begins with.
+pub(crate) fn skip_spaces(text: &[u8]) -> &[u8] {
+    let mut rest = text;
+    while let [b' ', behind @ ..] = rest {
+        rest = behind;
+    }
+    rest
 }
 
 /// The kind of the field that a letter names; 9 has passed.

@@ -1,16 +1,26 @@
-//! The forms of lines, which 7 looks at: any capital counts as a field letter,
-//! and any kind, hop count or size of number passes.
+//! The forms of lines, which 7 looks at: any capital counts as a field letter, and
+//! any kind, hop count, size of number, depth of groups or number of operators
+//! passes. Spaces are free between tokens, but stand at neither end of a line.
 
-use crate::chain::ChainForm;
-use crate::rule::{Action, Comparison, Rule, Sort, Stored, Term, Test};
+use crate::chain::{ChainForm, skip_spaces};
+use crate::expression_form::take_expression;
+use crate::rule::{Action, Comparison, Operator, Rule, Sort, Term, Test};
 
 /// A rule by its form alone.
-pub type RuleForm<'a> = Rule<ChainForm<'a>, u8>;
-
-type TermForm<'a> = Term<ChainForm<'a>>;
+#[derive(Clone, Debug, PartialEq, Eq)]
+pub struct RuleForm<'a> {
+    /// The rule; its expressions have lost their brackets.
+    pub rule: Rule<ChainForm<'a>, u8>,
+    /// How deep groups stand in each other, in the deepest of its expressions.
+    pub groups: usize,
+}
 
 /// A line by its form alone.
-#[derive(Clone, Copy, Debug, PartialEq, Eq)]
+#[derive(Clone, Debug, PartialEq, Eq)]
+#[expect(
+    clippy::large_enum_variant,
+    reason = "a line is read and used at once, and most are rules"
+)]
 pub enum LineForm<'a> {
     /// `step`
     Step,
@@ -25,7 +35,24 @@ pub enum LineForm<'a> {
 }
 
 /// Something taken off the front of a text, and what is left behind it.
-type Taken<'a, T> = Option<(T, &'a [u8])>;
+pub(crate) type Taken<'a, T> = Option<(T, &'a [u8])>;
+
+/// A sign that may stand behind an operand or behind what is written.
+#[derive(Clone, Copy, Debug, PartialEq, Eq)]
+pub(crate) enum Sign {
+    /// `:=`
+    Becomes,
+    /// `:`
+    Colon,
+    /// `<?=` or `+=`
+    Write(Sort),
+    Operator(Operator),
+    Comparison(Comparison),
+    /// `)`
+    Close,
+    /// The line's end.
+    End,
+}
 
 /// Reads a line, which comes without its byte 10; none if it has no form.
 pub fn read_line(line: &[u8]) -> Option<LineForm<'_>> {
@@ -33,95 +60,123 @@ pub fn read_line(line: &[u8]) -> Option<LineForm<'_>> {
         b"step" => Some(LineForm::Step),
         b"end" => Some(LineForm::End),
         b"done" => Some(LineForm::Done),
-        [b'l', b'o', b'o', b'p', b' ', field @ b'A'..=b'Z'] => Some(LineForm::Loop(*field)),
-        _ => read_rule(line).map(LineForm::Rule),
+        [b' ', ..] | [.., b' '] => None,
+        _ => match take_word(line, b"loop") {
+            None => read_rule(line).map(LineForm::Rule),
+            Some([field @ b'A'..=b'Z']) => Some(LineForm::Loop(*field)),
+            Some(_) => None,
+        },
     }
+}
+
+/// What is left behind one of the words that keep a space behind them.
+fn take_word<'a>(line: &'a [u8], word: &[u8]) -> Option<&'a [u8]> {
+    let behind = line.strip_prefix(word)?.strip_prefix(b" ")?;
+    Some(skip_spaces(behind))
 }
 
 fn read_rule(line: &[u8]) -> Option<RuleForm<'_>> {
-    let (test, line) = match line.strip_prefix(b"if ") {
-        None => (None, line),
-        Some(line) => take_test(line).map(|(test, line)| (Some(test), line))?,
+    let (test, test_groups, line) = match take_word(line, b"if") {
+        None => (None, 0, line),
+        Some(line) => {
+            let ((test, groups), line) = take_test(line)?;
+            (Some(test), groups, line)
+        }
     };
-    let (field, action) = match line.strip_prefix(b"remote ") {
+    let (field, action, groups) = match take_word(line, b"remote") {
         None => read_local(line)?,
         Some(line) => read_remote(line)?,
     };
-    Some(Rule {
-        test,
-        field,
-        action,
+    Some(RuleForm {
+        rule: Rule {
+            test,
+            field,
+            action,
+        },
+        groups: groups.max(test_groups),
     })
 }
 
-/// `X < Y: `
-fn take_test(line: &[u8]) -> Taken<'_, Test<ChainForm<'_>>> {
-    let (left, line) = take_term(line)?;
-    let (comparison, line) = take_comparison(line)?;
-    let (right, line) = take_term(line)?;
-    let line = line.strip_prefix(b": ")?;
-    Some((
-        Test {
-            left,
-            comparison,
-            right,
-        },
-        line,
-    ))
-}
-
-fn take_comparison(line: &[u8]) -> Taken<'_, Comparison> {
-    match line {
-        [b' ', b'<', b' ', rest @ ..] => Some((Comparison::Less, rest)),
-        [b' ', b'=', b'=', b' ', rest @ ..] => Some((Comparison::Equal, rest)),
-        [b' ', b'!', b'=', b' ', rest @ ..] => Some((Comparison::NotEqual, rest)),
-        _ => None,
-    }
-}
-
-/// `F[u] := X`, `F[u] := X + Y` or `F[u] := X - Y`
-fn read_local(line: &[u8]) -> Option<(u8, Action<ChainForm<'_>>)> {
-    let [field @ b'A'..=b'Z', line @ ..] = line else {
+/// `X < Y:`, and how deep its groups are.
+fn take_test(line: &[u8]) -> Taken<'_, (Test<ChainForm<'_>>, usize)> {
+    let (left, line) = take_expression(line)?;
+    let Sign::Comparison(comparison) = left.behind else {
         return None;
     };
-    let line = line.strip_prefix(b"[u] := ")?;
-    let (x, line) = take_term(line)?;
-    let stored = match line {
-        [] => Stored::Term(x),
-        [b' ', b'+', b' ', y @ ..] => Stored::Sum(x, read_term(y)?),
-        [b' ', b'-', b' ', y @ ..] => Stored::Difference(x, read_term(y)?),
-        _ => return None,
+    let (right, line) = take_expression(line)?;
+    let test = Test {
+        left: left.expression,
+        comparison,
+        right: right.expression,
     };
-    Some((*field, Action::Local(stored)))
+    (right.behind == Sign::Colon).then_some(((test, left.groups.max(right.groups)), line))
+}
+
+/// A field, what is done to it, and how deep the groups are.
+type ActionForm<'a> = (u8, Action<ChainForm<'a>>, usize);
+
+/// `F[u] := X`
+fn read_local(line: &[u8]) -> Option<ActionForm<'_>> {
+    let (written, line) = ChainForm::take_spaced(line)?;
+    let (field, own) = written.split_outermost()?;
+    let (Sign::Becomes, line) = take_sign(line)? else {
+        return None;
+    };
+    let (x, _) = take_expression(line)?;
+    let has_form = own.hops() == 0 && x.behind == Sign::End;
+    has_form.then_some((field, Action::Local(x.expression), x.groups))
 }
 
 /// `F[C] <?= X` or `F[C] += X`
-fn read_remote(line: &[u8]) -> Option<(u8, Action<ChainForm<'_>>)> {
-    let (written, line) = ChainForm::take(line)?;
+fn read_remote(line: &[u8]) -> Option<ActionForm<'_>> {
+    let (written, line) = ChainForm::take_spaced(line)?;
     let (field, target) = written.split_outermost()?;
-    let (sort, x) = match line.strip_prefix(b" <?= ") {
-        Some(x) => (Sort::Least, x),
-        None => (Sort::Add, line.strip_prefix(b" += ")?),
+    let (Sign::Write(sort), line) = take_sign(line)? else {
+        return None;
     };
-    Some((field, Action::Remote(sort, target, read_term(x)?)))
+    let (x, _) = take_expression(line)?;
+    let action = Action::Remote(sort, target, x.expression);
+    (x.behind == Sign::End).then_some((field, action, x.groups))
 }
 
-/// A term with nothing behind it.
-fn read_term(text: &[u8]) -> Option<TermForm<'_>> {
-    let (term, rest) = take_term(text)?;
-    rest.is_empty().then_some(term)
+/// The longest sign that a text begins with, and the spaces behind it.
+pub(crate) fn take_sign(text: &[u8]) -> Taken<'_, Sign> {
+    let (sign, rest) = match text {
+        [] => (Sign::End, text),
+        [b'<', b'?', b'=', rest @ ..] => (Sign::Write(Sort::Least), rest),
+        [b'<', b'?', rest @ ..] => (Sign::Operator(Operator::Smaller), rest),
+        [b'<', rest @ ..] => (Sign::Comparison(Comparison::Less), rest),
+        [b'=', b'=', rest @ ..] => (Sign::Comparison(Comparison::Equal), rest),
+        [b'!', b'=', rest @ ..] => (Sign::Comparison(Comparison::NotEqual), rest),
+        [b'+', b'=', rest @ ..] => (Sign::Write(Sort::Add), rest),
+        [b'+', rest @ ..] => (Sign::Operator(Operator::Plus), rest),
+        [b'-', rest @ ..] => (Sign::Operator(Operator::Minus), rest),
+        [b':', b'=', rest @ ..] => (Sign::Becomes, rest),
+        [b':', rest @ ..] => (Sign::Colon, rest),
+        [b')', rest @ ..] => (Sign::Close, rest),
+        _ => return None,
+    };
+    Some((sign, skip_spaces(rest)))
 }
 
-fn take_term(text: &[u8]) -> Taken<'_, TermForm<'_>> {
-    match ChainForm::take(text) {
-        Some((chain, rest)) => Some((Term::Chain(chain), rest)),
-        None => take_number(text).map(|(number, rest)| (Term::Number(number), rest)),
+/// A term where an operand must begin: a minus belongs to the digits straight
+/// after it.
+pub(crate) fn take_term(text: &[u8]) -> Taken<'_, Term<ChainForm<'_>>> {
+    match text {
+        [b'-' | b'0'..=b'9', ..] => {
+            let (number, rest) = take_number(text)?;
+            Some((Term::Number(number), skip_spaces(rest)))
+        }
+        _ => {
+            let (chain, rest) = ChainForm::take_spaced(text)?;
+            Some((Term::Chain(chain), rest))
+        }
     }
 }
 
 /// Optional minus, digits, no leading zero, no `-0`: centimetres. Or metres, where
 /// a point and two digits follow; `-0.00` is refused as `-0` is. A third digit, or
-/// a point without two, stays behind, where no line goes on with it. A number too
+/// a point without two, stays behind, where no form goes on with it. A number too
 /// large for 64 bits counts as the largest of them, which is out of range as well.
 fn take_number(text: &[u8]) -> Taken<'_, i64> {
     let (minus, text) = match text.strip_prefix(b"-") {

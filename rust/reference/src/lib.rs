@@ -5,6 +5,8 @@
 pub mod apply;
 pub mod chain;
 pub mod direct;
+pub mod evaluate;
+mod expression_form;
 pub mod form;
 pub mod line_check;
 pub mod marks;

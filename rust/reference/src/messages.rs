@@ -120,8 +120,10 @@ impl Messages {
     fn known(&self, source: Source, record: usize, cells: &[Cell]) -> Option<i32> {
         match source {
             Source::OwnNumber => Some(record as i32),
-            Source::OwnCell(field) => cells[record * self.sizes.fields() + field].value(),
-            Source::Line(read) => self.place(read, record),
+            Source::OwnCell(field) => {
+                cells[record * self.sizes.fields() + usize::from(field)].value()
+            }
+            Source::Line(read) => self.place(usize::from(read), record),
         }
     }
 

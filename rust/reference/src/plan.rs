@@ -23,9 +23,9 @@ pub enum Source {
     /// `u`: its own number.
     OwnNumber,
     /// One hop: its own cell of this field.
-    OwnCell(usize),
+    OwnCell(u8),
     /// Two hops or more: the messages of this Read line.
-    Line(usize),
+    Line(u8),
 }
 
 /// The record that writes a line's message.
@@ -87,7 +87,7 @@ impl Plan {
     pub fn round_of(&self, reading: Source) -> usize {
         match reading {
             Source::OwnNumber | Source::OwnCell(_) => 0,
-            Source::Line(line) => self.lines[line].round,
+            Source::Line(line) => self.lines[usize::from(line)].round,
         }
     }
 
@@ -95,8 +95,11 @@ impl Plan {
     pub fn add_reading(&mut self, chain: &[u8]) -> Result<Source, TooManyLines> {
         match chain {
             [] => Ok(Source::OwnNumber),
-            [field] => Ok(Source::OwnCell(usize::from(*field))),
-            _ => self.add_fact(LineKind::Read, chain).map(Source::Line),
+            [field] => Ok(Source::OwnCell(*field)),
+            _ => {
+                let line = self.add_fact(LineKind::Read, chain)?;
+                Ok(Source::Line(line as u8))
+            }
         }
     }
 

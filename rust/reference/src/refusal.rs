@@ -42,9 +42,13 @@ pub enum Reason {
     OutputLength = 18,
     /// A scratch buffer that is too short.
     ScratchTooShort = 19,
+    /// Groups more than 8 deep.
+    GroupsTooDeep = 24,
+    /// More than 64 operators in one expression.
+    TooManyOperators = 25,
 }
 
-/// A refusal: its reason, and the line for reasons 6 to 15, else 0.
+/// A refusal: its reason, and the line for reasons 6 to 15, 24 and 25, else 0.
 #[derive(Clone, Copy, Debug, PartialEq, Eq)]
 pub struct Refusal {
     /// Why.

@@ -24,26 +24,48 @@ pub enum Comparison {
     NotEqual,
 }
 
-/// `if X < Y: `
+/// What joins two operands.
 #[derive(Clone, Copy, Debug, PartialEq, Eq)]
+pub enum Operator {
+    /// `+`
+    Plus,
+    /// `-`
+    Minus,
+    /// `<?`, the smaller
+    Smaller,
+}
+
+/// An expression by its tree: how it is bracketed in the text leaves no trace.
+/// Each tree has one of the cases, and stands in it in one way.
+#[derive(Clone, Debug, PartialEq, Eq)]
+pub enum Expression<C> {
+    /// No operator: a term.
+    Term(Term<C>),
+    /// One operator, between two terms.
+    Pair(Operator, [Term<C>; 2]),
+    /// Two operators or more: the terms from left to right, and how they are joined.
+    Tree(Vec<Term<C>>, Vec<Node>),
+}
+
+/// A node of a tree. They stand from left to right, an operator behind both of
+/// its operands.
+#[derive(Clone, Copy, Debug, PartialEq, Eq)]
+pub enum Node {
+    /// The next term.
+    Term,
+    /// An operator, which joins the two operands that end before it.
+    Operator(Operator),
+}
+
+/// `if X < Y: `
+#[derive(Clone, Debug, PartialEq, Eq)]
 pub struct Test<C> {
     /// X
-    pub left: Term<C>,
+    pub left: Expression<C>,
     /// `<`, `==` or `!=`
     pub comparison: Comparison,
     /// Y
-    pub right: Term<C>,
-}
-
-/// What a local rule stores.
-#[derive(Clone, Copy, Debug, PartialEq, Eq)]
-pub enum Stored<C> {
-    /// `X`
-    Term(Term<C>),
-    /// `X + Y`
-    Sum(Term<C>, Term<C>),
-    /// `X - Y`
-    Difference(Term<C>, Term<C>),
+    pub right: Expression<C>,
 }
 
 /// The sort of a remote write.
@@ -56,16 +78,16 @@ pub enum Sort {
 }
 
 /// What a rule does to its field F.
-#[derive(Clone, Copy, Debug, PartialEq, Eq)]
+#[derive(Clone, Debug, PartialEq, Eq)]
 pub enum Action<C> {
-    /// `F[u] := ..`
-    Local(Stored<C>),
+    /// `F[u] := X`
+    Local(Expression<C>),
     /// `remote F[C] <?= X` or `remote F[C] += X`
-    Remote(Sort, C, Term<C>),
+    Remote(Sort, C, Expression<C>),
 }
 
 /// A rule.
-#[derive(Clone, Copy, Debug, PartialEq, Eq)]
+#[derive(Clone, Debug, PartialEq, Eq)]
 pub struct Rule<C, F> {
     /// The test before it, if any.
     pub test: Option<Test<C>>,
@@ -92,22 +114,66 @@ impl<C> Term<C> {
     }
 }
 
+impl<C> Expression<C> {
+    /// The expression of some terms and nodes, which are those of one tree.
+    pub fn of(mut terms: Vec<Term<C>>, nodes: Vec<Node>) -> Expression<C> {
+        match (&nodes[..], terms.pop(), terms.pop()) {
+            ([Node::Term], Some(x), None) => Expression::Term(x),
+            ([_, _, Node::Operator(operator)], Some(y), Some(x)) => {
+                Expression::Pair(*operator, [x, y])
+            }
+            (_, last, before) => {
+                terms.extend(before.into_iter().chain(last));
+                Expression::Tree(terms, nodes)
+            }
+        }
+    }
+
+    /// Its terms from left to right.
+    pub fn terms(&self) -> &[Term<C>] {
+        match self {
+            Expression::Term(x) => std::slice::from_ref(x),
+            Expression::Pair(_, terms) => terms,
+            Expression::Tree(terms, _) => terms,
+        }
+    }
+
+    /// The number of its operators.
+    pub fn operators(&self) -> usize {
+        self.terms().len() - 1
+    }
+
+    /// Whether a `+` or `-` stands anywhere in it.
+    pub fn has_sum(&self) -> bool {
+        match self {
+            Expression::Term(_) => false,
+            Expression::Pair(operator, _) => *operator != Operator::Smaller,
+            Expression::Tree(_, nodes) => nodes
+                .iter()
+                .any(|node| !matches!(node, Node::Term | Node::Operator(Operator::Smaller))),
+        }
+    }
+
+    fn try_map<D, E>(&self, map: &mut impl FnMut(&C) -> Result<D, E>) -> Result<Expression<D>, E> {
+        Ok(match self {
+            Expression::Term(x) => Expression::Term(x.try_map(map)?),
+            Expression::Pair(operator, [x, y]) => {
+                Expression::Pair(*operator, [x.try_map(map)?, y.try_map(map)?])
+            }
+            Expression::Tree(terms, nodes) => {
+                let terms = terms.iter().map(|term| term.try_map(map));
+                Expression::Tree(terms.collect::<Result<_, _>>()?, nodes.clone())
+            }
+        })
+    }
+}
+
 impl<C> Test<C> {
     fn try_map<D, E>(&self, map: &mut impl FnMut(&C) -> Result<D, E>) -> Result<Test<D>, E> {
         Ok(Test {
             left: self.left.try_map(map)?,
             comparison: self.comparison,
             right: self.right.try_map(map)?,
-        })
-    }
-}
-
-impl<C> Stored<C> {
-    fn try_map<D, E>(&self, map: &mut impl FnMut(&C) -> Result<D, E>) -> Result<Stored<D>, E> {
-        Ok(match self {
-            Stored::Term(x) => Stored::Term(x.try_map(map)?),
-            Stored::Sum(x, y) => Stored::Sum(x.try_map(map)?, y.try_map(map)?),
-            Stored::Difference(x, y) => Stored::Difference(x.try_map(map)?, y.try_map(map)?),
         })
     }
 }
@@ -121,17 +187,16 @@ impl<C> Action<C> {
         }
     }
 
-    /// X, and Y of a sum or difference.
-    pub fn terms(&self) -> (&Term<C>, Option<&Term<C>>) {
+    /// X
+    pub fn expression(&self) -> &Expression<C> {
         match self {
-            Action::Local(Stored::Term(x)) | Action::Remote(_, _, x) => (x, None),
-            Action::Local(Stored::Sum(x, y) | Stored::Difference(x, y)) => (x, Some(y)),
+            Action::Local(x) | Action::Remote(_, _, x) => x,
         }
     }
 
     fn try_map<D, E>(&self, map: &mut impl FnMut(&C) -> Result<D, E>) -> Result<Action<D>, E> {
         Ok(match self {
-            Action::Local(stored) => Action::Local(stored.try_map(map)?),
+            Action::Local(x) => Action::Local(x.try_map(map)?),
             Action::Remote(sort, target, x) => Action::Remote(*sort, map(target)?, x.try_map(map)?),
         })
     }
@@ -146,11 +211,20 @@ impl<C, F> Rule<C, F> {
         }
     }
 
-    /// Its terms from left to right: the test's, then the action's.
-    pub fn terms(&self) -> impl Iterator<Item = &Term<C>> {
+    /// Its expressions from left to right: the test's sides, then the action's.
+    pub fn expressions(&self) -> impl Iterator<Item = &Expression<C>> {
         let test = self.test.iter().flat_map(|test| [&test.left, &test.right]);
-        let (x, y) = self.action.terms();
-        test.chain([x]).chain(y)
+        test.chain([self.action.expression()])
+    }
+
+    /// Its terms from left to right.
+    pub fn terms(&self) -> impl Iterator<Item = &Term<C>> {
+        let [left, right] = match &self.test {
+            None => [&[][..]; 2],
+            Some(test) => [test.left.terms(), test.right.terms()],
+        };
+        let action = self.action.expression().terms();
+        left.iter().chain(right).chain(action)
     }
 
     /// Its chains, the remote target among them, in no order that matters.

@@ -69,7 +69,7 @@ impl<'a> Reader<'a> {
             LineForm::End => self.close_step(),
             LineForm::Loop(letter) => self.open_loop(letter),
             LineForm::Done => self.close_loop(),
-            LineForm::Rule(rule) => self.rule(&rule),
+            LineForm::Rule(form) => self.rule(&form),
         }
     }
 

@@ -138,7 +138,7 @@ fn needs_stand_earlier_and_in_earlier_rounds() {
                 Writer::Origin => None,
             },
             match line.knows {
-                Source::Line(read) => Some((read, LineKind::Read)),
+                Source::Line(read) => Some((usize::from(read), LineKind::Read)),
                 Source::OwnNumber | Source::OwnCell(_) => None,
             },
         ];

@@ -3,7 +3,7 @@
 -- Assumes nothing.
 use Prim.Native.Nat.{ℕ, _*_, _-_, _≤_, _<_}
 use mathlib.Core.Path.{_≡_, refl, sym, _∙_}
-use mathlib.Core.List.{List}
+use mathlib.Core.List.{List, []}
 use mathlib.Core.Logic.{⊎-elim}
 use native.Mathlib.Omega.{arith}
 use borrow.Author.Needs.{needs}
@@ -12,16 +12,19 @@ use lib.IntN.{ℤ}
 use lib.ListN.{length, take, getD}
 use Rattle.register.specs.File.{cellsOfFile}
 use Rattle.program.specs.declared.frame.Frame.{Frame}
+use Rattle.program.specs.Code.{codesKept}
 use Rattle.program.specs.Kept.{stepsIn, programOf}
 use Rattle.step_cells.specs.Work.{Same}
 use Rattle.step_cells.specs.declared.stop.Stop.{Stop}
 use Rattle.step_cells.specs.declared.stop.Stop.the-variants.{Nowhere}
 use Rattle.step_cells.proofs.Working.{same-then}
+use Rattle.step_rules.specs.Ready.{AllPlain}
+use Rattle.step_rules.proofs.Locals.{plain-ready, plain-at}
 use Rattle.run_steps.proofs.Loops.{nearer, Taken, RulesDone, RecordsDone, rules-first, rules-next, records-first, records-next, left-behind}
-use Rattle.run_steps.proofs.Loops.{left-within}
+use Rattle.run_steps.proofs.Loops.{rules-as, left-within}
 use Rattle.run_steps.proofs.Standing.{lines-end, scratch-behind, Stands, stands-start, stands-complete, stands-exhausted}
 use Rattle.run_steps.proofs.Arrays.{noFrame}
-use Rattle.run_steps.proofs.Turn.{Held, held-anew, held-still, Turn, base, limits, out-whole, out-length, at-step, few-steps, few-rules, setting-passes}
+use Rattle.run_steps.proofs.Turn.{Held, held-anew, held-still, plain-more, Turn, base, limits, out-whole, out-length, at-step, few-steps, few-rules, setting-passes}
 use Rattle.run_steps.proofs.Turn.{taken-first, taken-more, column-space, planned, lines-values, lines-marks, Prepared, prepares, rules-fit}
 use Rattle.run_steps.proofs.Turn.{values-length, marks-length, Applied, room-still, ready-still, rule-ready, small-still}
 use Rattle.run_steps.proofs.Done.{ends-local, Done, done-remote, done-local, after-proper, ends-total, Went, went, counts-small, next-whole, next-space}
@@ -31,43 +34,43 @@ use Rattle.run_steps.proofs.run_steps.Tie as tie
 
 -- What the four loops keep, and how far they are from their end.
 
--- the first k rules of the step are taken out
+-- the first k rules of the step are taken out, and it is seen whether they are plain
 abbrev Inv-loop2 : tie.InvT-loop2
-Inv-loop2 out values marks sizes machine budget slots frames steps at base rules₀ frame taken step first finished counts k₀ k-end rules k =
-    Taken slots step (frame .rules) rules k
+Inv-loop2 out values marks sizes kinds numbers chains places machine budget slots frames steps at base rules₀ frame plain₀ taken step first finished counts k₀ k-end rules plain k =
+    Taken slots step (frame .rules) rules k × AllPlain plain (take k rules)
 
 abbrev μ-loop2 : tie.MeasureT-loop2
-μ-loop2 out values marks sizes machine budget slots frames steps at base rules₀ frame taken step first finished counts k₀ k-end rules k = frame .rules - k
+μ-loop2 out values marks sizes kinds numbers chains places machine budget slots frames steps at base rules₀ frame plain₀ taken step first finished counts k₀ k-end rules plain k = frame .rules - k
 
 -- the first k rules are done at record u
 abbrev Inv-loop3 : tie.InvT-loop3
-Inv-loop3 out values₀ marks₀ sizes machine budget slots frames steps at base rules frame taken step first finished counts setting used gathered stop₀ u k₀ u-end
-    values marks stop k = RulesDone sizes (cellsOfFile sizes out) base rules used u values₀ marks₀ values marks stop k
+Inv-loop3 out values₀ marks₀ sizes kinds numbers chains places machine budget slots frames steps at base rules frame plain taken step first finished counts setting used gathered stop₀ u k₀ u-end
+    values marks stop k = RulesDone sizes (cellsOfFile sizes out) base (codesKept kinds numbers chains) rules used u values₀ marks₀ values marks stop k
 
 abbrev μ-loop3 : tie.MeasureT-loop3
-μ-loop3 out values₀ marks₀ sizes machine budget slots frames steps at base rules frame taken step first finished counts setting used gathered stop₀ u k₀ u-end
+μ-loop3 out values₀ marks₀ sizes kinds numbers chains places machine budget slots frames steps at base rules frame plain taken step first finished counts setting used gathered stop₀ u k₀ u-end
     values marks stop k = used - k
 
 -- all rules are done at the records below u
 abbrev Inv-records : tie.InvT-records
-Inv-records out values₀ marks₀ sizes machine budget slots frames steps at base rules frame taken step first finished counts setting used gathered stop₀ u₀ u-end
-    values marks stop u = RecordsDone sizes (cellsOfFile sizes out) base rules used values₀ marks₀ values marks stop u
+Inv-records out values₀ marks₀ sizes kinds numbers chains places machine budget slots frames steps at base rules frame plain taken step first finished counts setting used gathered stop₀ u₀ u-end
+    values marks stop u = RecordsDone sizes (cellsOfFile sizes out) base (codesKept kinds numbers chains) rules used values₀ marks₀ values marks stop u
 
 abbrev μ-records : tie.MeasureT-records
-μ-records out values₀ marks₀ sizes machine budget slots frames steps at base rules frame taken step first finished counts setting used gathered stop₀ u₀ u-end
+μ-records out values₀ marks₀ sizes kinds numbers chains places machine budget slots frames steps at base rules frame plain taken step first finished counts setting used gathered stop₀ u₀ u-end
     values marks stop u = sizes .records - u
 
 -- the run stands before step `step`, the arrays have the lengths that they had, and the frame and rules of step `taken` are held, where
 -- that is a step
 abbrev Inv-loop : tie.InvT-loop
-Inv-loop out₀ values₀ marks₀ sizes machine budget slots frames steps at base rules₀ frame₀ taken₀ step₀ first₀ finished₀ counts₀
-    out values marks rules frame taken step first finished counts =
-    Stands machine sizes (stepsIn slots (take steps frames)) at budget out₀ step first finished counts out values marks
-    × (length rules ≡ 32) × (length values ≡ length values₀) × (length marks ≡ length marks₀) × (taken < steps → Held slots frames taken frame rules)
+Inv-loop out₀ values₀ marks₀ sizes kinds numbers chains places machine budget slots frames steps at base rules₀ frame₀ plain₀ taken₀ step₀ first₀ finished₀ counts₀
+    out values marks rules frame plain taken step first finished counts =
+    Stands machine sizes (stepsIn (codesKept kinds numbers chains) slots (take steps frames)) at budget out₀ step first finished counts out values marks
+    × (length rules ≡ 32) × (length values ≡ length values₀) × (length marks ≡ length marks₀) × (taken < steps → Held slots frames taken frame rules plain)
 
 abbrev μ-loop : tie.MeasureT-loop
-μ-loop out₀ values₀ marks₀ sizes machine budget slots frames steps at base rules₀ frame₀ taken₀ step₀ first₀ finished₀ counts₀
-    out values marks rules frame taken step first finished counts = budget - finished
+μ-loop out₀ values₀ marks₀ sizes kinds numbers chains places machine budget slots frames steps at base rules₀ frame₀ plain₀ taken₀ step₀ first₀ finished₀ counts₀
+    out values marks rules frame plain taken step first finished counts = budget - finished
 
 -- a state of the function, or a need, with these invariants and measures
 abbrev Of : (tie.InvT-loop2 → tie.MeasureT-loop2 → tie.InvT-loop3 → tie.MeasureT-loop3 → tie.InvT-records → tie.MeasureT-records
@@ -81,7 +84,7 @@ abbrev Entry : Type 0
 Entry = Of tie.Start
 
 abbrev entry : Of tie.After-struct-known2 → Entry
-entry c = c .before .before .before .before .before .before
+entry c = c .before .before .before .before .before .before .before .before .before
 
 -- the head of the loop over the steps
 abbrev Top : Type 0
@@ -144,14 +147,21 @@ records c = c .before .before .before
 abbrev holdingOfRuling : Ruling → Holding
 holdingOfRuling c = holdingOfGathered (gathered (records c))
 
-abbrev ruling : Of tie.After-apply-rule-arg3 → Ruling
-ruling c = c .before .before .before
+abbrev plainRuling : Of tie.After-apply-plain-arg3 → Ruling
+plainRuling c = c .before .before .before .before
 
-abbrev ruled : Of tie.After-enum-told2 → Of tie.After-apply-rule
-ruled c = c .before .before .before .before .before
+abbrev ruling : Of tie.After-apply-rule-arg3 → Ruling
+ruling c = c .before .before .before .before
+
+-- it is done
+abbrev Ruled : Type 0
+Ruled = Of tie.Joined3
+
+abbrev ruled : Of tie.After-enum-told2 → Ruled
+ruled c = c .before .before
 
 abbrev rulingOfRuled : Of tie.After-enum-told2 → Ruling
-rulingOfRuled c = ruling (ruled c .before .before)
+rulingOfRuled c = ruled c .before
 
 -- the loops over records and rules are left
 abbrev Left : Type 0
@@ -178,7 +188,7 @@ local c = c .before .before .before .before
 
 -- the remote writes are done, where there are any
 abbrev Joined : Type 0
-Joined = Of tie.Joined3
+Joined = Of tie.Joined4
 
 abbrev gatheredOfJoined : Joined → Gathered
 gatheredOfJoined c = gatheredOfLeft (leftOfLocal (c .before))
@@ -265,7 +275,9 @@ module _ (c : Turning) where
   frameHere = getD (e .args .program .frames) (top c .loop .step) noFrame
 
   abbrev TurnOf : Frame → Type 0
-  TurnOf f = Turn (e .args .machine) (e .args .sizes) (e .args .program) (e .args .budget) (now (e .args .out)) (top c .loop .step) (top c .loop .first)
+  TurnOf f = Turn (e .args .machine) (e .args .sizes)
+      (codesKept (now (e .args .kinds)) (now (e .args .numbers)) (now (e .args .chains))) (now (e .args .places))
+      (e .args .program) (e .args .budget) (now (e .args .out)) (top c .loop .step) (top c .loop .first)
       (top c .loop .finished) (top c .loop .counts) (top c .loop .out) (top c .loop .values) (top c .loop .marks) f
 
   -- with what is held of it
@@ -297,7 +309,7 @@ array-copy-out-frame-2 c = omega (arith, few-steps (anew (c .before)))
 -- Its rules are taken out.
 
 loop2-holds : Of tie.Need-loop2-holds
-loop2-holds c = let s = c .before .before in taken-first (anew s) _ (top s .loop .inv .1)
+loop2-holds c = let s = c .before .before in (taken-first (anew s) _ (top s .loop .inv .1), λ e. tt)
 
 mul-rules : Of tie.Need-mul-rules
 mul-rules c = record { fits = omega (arith, few-steps (anew (turning (c .before)))) }
@@ -317,14 +329,34 @@ mul-rules-3 c = let t = anew (turning (c .before .before)) in record { fits = om
 array-set-from-rules : Of tie.Need-array-set-from-rules
 array-set-from-rules c = let t = anew (turning (c .before .before)) in omega (arith, few-rules t, c .before .loop2-test .taken)
 
+mul-stay-plain : Of tie.Need-mul-stay-plain
+mul-stay-plain c = let t = anew (turning (c .before .before)) in record { fits = omega (arith, few-rules t, c .before .loop2-test .taken) }
+
+array-copy-out-stay-plain : Of tie.Need-array-copy-out-stay-plain
+array-copy-out-stay-plain c = let t = anew (turning (c .before .before)) in omega (arith, few-rules t, c .before .loop2-test .taken)
+
+stay-plain-requires : Of tie.Need-stay-plain-requires
+stay-plain-requires c κs = search needs
+
+-- a rule is being taken out
+abbrev takingOut : Of tie.After-stay-plain → Of tie.In-loop2
+takingOut c = c .before .before .before
+
 add-k : Of tie.Need-add-k
-add-k c = let t = anew (turning (c .before .before)) in record { fits = omega (arith, few-rules t, c .before .loop2-test .taken) }
+add-k c =
+    let i = takingOut c in
+    record { fits = omega (arith, few-rules (anew (turning (i .before))), i .loop2-test .taken) }
 
 loop2-less : Of tie.Need-loop2-less
-loop2-less c = nearer (c .before .loop2-test .taken)
+loop2-less c = nearer (takingOut c .loop2-test .taken)
 
 loop2-again : Of tie.Need-loop2-again
-loop2-again c = let l = c .before .before in taken-more (anew (turning l)) (l .loop2 .inv) (c .before .loop2-test .taken) _
+loop2-again c =
+    let i = takingOut c in
+    let l = i .before in
+    let t = anew (turning l) in
+    let inside : l .loop2 .k < length (l .loop2 .rules) = omega (arith, few-rules t, l .loop2 .inv .0 .length-is, i .loop2-test .taken) in
+    (taken-more t (l .loop2 .inv .0) (i .loop2-test .taken) _, plain-more _ _ _ _ inside (c .stay-plain .ensures) (l .loop2 .inv .1))
 
 -- What is held is of this step: it was taken anew, or is held from the step before, which was the same.
 module _ (c : Holding) where
@@ -334,17 +366,17 @@ module _ (c : Holding) where
   abbrev entryHere : Entry
   entryHere = entryOfTurning now-turning
 
-  held : Held (entryHere .args .program .slots) (entryHere .args .program .frames) (top now-turning .loop .step) (c .if2 .frame) (c .if2 .rules)
+  held : Held (entryHere .args .program .slots) (entryHere .args .program .frames) (top now-turning .loop .step) (c .if2 .frame) (c .if2 .rules) (c .if2 .plain)
   held =
       ⊎-elim
-      (λ w. held-anew refl (w .2 .inv) (w .3 .left) (w .4) (w .5))
+      (λ w. held-anew refl (w .2 .inv) (w .3 .left) (w .4) (w .5) (w .6))
       (λ w.
       let same : top now-turning .loop .taken ≡ top now-turning .loop .step = omega (arith, w .0 .left) in
-      held-still (top now-turning .loop .inv .4 (omega (arith, same, now-turning .before .loop-test .taken))) same (w .1) (w .2))
+      held-still (top now-turning .loop .inv .4 (omega (arith, same, now-turning .before .loop-test .taken))) same (w .1) (w .2) (w .3))
       (c .if2 .came)
 
   held-step : c .if2 .taken ≡ top now-turning .loop .step
-  held-step = ⊎-elim (λ w. w .6) (λ w. w .3 ∙ omega (arith, w .0 .left)) (c .if2 .came)
+  held-step = ⊎-elim (λ w. w .7) (λ w. w .4 ∙ omega (arith, w .0 .left)) (c .if2 .came)
 
   turn : TurnOf now-turning (c .if2 .frame)
   turn = turnWith now-turning (held .frame-is)
@@ -387,13 +419,33 @@ records-holds c = records-first
 loop3-holds : Of tie.Need-loop3-holds
 loop3-holds c = rules-first (c .before .records .inv .nowhere)
 
+at-hand : (r : Ruling) → r .before .loop3 .k < 32
+at-hand r = omega (arith, few-rules (turn (holdingOfRuling r)), r .loop3-test .taken)
+
+mul-apply-plain : Of tie.Need-mul-apply-plain
+mul-apply-plain c = record { fits = omega (arith, at-hand (plainRuling c)) }
+
+array-copy-out-apply-plain : Of tie.Need-array-copy-out-apply-plain
+array-copy-out-apply-plain c = omega (arith, at-hand (plainRuling c))
+
+apply-plain-requires : Of tie.Need-apply-plain-requires
+apply-plain-requires c κs =
+    let t = c .before .before .before .before in
+    let r = t .before in
+    let g = gathered (records r) in
+    let h = holdingOfRuling r in
+    let same = same-then (records r .records .inv .same) (r .before .loop3 .inv .done .same) in
+    let inside : r .before .loop3 .k < length (h .if2 .rules) = omega (arith, at-hand r, held h .rules-are .length-is) in
+    let plain = plain-at (codesKept [] [] []) _ _ _ inside (r .loop3-test .taken) (held h .plain-are) (t .if3 .taken) in (
+      (limits (turn h), out-whole (turn h), r .before .before .records-test .taken, room-still (prepared g) same),
+      plain-ready plain (rule-ready (prepared g) same _ _ (r .loop3-test .taken)),
+    )
+
 mul-apply-rule : Of tie.Need-mul-apply-rule
-mul-apply-rule c =
-    let r = ruling c in
-    record { fits = omega (arith, few-rules (turn (holdingOfRuling r)), r .loop3-test .taken) }
+mul-apply-rule c = record { fits = omega (arith, at-hand (ruling c)) }
 
 array-copy-out-apply-rule : Of tie.Need-array-copy-out-apply-rule
-array-copy-out-apply-rule c = let r = ruling c in omega (arith, few-rules (turn (holdingOfRuling r)), r .loop3-test .taken)
+array-copy-out-apply-rule c = omega (arith, at-hand (ruling c))
 
 apply-rule-requires : Of tie.Need-apply-rule-requires
 apply-rule-requires c κs =
@@ -420,8 +472,14 @@ loop3-less c = nearer (rulingOfRuled c .loop3-test .taken)
 loop3-again : Of tie.Need-loop3-again
 loop3-again c =
     let r = rulingOfRuled c in
-    rules-next (r .before .loop3 .inv) (r .loop3-test .taken) (rules-fit (prepared (gathered (records r)))) (c .enum-told2 .given .1) _
-    (ruled c .apply-rule .ensures) (omega arith)
+    let inv = r .before .loop3 .inv in
+    let more = r .loop3-test .taken in
+    let fit = rules-fit (prepared (gathered (records r))) in
+    let nowhere = c .enum-told2 .given .1 in
+    ⊎-elim
+    (λ w. rules-as (rules-next inv more fit (sym (w .11) ∙ nowhere) _ (w .5 .ensures _) (omega arith)) (w .9) (w .10) (w .11))
+    (λ w. rules-as (rules-next inv more fit (sym (w .11) ∙ nowhere) _ (w .5 .ensures) (omega arith)) (w .9) (w .10) (w .11))
+    (ruled c .if3 .came)
 
 add-u : Of tie.Need-add-u
 add-u c =
@@ -445,8 +503,14 @@ applied c stop =
     ⊎-elim
     (λ w. left-behind i stop (w .0 .left) (w .1) (w .2) (w .3))
     (λ w.
-    left-within i stop (w .0 .taken) (w .1 .inv) (w .2 .taken) (rules-fit b)
-    (w .12 .given .1) (w .13) (w .14) (w .15) _ (w .7 .ensures))
+    ⊎-elim
+    (λ v.
+    left-within i stop (w .0 .taken) (w .1 .inv) (w .2 .taken) (rules-fit b) (sym (v .11) ∙ w .5 .given .1) (w .6 ∙ v .9) (w .7 ∙ v .10) (w .8 ∙ v .11) _
+    (v .5 .ensures _))
+    (λ v.
+    left-within i stop (w .0 .taken) (w .1 .inv) (w .2 .taken) (rules-fit b) (sym (v .11) ∙ w .5 .given .1) (w .6 ∙ v .9) (w .7 ∙ v .10) (w .8 ∙ v .11) _
+    (v .5 .ensures))
+    (w .3 .came))
     (c .records-test .came)
 
 enum-known-stop : Of tie.Need-enum-known-stop
@@ -483,16 +547,16 @@ apply-requires c κs =
     let t = turn (holdingOfLeft (leftOfLocal (local c))) in
     let b = prepared (gatheredOfLeft (leftOfLocal (local c))) in
     let l = locals (local c) in
-    ((limits t, out-whole t, room-still b (l .0), few-rules t, b .taken .length-is), (ready-still b (l .0), small-still b (l .0) (l .1)))
+    ((limits t, out-whole t, room-still b (l .0), few-rules t, b .taken .length-is), ((ready-still b (l .0), l .1 .in-range), (small-still b (l .0) (l .1), held (holdingOfLeft (leftOfLocal (local c))) .plain-are)))
 
 -- all rules are done, remote ones too: `w` has what is known behind the call, or that there are none
-done : (c : Joined) → Done (prepared (gatheredOfJoined c)) (c .if3 .values) (c .if3 .marks) (c .if3 .sent)
+done : (c : Joined) → Done (prepared (gatheredOfJoined c)) (c .if4 .values) (c .if4 .marks) (c .if4 .sent)
 done c =
     let l = locals (c .before) in
     ⊎-elim
     (λ w. done-remote l (w .4 .ensures) (w .8) (w .9) (w .10))
     (λ w. done-local l (w .0 .left) (w .1) (w .2) (w .3))
-    (c .if3 .came)
+    (c .if4 .came)
 
 -- The cells are committed to the file.
 
@@ -530,7 +594,7 @@ enum-told-4 c = search needs
 
 -- the file holds the cells behind the step
 stepped : (c : Through) → Went (prepared (gatheredOfJoined (joinedOfThrough c))) (committed c .commit .last .0)
-    (joinedOfThrough c .if3 .values) (joinedOfThrough c .if3 .marks) (joinedOfThrough c .if3 .sent)
+    (joinedOfThrough c .if4 .values) (joinedOfThrough c .if4 .marks) (joinedOfThrough c .if4 .sent)
 stepped c = went (done (joinedOfThrough c)) (committed c .commit .ensures) (c .enum-told4 .given .1) (committed c .commit .kept .0)
 
 count-requires : Of tie.Need-count-requires
@@ -590,8 +654,9 @@ run-steps-spec =
     (tie.spec
     Inv-loop2 μ-loop2 Inv-loop3 μ-loop3 Inv-records μ-records Inv-loop μ-loop mul-at add-base array-copy-out-rules array-copy-out-frame loop-holds
     ended-requires same-length same-length-2 same-length-3 returns mul-frame array-copy-out-frame-2 loop2-holds mul-rules add-rules
-    mul-rules-2 array-copy-out-rules-2 mul-rules-3 array-set-from-rules add-k loop2-less loop2-again enter-requires
-    gather-requires records-holds loop3-holds mul-apply-rule array-copy-out-apply-rule apply-rule-requires enum-told enum-told-2
+    mul-rules-2 array-copy-out-rules-2 mul-rules-3 array-set-from-rules mul-stay-plain array-copy-out-stay-plain stay-plain-requires add-k loop2-less loop2-again enter-requires
+    gather-requires records-holds loop3-holds mul-apply-plain array-copy-out-apply-plain
+    apply-plain-requires mul-apply-rule array-copy-out-apply-rule apply-rule-requires enum-told enum-told-2
     add-k-2 loop3-less loop3-again add-u records-less records-again enum-known-stop out-of-range-requires same-length-4
     same-length-5 same-length-6 returns-2 enum-told-3 apply-requires commit-requires enum-known-total out-of-range-requires-2
     same-length-7 same-length-8 same-length-9 returns-3 enum-told-4 count-requires add-finished next-requires loop-less loop-again

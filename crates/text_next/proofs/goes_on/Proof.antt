@@ -2,7 +2,7 @@
 -- Assumes nothing.
 use mathlib.Core.Path.{sym}
 use borrow.Author.Needs.{needs}
-use Rattle.text_forms.proofs.Spans.{starts-within, starts-past}
+use Rattle.text_numerals.proofs.Spans.{starts-within, starts-past}
 use Rattle.text_rules.specs.Text.{isWithin}
 use Rattle.text_next.proofs.goes_on.Statement.{statement}
 use Rattle.text_next.proofs.goes_on.Tie as tie

@@ -7,7 +7,7 @@ use native.Mathlib.Omega.{arith}
 use lib.ListN.{length, drop}
 use denote.Ref.{now}
 use Rattle.text_next.specs.Front.{lineGoesOn}
-use Rattle.text_forms.proofs.Spans.{Onward, onward-more, onward-end, starts-inside}
+use Rattle.text_numerals.proofs.Spans.{Onward, onward-more, onward-end, starts-inside}
 use Rattle.text_rules.specs.Text.{isWithin}
 use Rattle.text_next.proofs.line_end.Statement.{statement}
 use Rattle.text_next.proofs.line_end.Tie as tie

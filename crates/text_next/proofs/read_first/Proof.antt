@@ -1,19 +1,17 @@
 -- `text_next::read_first` meets its contract.
 -- Assumes nothing.
-use mathlib.Core.Path.{sym, ap, _∙_}
 use native.Mathlib.Omega.{arith}
 use denote.Ref.{now}
-use Rattle.text_line.specs.LineRead.{lineRead}
-use Rattle.text_next.proofs.Fronts.{first-past, first-within}
+use Rattle.text_next.proofs.Fronts.{next-none, next-roomy, next-line}
 use borrow.Author.Needs.{needs}
 use Rattle.text_next.proofs.read_first.Statement.{statement}
 use Rattle.text_next.proofs.read_first.Tie as tie
 
 returns : tie.Need-returns
-unfolding lineRead
 returns c =
-    let a = c .before .before .args in
-    sym (ap (lineRead (a .sizes)) (first-past (now (a .text)) (a .at) (omega (arith, c .if1 .taken, c .before .before .pre .1, c .before .before .pre .2))))
+    let d = c .before .before .before .before in
+    let a = d .args in
+    next-none (a .sizes) (now (a .text)) (a .at) (a .end) (a .count) (d .pre .2) (d .pre .3) _ _ (omega (arith, c .if1 .taken))
 
 sub-read-line : tie.Need-sub-read-line
 sub-read-line c = search needs
@@ -25,12 +23,28 @@ part-read-line-end : tie.Need-part-read-line-end
 part-read-line-end c = search needs
 
 read-line-requires : tie.Need-read-line-requires
-read-line-requires c κs = search needs
+read-line-requires c κs =
+    let d = c .before .before .before .before .before .before .before .before in
+    let a = d .args in
+    let left = c .before .before .before .before .if1 .left in
+    (d .pre .0, next-roomy (a .sizes) (now (a .text)) (a .at) (a .end) (a .count) (d .pre .2) (d .pre .3) _ (omega (arith, left)) (d .pre .4), d .pre .4 .few)
+
+same-length : tie.Need-same-length
+same-length c = search needs
+
+same-length-2 : tie.Need-same-length-2
+same-length-2 c = search needs
+
+same-length-3 : tie.Need-same-length-3
+same-length-3 c = search needs
 
 returns-2 : tie.Need-returns-2
 returns-2 c =
-    let a = c .before .before .before .before .args in
-    c .read-line .ensures ∙ sym (ap (lineRead (a .sizes)) (first-within (now (a .text)) (a .at) (a .end) (c .before .before .before .before .pre .2) (omega (arith, c .before .before .if1 .left))))
+    let l = c .before .before .before .before .before in
+    let d = l .before .before .before .before .before .before .before .before .before in
+    let a = d .args in
+    let left = l .before .before .before .before .before .if1 .left in
+    next-line (a .sizes) (now (a .text)) (a .at) (a .end) (a .count) (d .pre .2) (d .pre .3) _ _ _ (omega (arith, left)) (l .read-line .ensures)
 
 pub read-first-spec : {M : Type 1} → statement M
 read-first-spec =
@@ -41,4 +55,7 @@ read-first-spec =
     part-read-line-start
     part-read-line-end
     read-line-requires
+    same-length
+    same-length-2
+    same-length-3
     returns-2)

@@ -9,36 +9,38 @@ use lib.ListN.{length}
 use Rattle.register.specs.Shape.{Limits}
 use Rattle.register.specs.declared.Sizes.{Sizes}
 use Rattle.laws.specs.Outcome.{refused}
+use Rattle.program.specs.Code.{Codes, codesKept}
 use Rattle.text_rules.specs.Text.{advance}
 use Rattle.text_plan.specs.Readings.{addedOf}
 use Rattle.text_state.specs.State.{advanceOf}
+use Rattle.text_reader.specs.Answers.{CodeArrays}
 use Rattle.text_reader.proofs.Arms.{Behind}
-use Rattle.text_reader.proofs.Reading.{Read, Passes, passes, stopped, small, again, arm-step, arm-loop, arm-none, arm-end-steps, arm-end, arm-done-steps, arm-done, arm-steps, arm-rules, arm-short, arm-rule, answer-refused, answer-read, begun}
+use Rattle.text_reader.proofs.Reading.{Read, Passes, passes, stopped, small, room, again, arm-step, arm-loop, arm-none, arm-end-steps, arm-end, arm-done-steps, arm-done, arm-steps, arm-rules, arm-short, arm-inside, arm-rule, answer-refused, answer-read, begun}
 use Rattle.text_refusals.proofs.Refusals.{or-first, or-none}
 use borrow.Author.Needs.{needs}
 use Rattle.text_reader.proofs.read_program.Statement.{statement}
 use Rattle.text_reader.proofs.read_program.Tie as tie
 
 abbrev Inv-loop : tie.InvT-loop
-Inv-loop text sizes keys₀ rounds₀ backs₀ reads₀ count₀ full₀ wanted₀ refusal₀ line₀ slots₀ frames₀ state₀ at₀ keys rounds backs reads count full wanted refusal line slots frames state at =
-    Read sizes text (addedOf keys rounds backs reads count full) wanted slots frames state at line × (refusal ≡ 0)
+Inv-loop text sizes keys₀ rounds₀ backs₀ reads₀ count₀ full₀ wanted₀ kinds₀ numbers₀ chains₀ places₀ refusal₀ line₀ slots₀ frames₀ state₀ codes₀ at₀ keys rounds backs reads count full wanted kinds numbers chains places refusal line slots frames state codes at =
+    Read sizes text (addedOf keys rounds backs reads count full) wanted (codesKept kinds numbers chains) places slots frames state codes at line × (refusal ≡ 0)
 
 abbrev μ-loop : tie.MeasureT-loop
-μ-loop text sizes keys₀ rounds₀ backs₀ reads₀ count₀ full₀ wanted₀ refusal₀ line₀ slots₀ frames₀ state₀ at₀ keys rounds backs reads count full wanted refusal line slots frames state at =
+μ-loop text sizes keys₀ rounds₀ backs₀ reads₀ count₀ full₀ wanted₀ kinds₀ numbers₀ chains₀ places₀ refusal₀ line₀ slots₀ frames₀ state₀ codes₀ at₀ keys rounds backs reads count full wanted kinds numbers chains places refusal line slots frames state codes at =
     length text - at
 
 -- a line that has passed: the loop's state, the entry, where its end is found and where it is read
 abbrev so-far : (c : tie.Else1 Inv-loop μ-loop) → tie.At-loop Inv-loop μ-loop
-so-far c = c .before .before .before .before .before .before
+so-far c = c .before .before .before .before .before .before .before .before .before .before .before .before .before .before
 
 abbrev entry : (c : tie.Else1 Inv-loop μ-loop) → tie.Start Inv-loop μ-loop
-entry c = so-far c .before .before .before .before .before
+entry c = so-far c .before .before .before .before .before .before .before .before
 
 abbrev line-at : (c : tie.Else1 Inv-loop μ-loop) → tie.After-line-end Inv-loop μ-loop
-line-at c = c .before .before .before .before
+line-at c = c .before .before .before .before .before .before .before .before .before .before .before .before
 
 abbrev read-at : (c : tie.Else1 Inv-loop μ-loop) → tie.After-read-first Inv-loop μ-loop
-read-at c = c .before .before .before
+read-at c = c .before .before .before .before .before .before .before .before
 
 abbrev sizes : (c : tie.Else1 Inv-loop μ-loop) → Sizes
 sizes c = entry c .args .sizes
@@ -46,32 +48,36 @@ sizes c = entry c .args .sizes
 limits : (c : tie.Else1 Inv-loop μ-loop) → Limits (sizes c)
 limits c = entry c .pre .0
 
-passed : (c : tie.Else1 Inv-loop μ-loop) → Passes (sizes c) (limits c) (so-far c .loop .inv .0) (read-at c .read-first .result)
+-- the arrays behind it
+abbrev behind : (c : tie.After-read-first Inv-loop μ-loop) → Codes
+behind c = let l = c .read-first .last in codesKept (l .1 .1 .1 .1 .0) (l .1 .1 .1 .1 .1 .0) (l .1 .1 .1 .1 .1 .1 .0)
+
+passed : (c : tie.Else1 Inv-loop μ-loop) → Passes (sizes c) (so-far c .loop .inv .0) (behind (read-at c)) (read-at c .read-first .result)
 passed c =
-    passes (sizes c) (limits c) (so-far c .loop .inv .0) (read-at c .read-first .result)
-    (c .before .before .before .before .before .loop-test .taken) (read-at c .read-first .ensures) (sym (c .before .before .refusal .ensures) ∙ c .if1 .left)
+    passes (sizes c) (so-far c .loop .inv .0) (read-at c .read-first .result) (line-at c .line-end .ensures)
+    (line-at c .before .loop-test .taken) (read-at c .read-first .ensures) (sym (c .before .before .refusal .ensures) ∙ c .if1 .left)
 
 -- a rule's line, from where its readings are planned
-abbrev rule-line : (c : tie.After-plan-rule-arg7 Inv-loop μ-loop) → tie.After-read Inv-loop μ-loop
-rule-line c = c .before .before .before .before .before .before .before .before
+abbrev rule-line : (c : tie.After-plan-rule-arg10 Inv-loop μ-loop) → tie.After-read Inv-loop μ-loop
+rule-line c = c .before .before .before .before .before .before .before .before .before .before .before
 
-abbrev rule-from : (c : tie.After-plan-rule-arg7 Inv-loop μ-loop) → tie.Else1 Inv-loop μ-loop
+abbrev rule-from : (c : tie.After-plan-rule-arg10 Inv-loop μ-loop) → tie.Else1 Inv-loop μ-loop
 rule-from c = rule-line c .before .before .before
 
 -- where a rule goes
 place-below : (c : tie.After-place Inv-loop μ-loop) → c .place .result < 1024
 place-below c =
-    let l = c .before .before in
+    let l = c .before .before .before .before in
     let d = rule-from l in
     let e = rule-line l .read .given .1 in
-    omega (arith, c .place .ensures, arm-steps (passed d) 0 e, arm-rules (passed d) 0 e)
+    omega (arith, c .place .ensures, arm-steps (limits d) (passed d) 0 e, arm-rules (limits d) (passed d) 0 e)
 
 -- the number of steps before an `end`, and before a `done`
 end-below : (c : tie.After-enum-told Inv-loop μ-loop) → so-far (c .before .before .before) .loop .state .steps < 32
-end-below c = arm-end-steps (passed (c .before .before .before)) 0 (c .enum-told .given .1)
+end-below c = let d = c .before .before .before in arm-end-steps (limits d) (passed d) 0 (c .enum-told .given .1)
 
 done-above : (c : tie.After-enum-told2 Inv-loop μ-loop) → 1 ≤ so-far (c .before .before .before) .loop .state .steps
-done-above c = arm-done-steps (passed (c .before .before .before)) 0 (c .enum-told2 .given .1)
+done-above c = let d = c .before .before .before in arm-done-steps (limits d) (passed d) 0 (c .enum-told2 .given .1)
 
 done-below : (c : tie.After-enum-told2 Inv-loop μ-loop) → so-far (c .before .before .before) .loop .state .steps ≤ 32
 done-below c = small (so-far (c .before .before .before) .loop .inv .0) .0
@@ -80,28 +86,74 @@ done-below c = small (so-far (c .before .before .before) .loop .inv .0) .0
 joined : (c : tie.At-match-came Inv-loop μ-loop)
     → let d = c .before .before in
     let m = c .match in
-    Behind (m .slots) (m .frames) (addedOf (m .keys) (m .rounds) (m .backs) (m .reads) (m .count) (m .full)) (m .wanted)
-    (advanceOf (so-far d .loop .state) (so-far d .loop .count) (read-at d .read-first .result))
-    (advance (so-far d .loop .inv .0 .state) (passed d .form))
+    let r = read-at d .read-first .result in
+    Behind (behind (read-at d)) (m .places) (r .codes) (m .slots) (m .frames)
+    (addedOf (m .keys) (m .rounds) (m .backs) (m .reads) (m .count) (m .full)) (m .wanted)
+    (advanceOf (so-far d .loop .state) (so-far d .loop .count) (r .line)) (advance (so-far d .loop .inv .0 .state) (passed d .form))
 joined c =
     let d = c .before .before in
     let n = so-far d .loop .count in
-    ⊎-elim (λ w. rw (w .12, w .13, w .14, w .15, w .16, w .17, w .18, w .19, w .20, w .11 .ensures, w .10 .ensures .marked)
-    (arm-rule (passed d) n (w .1 .given .1) (w .10 .ensures .planned) (w .10 .ensures .found)))
-    (⊎-elim (λ w. rw (w .9, w .10, w .11, w .12, w .13, w .14, w .15, w .16, w .17, w .8 .ensures .0, w .8 .ensures .1)
-    (arm-end (passed d) n (w .1 .given .1) (w .8 .ensures .2)))
-    (⊎-elim (λ w. rw (w .4, w .5, w .6, w .7, w .8, w .9, w .10, w .11, w .12, w .3 .ensures) (arm-done (passed d) n (w .1 .given .1) _))
-    (⊎-elim (λ w. rw (w .2, w .3, w .4, w .5, w .6, w .7, w .8, w .9, w .10) (arm-step (passed d) n (w .1 .given .1)))
-    (⊎-elim (λ w. rw (w .2, w .3, w .4, w .5, w .6, w .7, w .8, w .9, w .10) (arm-loop (passed d) n (w .1 .given .1)))
-    (λ w. arm-none (passed d) n (w .1 .given .1))))))
+    ⊎-elim (λ w. rw (w .17, w .18, w .19, w .20, w .21, w .22, w .23, w .24, w .25, w .26, w .16 .ensures)
+    (arm-rule (limits d) (passed d) n (w .1 .given .1) (w .13 .ensures)))
+    (⊎-elim (λ w. rw (w .9, w .10, w .11, w .12, w .13, w .14, w .15, w .16, w .17, w .18, w .8 .ensures .0, w .8 .ensures .1)
+    (arm-end (limits d) (passed d) n (w .1 .given .1) (w .8 .ensures .2)))
+    (⊎-elim (λ w. rw (w .4, w .5, w .6, w .7, w .8, w .9, w .10, w .11, w .12, w .13, w .3 .ensures) (arm-done (limits d) (passed d) n (w .1 .given .1) _))
+    (⊎-elim (λ w. rw (w .2, w .3, w .4, w .5, w .6, w .7, w .8, w .9, w .10, w .11) (arm-step (limits d) (passed d) n (w .1 .given .1)))
+    (⊎-elim (λ w. rw (w .2, w .3, w .4, w .5, w .6, w .7, w .8, w .9, w .10, w .11) (arm-loop (limits d) (passed d) n (w .1 .given .1)))
+    (λ w. arm-none (limits d) (passed d) n (w .1 .given .1))))))
     (c .match .came)
 
 -- and the line is still what was read
-read-same : (c : tie.At-match-came Inv-loop μ-loop) → c .match .read ≡ c .before .before .before .before .before .read-first .result
+read-same : (c : tie.At-match-came Inv-loop μ-loop) → c .match .read ≡ read-at (c .before .before) .read-first .result .line
 read-same c =
-    ⊎-elim (λ w. w .21 ∙ sym (w .1 .given .1))
-    (⊎-elim (λ w. w .18) (⊎-elim (λ w. w .13) (⊎-elim (λ w. w .11) (⊎-elim (λ w. w .11) (λ w. w .11)))))
+    ⊎-elim (λ w. w .27 ∙ sym (w .1 .given .1))
+    (⊎-elim (λ w. w .19) (⊎-elim (λ w. w .14) (⊎-elim (λ w. w .12) (⊎-elim (λ w. w .12) (λ w. w .12)))))
     (c .match .came)
+
+-- the lent arrays are as long as they were, behind the line and where the arms meet
+lent-read : (c : tie.After-read-first Inv-loop μ-loop) → let b = behind c in
+    CodeArrays (b .kinds) (b .numbers) (b .chains) (c .before .before .before .before .before .before .loop .places)
+lent-read c =
+    let l = c .before .before .before .before .before .before .loop .inv .0 .lent in
+    let e = c .read-first .kept in
+    record {
+      kinds-length = e .1 .1 .1 .1 .0 ∙ l .kinds-length;
+      numbers-length = e .1 .1 .1 .1 .1 .0 ∙ l .numbers-length;
+      chains-length = e .1 .1 .1 .1 .1 .1 .0 ∙ l .chains-length;
+      places-length = l .places-length;
+    }
+
+places-same : (c : tie.At-match-came Inv-loop μ-loop) → length (c .match .places) ≡ 8192
+places-same c =
+    let l = so-far (c .before .before) .loop .inv .0 .lent .places-length in
+    ⊎-elim (λ w. ap length (w .24) ∙ w .13 .kept .1 .1 .1 .1 .1 .1 .1 .1 .1 .0 ∙ l)
+    (⊎-elim (λ w. ap length (w .16) ∙ l) (⊎-elim (λ w. ap length (w .11) ∙ l) (⊎-elim (λ w. ap length (w .9) ∙ l)
+    (⊎-elim (λ w. ap length (w .9) ∙ l) (λ w. ap length (w .9) ∙ l)))))
+    (c .match .came)
+
+lent-joined : (c : tie.At-match-came Inv-loop μ-loop) → let b = behind (read-at (c .before .before)) in
+    CodeArrays (b .kinds) (b .numbers) (b .chains) (c .match .places)
+lent-joined c =
+    let l = lent-read (read-at (c .before .before)) in
+    record { kinds-length = l .kinds-length; numbers-length = l .numbers-length; chains-length = l .chains-length; places-length = places-same c }
+
+-- and behind the loop
+lent-left : (c : tie.Left-loop Inv-loop μ-loop) → let l = c .loop-test in CodeArrays (l .kinds) (l .numbers) (l .chains) (c .before .loop .places)
+lent-left c =
+    let l = c .before .loop .inv .0 .lent in
+    ⊎-elim (λ w. record {
+      kinds-length = ap length (w .1) ∙ l .kinds-length;
+      numbers-length = ap length (w .2) ∙ l .numbers-length;
+      chains-length = ap length (w .3) ∙ l .chains-length;
+      places-length = l .places-length;
+    })
+    (λ w. let e = w .5 .kept in record {
+      kinds-length = ap length (w .14) ∙ e .1 .1 .1 .1 .0 ∙ l .kinds-length;
+      numbers-length = ap length (w .15) ∙ e .1 .1 .1 .1 .1 .0 ∙ l .numbers-length;
+      chains-length = ap length (w .16) ∙ e .1 .1 .1 .1 .1 .1 .0 ∙ l .chains-length;
+      places-length = l .places-length;
+    })
+    (c .loop-test .came)
 
 empty-slot-requires : tie.Need-empty-slot-requires Inv-loop μ-loop
 empty-slot-requires c κs = tt
@@ -114,14 +166,17 @@ start-requires c κs = tt
 
 loop-holds : tie.Need-loop-holds Inv-loop μ-loop
 loop-holds c =
-    let p = c .before .before .before .before .pre in
-    (rw (p .6) (begun _ _ (p .3, p .2) (p .4) refl refl (c .start .ensures)), p .5)
+    let p = c .before .before .before .before .before .before .before .pre in
+    (rw (p .7) (begun _ _ (p .3, p .2) (p .4) (p .5) (c .before .before .empty-slot .ensures) refl (c .start .ensures)), p .6)
 
 line-end-requires : tie.Need-line-end-requires Inv-loop μ-loop
 line-end-requires c κs = c .before .loop .inv .0 .within
 
 read-first-requires : tie.Need-read-first-requires Inv-loop μ-loop
-read-first-requires c κs = (c .before .before .before .before .before .before .before .pre .0, c .before .loop-test .taken, c .line-end .ensures)
+read-first-requires c κs =
+    let p = c .before .before .before .before .before .before .before .before .before .before .before .before .before .pre in
+    let q = c .before .before .before .before .before .loop .inv .0 in
+    (p .0, c .before .before .before .before .loop-test .taken, c .before .before .before .line-end .ensures, q .few-codes, room q (p .1))
 
 refusal-requires : tie.Need-refusal-requires Inv-loop μ-loop
 refusal-requires c κs = tt
@@ -131,11 +186,21 @@ enum-known-read c = search needs
 
 plan-rule-requires : tie.Need-plan-rule-requires Inv-loop μ-loop
 plan-rule-requires c κs =
-    let o = so-far (rule-from c) .loop .inv .0 .behind .opened in
-    (o .sound, arm-short (passed (rule-from c)) 0 (rule-line c .read .given .1), o .marks)
+    let d = rule-from c in
+    let e = rule-line c .read .given .1 in
+    let o = so-far d .loop .inv .0 .behind .opened in
+    let l = lent-read (read-at d) in
+    let t = entry d .pre .1 in (
+      (o .sound, arm-short (limits d) (passed d) 0 e, o .marks),
+      (
+        arm-inside (limits d) (passed d) 0 e t (l .kinds-length),
+        arm-inside (limits d) (passed d) 0 e t (l .chains-length),
+        arm-inside (limits d) (passed d) 0 e t (l .places-length),
+      ),
+    )
 
 place-requires : tie.Need-place-requires Inv-loop μ-loop
-place-requires c κs = small (so-far (rule-from (c .before)) .loop .inv .0)
+place-requires c κs = small (so-far (rule-from (c .before .before .before)) .loop .inv .0)
 
 mul-slots : tie.Need-mul-slots Inv-loop μ-loop
 mul-slots c = record { fits = omega (arith, place-below c) }
@@ -204,21 +269,40 @@ loop-again : tie.Need-loop-again Inv-loop μ-loop
 loop-again c =
     let m = c .before .before in
     let d = m .before .before in
-    (rw (c .before .advance .ensures, read-same m, line-at d .line-end .ensures) (again (passed d) (joined m)), d .if1 .left)
+    let state = c .before .advance .ensures ∙ ap (advanceOf (so-far d .loop .state) (so-far d .loop .count)) (read-same m) in
+    (again (limits d) (passed d) state (line-at d .line-end .ensures) (lent-joined m) (joined m), d .if1 .left)
 
 refusal-or-last-requires : tie.Need-refusal-or-last-requires Inv-loop μ-loop
 refusal-or-last-requires c κs = tt
 
+-- the lent arrays go back as long as they were
+abbrev begins : (c : tie.After-refusal-or-last Inv-loop μ-loop) → tie.Start Inv-loop μ-loop
+begins c = c .before .before .before .before .before .before .before .before .before .before .before
+
+same-length : tie.Need-same-length Inv-loop μ-loop
+same-length c = lent-left (c .before .before) .kinds-length ∙ sym (begins c .pre .5 .kinds-length)
+
+same-length-2 : tie.Need-same-length-2 Inv-loop μ-loop
+same-length-2 c = lent-left (c .before .before) .numbers-length ∙ sym (begins c .pre .5 .numbers-length)
+
+same-length-3 : tie.Need-same-length-3 Inv-loop μ-loop
+same-length-3 c = lent-left (c .before .before) .chains-length ∙ sym (begins c .pre .5 .chains-length)
+
+same-length-4 : tie.Need-same-length-4 Inv-loop μ-loop
+same-length-4 c = lent-left (c .before .before) .places-length ∙ sym (begins c .pre .5 .places-length)
+
 returns : tie.Need-returns Inv-loop μ-loop
 returns c =
     let l = c .before .before .before in
-    let s = l .before .before .before .before .before .args .sizes in
-    let lim = l .before .before .before .before .before .pre .0 in
-    ⊎-elim (λ w. rw (c .refusal-or-last .ensures, w .1, l .loop .inv .1, or-none 0 _ refl) (answer-read (l .loop .inv .0) (w .0 .left)))
+    let s = begins c in
+    ⊎-elim
     (λ w.
-    let stop = stopped s lim (l .loop .inv .0) (w .2 .result) (w .0 .taken) (w .2 .ensures) (λ z. w .5 .taken (w .3 .ensures ∙ z)) in
-    rw (c .refusal-or-last .ensures, w .6, or-first _ _ (w .5 .taken))
-    (answer-refused (w .3 .result) _ _ (w .5 .taken) (stop ∙ ap (λ (n : ℕ). refused n _) (sym (w .3 .ensures)))))
+    rw (c .refusal-or-last .ensures, w .1, w .2, w .3, w .4, l .loop .inv .1, or-none 0 _ refl) (answer-read (l .loop .inv .0) (s .pre .1) (w .0 .left)))
+    (λ w.
+    let stop = stopped (s .args .sizes) (l .loop .inv .0) (w .5 .result) (w .1 .ensures) (w .0 .taken) (w .5 .ensures)
+    (λ z. w .13 .taken (w .11 .ensures ∙ z)) in
+    rw (c .refusal-or-last .ensures, w .17, or-first _ _ (w .13 .taken))
+    (answer-refused (w .11 .result) _ _ (w .13 .taken) (stop ∙ ap (λ (n : ℕ). refused n _) (sym (w .11 .ensures)))))
     (c .before .before .loop-test .came)
 
 pub read-program-spec : {M : Type 1} → statement M
@@ -260,4 +344,8 @@ read-program-spec =
     loop-less
     loop-again
     refusal-or-last-requires
+    same-length
+    same-length-2
+    same-length-3
+    same-length-4
     returns)

@@ -22,7 +22,35 @@ returns-4 c = simp (c .if4 .taken, c .before .before .if3 .left, c .before .befo
 
 returns-5 : tie.Need-returns-5
 unfolding checksRefusal
-returns-5 c = simp (c .if4 .left, c .before .before .if3 .left, c .before .before .before .before .if2 .left, c .before .before .before .before .before .before .if1 .left)
+returns-5 c = simp (
+  c .if5 .taken,
+  c .before .before .if4 .left,
+  c .before .before .before .before .if3 .left,
+  c .before .before .before .before .before .before .if2 .left,
+  c .before .before .before .before .before .before .before .before .if1 .left,
+)
+
+returns-6 : tie.Need-returns-6
+unfolding checksRefusal
+returns-6 c = simp (
+  c .if6 .taken,
+  c .before .before .if5 .left,
+  c .before .before .before .before .if4 .left,
+  c .before .before .before .before .before .before .if3 .left,
+  c .before .before .before .before .before .before .before .before .if2 .left,
+  c .before .before .before .before .before .before .before .before .before .before .if1 .left,
+)
+
+returns-7 : tie.Need-returns-7
+unfolding checksRefusal
+returns-7 c = simp (
+  c .if6 .left,
+  c .before .before .if5 .left,
+  c .before .before .before .before .if4 .left,
+  c .before .before .before .before .before .before .if3 .left,
+  c .before .before .before .before .before .before .before .before .if2 .left,
+  c .before .before .before .before .before .before .before .before .before .before .if1 .left,
+)
 
 pub checks-refusal-spec : {M : Type 1} → statement M
-checks-refusal-spec = tie.close (tie.spec returns returns-2 returns-3 returns-4 returns-5)
+checks-refusal-spec = tie.close (tie.spec returns returns-2 returns-3 returns-4 returns-5 returns-6 returns-7)

@@ -30,6 +30,8 @@ fn fits(refusal: u32, sizes: Sizes, line: &[u8], place: usize) -> bool {
                 > 16
         }
         12 => byte.is_some_and(|b| b == b'-' || b.is_ascii_digit()),
+        24 => byte == Some(b'('),
+        25 => byte.is_some_and(|b| b"+-<".contains(&b)),
         14 => line[..place].ends_with(b"remote ") && byte.is_some_and(|b| b.is_ascii_uppercase()),
         _ => place == 0,
     }
@@ -39,9 +41,12 @@ fn fits(refusal: u32, sizes: Sizes, line: &[u8], place: usize) -> bool {
 fn each_refusal_points_at_its_place() {
     let folder = Folder::new("carets");
     let mut random = Random::new(36);
-    for refusal in 6..=15 {
+    for refusal in (6..=15).chain([24, 25]) {
         for _ in 0..PAIRS {
-            let (sizes, pair) = neighbours::pair(&mut random, refusal);
+            let (sizes, pair) = match random.percent(50) {
+                true => neighbours::pair(&mut random, refusal),
+                false => neighbours::expression_pair(&mut random, refusal),
+            };
             folder.write("register", registers::file(&mut random, sizes));
             folder.write("rules", &pair.refused);
             let said = folder.plot(&["check", "register", "rules", "--json"]);
@@ -67,16 +72,59 @@ fn each_refusal_points_at_its_place() {
 }
 
 #[test]
+fn places_in_expressions() {
+    let nested = |groups: usize| format!("{}1{}", "(".repeat(groups), ")".repeat(groups));
+    points_at(
+        "carets-in-expressions",
+        &[
+            ("M[u] := (1", 11),
+            ("M[u] := 1)", 10),
+            ("M[u] := ()", 10),
+            ("M[u] := - 1", 10),
+            ("M[u] := -(1)", 10),
+            ("M[u] := 1 <?= 2", 11),
+            ("M[u] := 1 2", 11),
+            ("if(1) < 2: M[u] := 1", 3),
+            ("if 1 < 2 < 3: M[u] := 1", 10),
+            ("remoteM[u] += 1", 7),
+            (" M[u] := 1", 1),
+            ("A[u] := u<?1", 12),
+            ("A[u] := (u+u)", 11),
+            ("M[u] := 1 + (2 <? A[u])", 19),
+            ("M[u] := 1-2147483648", 11),
+            (&format!("M[u] := 1 + {}", nested(9)), 21),
+            (&format!("if 1 < 2: M[u] := 1{}", "+1".repeat(65)), 20 + 128),
+        ],
+    );
+}
+
+/// Each line, in a step by itself, is refused with a caret at its column.
+fn points_at(name: &str, lines: &[(&str, usize)]) {
+    let folder = Folder::with_cemetery(name);
+    for &(line, column) in lines {
+        let text = format!("step\n{line}\nend\n");
+        let words = ["check", "full.register", "-", "--json"];
+        let said = folder.plot_with(&words, text.as_bytes());
+        let found = number(&said.out, "column");
+        assert_eq!(found, Some(column), "{line}: {}", said.err);
+        // Longer lines are shown from a later place on.
+        if column <= 50 {
+            let caret = format!("    | {}^\n", " ".repeat(column - 1));
+            assert!(said.err.contains(&caret), "{}", said.err);
+        }
+    }
+}
+
+#[test]
 fn places_by_hand() {
-    let folder = Folder::with_cemetery("carets-by-hand");
-    for (line, column) in [
+    let lines = [
         ("M[u] = 5", 6),
-        ("M[u] := 5 ", 11),
+        ("M[u] := 5 ", 10),
         ("M[u] := 007", 10),
         ("M[u] := 5 * 5", 11),
         ("M[A[u]] := 5", 3),
         ("if M[u] = 5: M[u] := 1", 10),
-        ("if M[u] == 5 M[u] := 1", 13),
+        ("if M[u] == 5 M[u] := 1", 14),
         ("remote M[A[u]] := 5", 16),
         ("M[u] := A[M[u]]", 11),
         ("M[u] := A[u]", 9),
@@ -98,17 +146,6 @@ fn places_by_hand() {
         ("M[u] := -0.00", 10),
         ("M[u] := 1.80 + 21474836.48", 16),
         ("A[u] := 1.80", 9),
-    ] {
-        let text = format!("step\n{line}\nend\n");
-        let words = ["check", "full.register", "-", "--json"];
-        let said = folder.plot_with(&words, text.as_bytes());
-        assert_eq!(
-            number(&said.out, "column"),
-            Some(column),
-            "{line}: {}",
-            said.err
-        );
-        let caret = format!("    | {}^\n", " ".repeat(column - 1));
-        assert!(said.err.contains(&caret), "{}", said.err);
-    }
+    ];
+    points_at("carets-by-hand", &lines);
 }

@@ -94,11 +94,67 @@ fn numbers_that_are_none() {
         let said = check(number).fails(1, "refused 12 at line 2");
         said.fails(1, "in metres from -21474836.48 to 21474836.47");
     }
-    for line in ["M[u] := 5x", "M[u] := M[u] -5", "M[u] := 5 * 5"] {
+}
+
+#[test]
+fn what_to_do_about_lines_without_a_form() {
+    let folder = Folder::with_cemetery("check-forms");
+    for (line, advice) in [
+        ("M[u] := (1", "A round bracket is not closed."),
+        ("M[u] := (1 + 2))", "This bracket closes none."),
+        ("M[u] := A[u]]", "This bracket closes none."),
+        ("M[u] := (1 2)", "or a bracket that closes the group"),
+        ("M[u] := 5x", "or the line ends"),
+        ("M[u] := 5 * 5", "or the line ends"),
+        ("M[u] := 1 <?= 2", "or the line ends"),
+        ("M[u] := 5 + ", "Here has to stand a chain"),
+        ("M[u] := ()", "Here has to stand a chain"),
+        ("M[u] := [1]", "Here has to stand a chain"),
+        ("M[u] := M[u] --", "the digits straight after it"),
+        ("M[u] := - 5", "the digits straight after it"),
+        ("M[u] := 1 + -(5)", "the digits straight after it"),
+        ("M[u] := M[A[u] + 1", "A chain is u, or"),
+        ("remote M[(u)] += 1", "A chain is u, or"),
+        ("if(1) < 2: M[u] := 1", "keep a space behind them"),
+        ("if 1 < 2: remoteM[u] += 1", "keep a space behind them"),
+        ("loopM", "keep a space behind them"),
+        ("if 1 < 2 M[u] := 1", "A test is if X < Y:"),
+        ("if 1 =< 2: M[u] := 1", "A test is if X < Y:"),
+        ("M[u] := 1 ", "No space stands at the ends of a line."),
+        (" M[u] := 1", "No space stands at the ends of a line."),
+        ("end ", "No space stands at the ends of a line."),
+        (" ", "No space stands at the ends of a line."),
+        ("M[u] := 1\t+ 1", "plain spaces, or none"),
+        ("", "There are no empty lines."),
+        ("M[u] = 1", "Lines are step, end, loop F, done, and rules"),
+        ("# depths", "Lines are step, end, loop F, done, and rules"),
+    ] {
         let text = format!("step\n{line}\nend\n");
         let said = folder.plot_with(&["check", "full.register", "-"], text.as_bytes());
-        said.fails(1, "Spaces stand exactly as the forms show them");
+        said.fails(1, "refused 7 at line 2").fails(1, advice);
     }
+}
+
+#[test]
+fn what_to_do_about_deep_and_long_expressions() {
+    let folder = Folder::with_cemetery("check-expressions");
+    let check = |expression: String| {
+        let text = format!("step\nM[u] := {expression}\nend\n");
+        folder.plot_with(&["check", "full.register", "-"], text.as_bytes())
+    };
+    let grouped = |groups| format!("{}1{}", "(".repeat(groups), ")".repeat(groups));
+    let summed = |operators| format!("1{}", " + 1".repeat(operators));
+    check(grouped(8)).has("passes: 1 step");
+    check(grouped(9))
+        .fails(1, "refused 24 at line 2: groups stand more than 8 deep")
+        .fails(1, "Leave out brackets that change nothing");
+    check(summed(64)).has("passes: 1 step");
+    check(summed(65))
+        .fails(
+            1,
+            "refused 25 at line 2: an expression has more than 64 operators",
+        )
+        .fails(1, "Store a part in a field in one step");
 }
 
 #[test]

@@ -36,15 +36,15 @@ pub fn form(random: &mut Random, text: &[u8]) -> Option<Pair> {
         0 => with_numbers(random, text, &NUMBERS),
         1 => last_line_unended(text),
         2 => inserted(random, text, b"\n", |place, text| begins_line(text, place)),
-        3 => inserted(random, text, b" ", |place, text| {
-            stands_by_space(text, place)
-        }),
+        3 => inserted(random, text, b" ", |place, text| ends_line(text, place)),
         4 => {
             let foreign = random.pick(&FOREIGN);
             inserted(random, text, &[foreign], |_, _| true)
         }
-        5 => deleted(random, text, b" "),
-        6 => deleted(random, text, b"[]:u<?!="),
+        5 => deleted(random, text, |place, text| follows_word(text, place)),
+        6 => deleted(random, text, |place, text| {
+            b"[]:u<?!=()".contains(&text[place])
+        }),
         _ => in_other_case(random, text),
     }
 }
@@ -69,14 +69,24 @@ fn begins_line(text: &[u8], place: usize) -> bool {
     place == 0 || text[place - 1] == b'\n'
 }
 
-/// At a line's ends, or beside another space.
-fn stands_by_space(text: &[u8], place: usize) -> bool {
-    begins_line(text, place) || text[place] == b' ' || text[place] == b'\n'
+/// At a line's ends.
+fn ends_line(text: &[u8], place: usize) -> bool {
+    begins_line(text, place) || text[place] == b'\n'
 }
 
-/// One of these bytes is deleted; every one of them is needed where it stands.
-fn deleted(random: &mut Random, text: &[u8], bytes: &[u8]) -> Option<Pair> {
-    let place = some_place(random, text, |place| bytes.contains(&text[place]))?;
+/// The space that a word keeps behind it.
+fn follows_word(text: &[u8], place: usize) -> bool {
+    let words = [b"if" as &[u8], b"remote", b"loop"];
+    text[place] == b' ' && words.iter().any(|word| text[..place].ends_with(word))
+}
+
+/// A byte that is needed where it stands is deleted.
+fn deleted(
+    random: &mut Random,
+    text: &[u8],
+    wanted: impl Fn(usize, &[u8]) -> bool,
+) -> Option<Pair> {
+    let place = some_place(random, text, |place| wanted(place, text))?;
     Some(Pair::replacing(
         text,
         place..place + 1,

@@ -6,12 +6,19 @@ use crate::random::Random;
 use reference::register::Sizes;
 use reference::text::MAX_BYTES;
 
-/// The numbers of the faults that a line can have by itself, and 8.
-const LOWER: [u32; 6] = [7, 8, 9, 10, 11, 12];
+/// The refusal numbers of a line in the order in which they are asked.
+const ORDER: [u32; 11] = [7, 8, 9, 10, 11, 12, 24, 25, 13, 14, 15];
+/// How many of them a line can have by itself, 8 among them.
+const BY_ITSELF: usize = 8;
 
-/// A text whose refused line has a fault of a lower number as well, and that
-/// number with its line. The pair is one for a number from 9 on; none if the line
-/// has no place for the lower fault, or the text would become too long for it.
+fn rank(number: u32) -> usize {
+    let place = ORDER.iter().position(|one| *one == number);
+    place.expect("a line is refused by it")
+}
+
+/// A text whose refused line has a fault as well that is asked earlier, and the
+/// number of that with its line. The pair is one for a number from 9 on; none if the
+/// line has no place for the other fault, or the text would become too long for it.
 pub fn lower(
     random: &mut Random,
     sizes: Sizes,
@@ -20,9 +27,9 @@ pub fn lower(
 ) -> Option<(Vec<u8>, (u32, usize))> {
     let mut lines = lines(&pair.refused);
     let line = &mut lines[pair.line - 1];
-    let (text, made) = match random.pick(&LOWER) {
+    let (text, made) = match random.pick(&ORDER[..BY_ITSELF]) {
         8 => out_of_place(line),
-        lower if lower < number => {
+        lower if rank(lower) < rank(number) => {
             *line = try_pair(random, lower, sizes, line)?.refused;
             (lines.concat(), (lower, pair.line))
         }

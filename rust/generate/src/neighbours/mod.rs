@@ -1,6 +1,7 @@
 //! Pairs of a refused input and the nearest one that passes, for each refusal
 //! number: what is refused, and at which line, is known by how the pair is made.
 
+mod expressions;
 mod form;
 mod limits;
 mod line;
@@ -13,7 +14,8 @@ pub use lower::lower;
 pub use plan::full_step;
 
 use crate::random::Random;
-use crate::{registers as sizes_of, texts};
+use crate::registers as sizes_of;
+use crate::texts::{self, Shape};
 use reference::register::Sizes;
 use reference::text::{MAX_BYTES, read_text};
 
@@ -45,12 +47,25 @@ impl Pair {
     }
 }
 
-/// A pair for a refusal number from 6 to 15, and the sizes of a register. For the
-/// other numbers the refused text is not so long that 6 would come first.
+/// A pair for a refusal number from 6 to 15, 24 or 25, and the sizes of a register. But
+/// for 6 the refused text is not so long that 6 would come first.
 pub fn pair(random: &mut Random, number: u32) -> (Sizes, Pair) {
+    pair_of_shape(random, number, texts::shape)
+}
+
+/// The same in texts with expressions.
+pub fn expression_pair(random: &mut Random, number: u32) -> (Sizes, Pair) {
+    pair_of_shape(random, number, texts::right_expression_shape)
+}
+
+fn pair_of_shape(
+    random: &mut Random,
+    number: u32,
+    shape: fn(&mut Random) -> Shape,
+) -> (Sizes, Pair) {
     loop {
         let sizes = sizes_of::sizes(random);
-        let shape = texts::shape(random);
+        let shape = shape(random);
         let text = texts::text(random, sizes, shape);
         if let Some(pair) = try_pair(random, number, sizes, &text)
             && (number == 6 || pair.refused.len() <= MAX_BYTES)
@@ -66,6 +81,7 @@ pub fn pair(random: &mut Random, number: u32) -> (Sizes, Pair) {
 fn try_pair(random: &mut Random, number: u32, sizes: Sizes, text: &[u8]) -> Option<Pair> {
     match number {
         6 => limits::length(random, sizes, text),
+        7 if random.percent(50) => expressions::form(random, text),
         7 => form::form(random, text),
         8 => place::place(random, sizes, text),
         9 => line::field(random, sizes, text),
@@ -75,6 +91,8 @@ fn try_pair(random: &mut Random, number: u32, sizes: Sizes, text: &[u8]) -> Opti
         13 => limits::counts(random, sizes, text),
         14 => limits::sorts(random, sizes, text),
         15 => plan::lines(random, sizes, text),
+        24 => expressions::groups(random, sizes, text),
+        25 => expressions::operators(random, sizes, text),
         _ => panic!("no text is refused by {number}"),
     }
 }

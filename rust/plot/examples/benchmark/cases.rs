@@ -14,6 +14,8 @@ pub struct Case {
     pub text: Vec<u8>,
     /// The budget.
     pub budget: u16,
+    /// The ratio that the library must keep.
+    pub at_most: f64,
 }
 
 fn case(name: &'static str, register: Vec<u8>, text: Vec<u8>, budget: u16) -> Case {
@@ -22,6 +24,7 @@ fn case(name: &'static str, register: Vec<u8>, text: Vec<u8>, budget: u16) -> Ca
         register,
         text,
         budget,
+        at_most: 1.5,
     }
 }
 
@@ -44,6 +47,15 @@ pub fn cases() -> Vec<Case> {
         ),
         case("65,535 steps, 16 records", few(), counting(), 65_535),
         case("100 steps, records of 16 fields", full(), counting(), 100),
+        Case {
+            at_most: 1.2,
+            ..case(
+                "32 rules of 16 operators",
+                far_about(),
+                rules_of_16_operators(),
+                1,
+            )
+        },
     ]
 }
 
@@ -101,6 +113,20 @@ fn long_rules() -> Vec<u8> {
 /// differ, so that the eight readings have 51 lines and only this in common.
 fn in_common() -> Vec<u8> {
     reading_behind(b"HEFCDABHGFEDCBA", b'M'..=b'T')
+}
+
+/// Rules of 16 operators of every sort, some in groups; the sums stay small.
+fn rules_of_16_operators() -> Vec<u8> {
+    let rule = |number: usize| {
+        let field = |place: usize| char::from(b'M' + ((number + place) % 8) as u8);
+        let mut text = format!("{}[u] := {}[A[u]]", field(0), field(1));
+        for place in 0..4 {
+            let [x, y, z] = [2, 3, 4].map(|more| field(3 * place + more));
+            text += &format!(" - {x}[u] <? ({y}[u] + {place} - {z}[u])");
+        }
+        text + "\n"
+    };
+    step(&(0..32).map(rule).collect::<String>().into_bytes())
 }
 
 /// Every record refers to the first.

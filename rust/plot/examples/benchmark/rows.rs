@@ -7,7 +7,7 @@ use plot::lent::{self, Answer, PathBuffers};
 use reference::path::path;
 use reference::reading::reading;
 use reference::register::{MAX_FIELDS, Sizes};
-use reference::text::{MAX_BYTES, check};
+use reference::text::{MAX_BYTES, check, read_text};
 use std::hint::black_box;
 
 /// All rows, in the order they are printed.
@@ -15,8 +15,9 @@ pub fn rows() -> Vec<Row> {
     vec![
         load(),
         path_of_16_hops(),
-        check_text("check 8,192 bytes, plain", plain_text()),
-        check_text("check 8,192 bytes, dense", dense_text()),
+        check_text("check 8,192 bytes, plain", 1.5, plain_text()),
+        check_text("check 8,192 bytes, dense", 1.5, dense_text()),
+        check_text("check 8,192 bytes, expressions", 1.2, expression_text()),
     ]
 }
 
@@ -80,14 +81,14 @@ const TEXT_SIZES: Sizes = Sizes {
 };
 
 /// Checking a text that passes and is as long as may be.
-fn check_text(name: &str, text: Vec<u8>) -> Row {
+fn check_text(name: &str, at_most: f64, text: Vec<u8>) -> Row {
     let register = registers::full_file(&mut Random::new(3), TEXT_SIZES);
     assert_eq!(text.len(), 8192);
     assert_eq!(lent::check(&register, &text, &mut Answer::default()), 0);
     let (same_register, same_text) = (register.clone(), text.clone());
     Row {
         name: name.to_owned(),
-        at_most: 1.5,
+        at_most,
         library: Box::new(move || {
             let mut answer = Answer::default();
             black_box(lent::check(
@@ -113,9 +114,8 @@ fn plain_text() -> Vec<u8> {
         tests: 40,
         remotes: 35,
         numbers: 30,
-        metres: 0,
-        repeats: 0,
         shared: 50,
+        ..texts::DOCUMENT_01
     };
     full_text(&mut random, |random| texts::text(random, TEXT_SIZES, shape))
 }
@@ -125,6 +125,30 @@ fn dense_text() -> Vec<u8> {
     full_text(&mut Random::new(7), |random| {
         loop {
             if let Some(step) = neighbours::full_step(random, TEXT_SIZES) {
+                return step;
+            }
+        }
+    })
+}
+
+/// Rules with expressions of up to 16 operators, in groups up to 4 deep.
+fn expression_text() -> Vec<u8> {
+    let shape = texts::Shape {
+        parts: 1,
+        rules: 4,
+        fewest_rules: 4,
+        hops: 2,
+        tests: 40,
+        remotes: 35,
+        numbers: 50,
+        operators: 16,
+        groups: 4,
+        ..texts::DOCUMENT_01
+    };
+    full_text(&mut Random::new(8), |random| {
+        loop {
+            let step = texts::text(random, TEXT_SIZES, shape);
+            if read_text(&step, &TEXT_SIZES).is_ok() {
                 return step;
             }
         }

@@ -40,7 +40,7 @@ pub fn rows() -> Vec<Row> {
 fn row(machine: &Machine, case: &Case) -> Row {
     Row {
         name: format!("{}: {}", machine.name, case.name),
-        at_most: 1.5,
+        at_most: case.at_most,
         library: by_library(machine.library, case),
         reference: by_reference(machine.reference, case),
     }

@@ -1,4 +1,4 @@
-//! For each number from 1 to 15 a generated input that is refused by it, and the
+//! For each number from 1 to 15, 24 and 25 a generated input that is refused by it, and the
 //! nearest one that is not.
 
 use crate::folders::Folder;
@@ -18,7 +18,7 @@ pub fn folders() -> Vec<Folder> {
         let inputs = [(&pair.refused, &text), (&pair.accepted, &text)];
         folders.extend(neighbouring(number, 0, inputs));
     }
-    for number in 6..=15 {
+    for number in (6..=15).chain([24, 25]) {
         let (sizes, pair) = neighbours::pair(&mut random, number);
         let records = random.below(3);
         let register = registers::file(&mut random, Sizes { records, ..sizes });

@@ -72,7 +72,7 @@ fn program_prints_what_the_reference_does() {
     tally.print("folders of the printing program");
     tally.require(30, &["folders"]);
     let refusals: Vec<String> = (1..=15)
-        .chain([20, 21])
+        .chain([20, 21, 24, 25])
         .map(|number| format!("refused {number}"))
         .collect();
     tally.require(1, &refusals);

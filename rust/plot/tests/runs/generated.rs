@@ -131,7 +131,7 @@ fn buffers_of_other_lengths_are_refused() {
 fn damaged_registers_and_texts_come_first() {
     let title = "runs of damaged registers and texts";
     let tally = tallied(title, 42, 8_000, trials::damaged);
-    let refusals: Vec<String> = (1..=15).map(refusal_name).collect();
+    let refusals: Vec<String> = (1..=15).chain([24, 25]).map(refusal_name).collect();
     tally.require(50, &refusals);
     tally.require(LEAST, &[18].map(refusal_name));
 }

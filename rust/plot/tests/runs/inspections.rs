@@ -190,6 +190,6 @@ fn damaged_registers_and_texts_come_first() {
         look.compare(&mut random, &mut tally, &trial.buffers);
     }
     tally.print("inspections of damaged registers and texts");
-    let refusals: Vec<String> = (1..=15).chain([17]).map(refusal_name).collect();
+    let refusals: Vec<String> = (1..=15).chain([17, 24, 25]).map(refusal_name).collect();
     tally.require(50, &refusals);
 }

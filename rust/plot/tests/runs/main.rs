@@ -4,6 +4,7 @@ mod bindings;
 #[path = "../common/mod.rs"]
 mod common;
 mod compare;
+mod expressions;
 mod generated;
 mod inspections;
 mod marks;

@@ -98,6 +98,19 @@ pub fn out_of_range(random: &mut Random) -> Trial {
     Trial::new(random, case, 40)
 }
 
+/// The same with expressions, in any spacing.
+pub fn with_expressions(random: &mut Random) -> Trial {
+    let case = Case::with_expressions(random);
+    let budget = budget(random);
+    Trial::new(random, case, budget)
+}
+
+/// One step whose sums are mostly out of range.
+pub fn near_the_range(random: &mut Random) -> Trial {
+    let case = Case::near_the_range(random);
+    Trial::new(random, case, 1)
+}
+
 /// The same with as many records as may be, and a small budget.
 pub fn large(random: &mut Random) -> Trial {
     let sizes = registers::large_sizes(random);
@@ -132,11 +145,11 @@ pub fn damaged(random: &mut Random) -> Trial {
     trial
 }
 
-/// A case refused by some number from 6 to 15, or one that is damaged anywhere.
+/// A case refused by some number of a text, or one that is damaged anywhere.
 fn damaged_case(random: &mut Random) -> Case {
     let mut case = Case::small(random);
     if random.percent(50) {
-        let number = random.between(6, 15) as u32;
+        let number = random.pick(&[6, 7, 8, 9, 10, 11, 12, 13, 14, 15, 24, 25]);
         let (sizes, pair) = neighbours::pair(random, number);
         case = Case::new(random, sizes);
         case.text = pair.refused;

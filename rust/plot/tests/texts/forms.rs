@@ -3,7 +3,7 @@
 use generate::tally::Tally;
 use reference::program::{Part, PlannedRule, Program, Reading};
 use reference::register::{Kind, Sizes};
-use reference::rule::{Action, Comparison, Sort, Stored, Term};
+use reference::rule::{Action, Comparison, Expression, Operator, Sort, Term};
 
 /// Every form that is counted.
 pub const FORMS: [&str; 19] = [
@@ -58,10 +58,11 @@ pub fn count(tally: &mut Tally, program: &Program, sizes: &Sizes) {
 
 fn action(rule: &PlannedRule, sizes: &Sizes) -> &'static str {
     match (&rule.action, sizes.kind(rule.field)) {
-        (Action::Local(Stored::Term(_)), Kind::Reference) => "form: A[u] := X",
-        (Action::Local(Stored::Term(_)), Kind::Measure) => "form: M[u] := X",
-        (Action::Local(Stored::Sum(..)), _) => "form: M[u] := X + Y",
-        (Action::Local(Stored::Difference(..)), _) => "form: M[u] := X - Y",
+        (Action::Local(Expression::Term(_)), Kind::Reference) => "form: A[u] := X",
+        (Action::Local(Expression::Term(_)), Kind::Measure) => "form: M[u] := X",
+        (Action::Local(Expression::Pair(Operator::Plus, ..)), _) => "form: M[u] := X + Y",
+        (Action::Local(Expression::Pair(Operator::Minus, ..)), _) => "form: M[u] := X - Y",
+        (Action::Local(_), _) => "form: another expression",
         (Action::Remote(Sort::Least, ..), Kind::Reference) => "form: remote A[C] <?= X",
         (Action::Remote(Sort::Least, ..), Kind::Measure) => "form: remote M[C] <?= X",
         (Action::Remote(Sort::Add, ..), _) => "form: remote M[C] += X",
@@ -72,7 +73,7 @@ fn test(rule: &PlannedRule, sizes: &Sizes) -> &'static str {
     let Some(test) = &rule.test else {
         return "form: no test";
     };
-    match (test.comparison, kind(&test.left, sizes)) {
+    match (test.comparison, kind(&test.left.terms()[0], sizes)) {
         (Comparison::Less, Kind::Reference) => "form: if A < B",
         (Comparison::Less, Kind::Measure) => "form: if M < N",
         (Comparison::Equal, Kind::Reference) => "form: if A == B",

@@ -5,6 +5,7 @@ mod bindings;
 mod common;
 mod compare;
 mod edges;
+mod expressions;
 mod forms;
 mod generated;
 mod metres;

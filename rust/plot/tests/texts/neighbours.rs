@@ -60,7 +60,7 @@ fn neighbour_name(number: u32) -> String {
 #[test]
 fn refused_texts_and_their_neighbours_agree() {
     let mut both = Comparison::new(13);
-    for number in 6..=15 {
+    for number in (6..=15).chain([24, 25]) {
         for _ in 0..PAIRS {
             let (sizes, pair) = pair(&mut both.random, number);
             let register = registers::file(&mut both.random, sizes);
@@ -75,7 +75,7 @@ fn refused_texts_and_their_neighbours_agree() {
 #[test]
 fn lower_number_of_a_line_comes_first() {
     let mut both = Comparison::new(18);
-    for number in 9..=15 {
+    for number in (9..=15).chain([24, 25]) {
         for _ in 0..2 * PAIRS {
             let (sizes, pair) = pair(&mut both.random, number);
             let register = registers::file(&mut both.random, sizes);
@@ -87,6 +87,7 @@ fn lower_number_of_a_line_comes_first() {
     both.tally.print("two faults on one line");
     let refusals = [7, 8, 9, 10, 11, 12].map(refusal_name);
     both.tally.require(LEAST, &refusals);
+    both.tally.require(LEAST / 4, &[24, 25].map(refusal_name));
 }
 
 #[test]

@@ -14,12 +14,12 @@ check-requires c κs = search needs
 
 returns : tie.Need-returns
 unfolding checkNumbers
-returns c = rw (answered-refused (c .before .before .before .check .ensures) (c .before .if1 .taken)) (record { result-is = refl; answer-is = refl })
+returns c = rw (answered-refused (c .before .before .before .check .ensures .answers) (c .before .if1 .taken)) (record { result-is = refl; answer-is = refl })
 
 returns-2 : tie.Need-returns-2
 unfolding checkNumbers
 returns-2 c =
-    let a = c .before .before .before .check .ensures in
+    let a = c .before .before .before .check .ensures .answers in
     let p = a .complete (c .before .if1 .left) in
     rw (answered-program a (c .before .if1 .left))
     (record { result-is = refl; answer-is = ap₂ (λ (n m : ℕ). 0 ∷ 0 ∷ 0 ∷ 0 ∷ 0 ∷ 0 ∷ n ∷ m ∷ []) (p .steps-are) (p .lines-are) })

@@ -1,6 +1,5 @@
 -- `c_api::read::plot_read` meets its contract: the outcome of the reading, as numbers.
 -- Assumes nothing.
-use Prim.Native.Nat.{ℕ}
 use mathlib.Core.Path.{_≡_, ap, _∙_}
 use mathlib.Core.List.{[], _∷_}
 use mathlib.Core.Logic.{⊎-elim}

@@ -8,6 +8,7 @@ use Rattle.laws.specs.Outcome.{done}
 use Rattle.text_rules.specs.Text.{check}
 use Rattle.text_rules.proofs.Passing.{check-passes}
 use Rattle.program.specs.Kept.{programOf, Complete}
+use Rattle.op_check.specs.Checked.{Checks}
 use Rattle.op_check.proofs.Checks.{answered-refused, answered-program, plan-refused, step-zero, step-past, step-there}
 use borrow.Author.Needs.{needs}
 use Rattle.op_check.proofs.step.plan_step.Statement.{statement}
@@ -17,11 +18,15 @@ use Rattle.op_check.proofs.step.plan_step.Tie as tie
 abbrev entry : (c : tie.Else1) → tie.Start
 entry c = c .before .before .before .before .before
 
-passed : (c : tie.Else1) → let a = entry c .args in check (now (a .file)) (now (a .text)) ≡ done (programOf (c .before .before .check .result .program))
-passed c = answered-program (c .before .before .check .ensures) (c .if1 .left)
+abbrev answer : (c : tie.Else1) → let a = entry c .args in Checks (check (now (a .file)) (now (a .text))) (c .before .before .check .result)
+answer c = c .before .before .check .ensures
 
-complete : (c : tie.Else1) → Complete (c .before .before .check .result .program)
-complete c = c .before .before .check .ensures .complete (c .if1 .left)
+passed : (c : tie.Else1) → let a = entry c .args in
+    check (now (a .file)) (now (a .text)) ≡ done (programOf (answer c .codes) (c .before .before .check .result .program))
+passed c = answered-program (answer c .answers) (c .if1 .left)
+
+complete : (c : tie.Else1) → Complete (answer c .codes) (answer c .places) (c .before .before .check .result .program)
+complete c = answer c .answers .complete (c .if1 .left)
 
 at-least : (c : tie.Else2) → 1 ≤ entry (c .before .before) .args .step
 at-least c = omega (arith, c .if2 .left)
@@ -43,7 +48,7 @@ returns : tie.Need-returns
 returns c =
     let r = c .before .before .before in
     let a = r .before .before .before .args in
-    plan-refused (now (a .file)) (now (a .text)) (a .step) (answered-refused (r .check .ensures) (c .before .if1 .taken)) (c .before .if1 .taken) (c .refused .ensures)
+    plan-refused (now (a .file)) (now (a .text)) (a .step) (answered-refused (r .check .ensures .answers) (c .before .if1 .taken)) (c .before .if1 .taken) (c .refused .ensures)
 
 refused-requires-2 : tie.Need-refused-requires-2
 refused-requires-2 c κs = search needs

@@ -1,20 +1,25 @@
--- `step_effects::sent::message_of` meets its contract.
+-- `step_effects::sent::message_of` meets its contract: without a target or an amount nothing is sent.
 -- Assumes nothing.
-use mathlib.Core.Path.{_≡_, refl, _∙_}
+use mathlib.Core.Path.{_≡_, refl, sym, subst, _∙_}
 use mathlib.Core.Logic.{⊎-elim}
 use mathlib.Core.Bool.{false}
 use mathlib.Core.List.{[], _∷_}
 use native.Mathlib.Omega.{arith}
 use denote.Enum.Declared.{tagOf}
 use types.Run.{OneOf}
+use lib.IntN.{ℤ}
 use Rattle.program.specs.declared.rule.Rule.{Rule}
 use Rattle.program.proofs.rule.Rule.{the-type}
 use Rattle.program.specs.declared.rule.Rule.the-variants.{Set, Combine, Remote}
 use Rattle.program.specs.Program.{isRemote}
-use Rattle.program.specs.Stored.{targetIn, expressionIn}
-use Rattle.machine.specs.Remote.{sentBy}
+use Rattle.program.specs.Stored.{targetIn}
+use Rattle.machine.specs.Remote.{sentTo}
+use Rattle.step_expressions.specs.declared.operation.Evaluated.{Evaluated}
+use Rattle.step_expressions.specs.declared.operation.Evaluated.the-variants.{Value}
+use Rattle.step_expressions.proofs.operation.Evaluated as E
+use Rattle.step_expressions.proofs.Sides.{both-values, named}
 use Rattle.step_effects.specs.Answers.{messagesIn}
-use Rattle.step_effects.proofs.Answering.{send-local, send-nothing, send-done}
+use Rattle.step_effects.proofs.Answering.{send-local, sent-nowhere, sent-one, sent-none}
 use borrow.Author.Needs.{needs}
 use Rattle.step_effects.proofs.sent.message_of.Statement.{statement}
 use Rattle.step_effects.proofs.sent.message_of.Tie as tie
@@ -29,32 +34,85 @@ local (Set f x) h = refl
 local (Combine f op x y) h = refl
 local (Remote k f c x) h = absurd (⊎-elim (λ e. omega arith) (λ e. omega arith) h)
 
+-- an answer of the first and the last variant is no value
+no-value : (v : Evaluated) → OneOf (0 ∷ 2 ∷ []) (tagOf E.the-type v) → (z : ℤ) → v ≡ Value z → ⊥
+no-value v h z e = ⊎-elim (λ q. omega arith) (λ q. omega arith) (subst (λ (w : Evaluated). OneOf (0 ∷ 2 ∷ []) (tagOf E.the-type w)) e h)
+
 returns : tie.Need-returns
 unfolding messagesIn
-returns c = send-local _ _ (local _ (c .match .keys2))
+returns c = send-local _ _ _ (local _ (c .match .keys2))
 
-holds-requires : tie.Need-holds-requires
-holds-requires c κs = search needs
+found-at-requires : tie.Need-found-at-requires
+found-at-requires c κs =
+    let r = c .before .before in
+    let p = r .before .before .before .before .before .before .before .before .before .pre in
+    (p .0 .0, p .0 .1, (rw (r .rule .given .1) at (p .0 .2 .rule)) .0 .reaches)
+
+enum-known-to : tie.Need-enum-known-to
+enum-known-to c = search needs
+
+enum-told : tie.Need-enum-told
+enum-told c = search needs
 
 returns-2 : tie.Need-returns-2
 unfolding messagesIn
-returns-2 c = send-nothing _ _ (c .before .holds .ensures) (c .if1 .taken)
+returns-2 c =
+    let x = c .before .before in
+    let r = x .before .before .before in
+    let p = r .before .before .before .before .before .before .before .before .before .pre in
+    let found = (rw (r .rule .given .1) at (p .0 .2 .rule)) .0 in
+    sent-nowhere _ _ _ (r .rule .given .1) (sym (x .found-at .ensures ∙ found .found-is) ∙ c .enum-told .given .1)
 
-send-requires : tie.Need-send-requires
-unfolding targetIn
-send-requires c κs =
-    let r = c .before .before .before in
-    let p = r .before .before .before .before .before .before .pre in
-    let found = rw (r .rule .given .1) at (p .0 .2 .rule) in
-    ((p .0 .0, p .0 .1, found), rw (r .rule .given .1) at (p .1))
+effect-requires : tie.Need-effect-requires
+effect-requires c κs = search needs
+
+enum-known-value : tie.Need-enum-known-value
+enum-known-value c = search needs
 
 returns-3 : tie.Need-returns-3
-unfolding targetIn expressionIn sentBy
+unfolding messagesIn
 returns-3 c =
     let e = c .before in
-    let r = e .before .before .before in
-    c .send .ensures ∙ send-done _ _ (e .before .holds .ensures) (e .if1 .left) (r .rule .given .1)
+    let r = e .before .before .before .before .before .before .before in
+    let p = r .before .before .before .before .before .before .before .before .before .pre in
+    sent-none _ _ _ (r .rule .given .1) (e .effect .ensures) (p .1 .1) (no-value _ (c .match3 .keys2))
+
+index-requires : tie.Need-index-requires
+unfolding targetIn
+index-requires c κs =
+    let k = c .before .before .before .before in
+    let x = k .before .before .before in
+    let r = x .before .before .before in
+    let p = r .before .before .before .before .before .before .before .before .before .pre in
+    let found = (rw (r .rule .given .1) at (p .0 .2 .rule)) .0 in
+    named (sym (x .found-at .ensures ∙ found .found-is) ∙ k .before .to .given .1) (k .known-told2 .given .0 .1) (rw (r .rule .given .1) at (p .1 .0))
+
+returns-4 : tie.Need-returns-4
+unfolding sentTo messagesIn
+returns-4 c =
+    let l = c .before in
+    let e = l .before .before .before in
+    let k = e .before in
+    let x = k .before .before .before in
+    let r = x .before .before .before in
+    let p = r .before .before .before .before .before .before .before .before .before .pre in
+    let found = (rw (r .rule .given .1) at (p .0 .2 .rule)) .0 in
+    let to = sym (x .found-at .ensures ∙ found .found-is) ∙ k .before .to .given .1 in
+    let (amount, sent) = sent-one _ _ _ (r .rule .given .1) (e .effect .ensures) (p .1 .1) (l .before .value .given .1) in
+    rw (c .index .ensures) (both-values _ _ to amount (k .known-told2 .given .0 .1) (l .known-told3 .given .0 .1)) ∙ sent
 
 pub message-of-spec : {M : Type 1} → statement M
 message-of-spec =
-    tie.close (tie.spec enum-known-rule returns holds-requires returns-2 send-requires returns-3)
+    tie.close
+    (tie.spec
+    enum-known-rule
+    returns
+    found-at-requires
+    enum-known-to
+    enum-told
+    returns-2
+    effect-requires
+    enum-known-value
+    returns-3
+    index-requires
+    returns-4)

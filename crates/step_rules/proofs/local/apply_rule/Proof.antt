@@ -1,24 +1,23 @@
--- `step_rules::local::apply_rule` meets its contract: it stores what the rule stores, or stops where its sum is out of range.
+-- `step_rules::local::apply_rule` meets its contract: what the rule writes is performed.
 -- Assumes nothing.
-use mathlib.Core.Path.{_≡_, sym, _∙_}
+use mathlib.Core.Path.{_≡_, sym}
 use mathlib.Core.Bool.{true}
 use mathlib.Core.List.{List}
 use Prim.Native.Nat.{ℕ}
 use native.Mathlib.Omega.{arith}
 use denote.Ref.{now}
 use lib.Seq.{length-take-le}
-use Rattle.integers.proofs.Complement.{kept}
 use Rattle.register.specs.File.{cellsOfFile}
 use Rattle.register.specs.declared.cells.Cell.{Cell}
 use Rattle.register.proofs.Loading.{file-parts}
 use Rattle.chain.specs.declared.reading.Reading.{Reading}
 use Rattle.chain.specs.Word.{hasField}
-use Rattle.chain.proofs.Fields.{field-below}
 use Rattle.program.specs.Program.{Rule, targetField}
+use Rattle.program.specs.Code.{codesKept}
 use Rattle.program.specs.Stored.{ruleIn}
 use Rattle.step_terms.specs.Found.{followed}
 use Rattle.step_effects.specs.Answers.{writeOf}
-use Rattle.step_rules.proofs.Locals.{rule-idles, rule-offends, rule-stores, stores-field, offends-field}
+use Rattle.step_rules.proofs.Locals.{writes-field}
 use borrow.Author.Needs.{needs}
 use Rattle.step_rules.proofs.local.apply_rule.Statement.{statement}
 use Rattle.step_rules.proofs.local.apply_rule.Tie as tie
@@ -32,7 +31,7 @@ module _ (c : tie.Start) where
   read = followed (c .args .sizes) cells (c .args .u)
 
   abbrev rule : Rule
-  rule = ruleIn (c .args .rule .slot)
+  rule = ruleIn (codesKept (now (c .args .kinds)) (now (c .args .numbers)) (now (c .args .chains))) (c .args .rule .slot)
 
   field : hasField (c .args .sizes) (targetField (rule .target)) ≡ true
   unfolding ruleIn
@@ -48,26 +47,26 @@ slice-reshare-prefix-local-write : tie.Need-slice-reshare-prefix-local-write
 slice-reshare-prefix-local-write c = search needs
 
 slice-aggregate-local-write : tie.Need-slice-aggregate-local-write
-slice-aggregate-local-write c = sym (length-take-le _ _ (omega (arith, c .before .before .before .before .before .pre .0 .3 .values-room)))
+slice-aggregate-local-write c = sym (length-take-le _ _ (omega (arith, c .before .before .before .before .before .before .before .before .pre .0 .3 .values-room)))
 
 slice-reshare-prefix-local-write-2 : tie.Need-slice-reshare-prefix-local-write-2
 slice-reshare-prefix-local-write-2 c = search needs
 
 slice-aggregate-local-write-2 : tie.Need-slice-aggregate-local-write-2
-slice-aggregate-local-write-2 c = sym (length-take-le _ _ (omega (arith, c .before .before .before .before .before .before .pre .0 .3 .marks-room)))
+slice-aggregate-local-write-2 c = sym (length-take-le _ _ (omega (arith, c .before .before .before .before .before .before .before .before .before .pre .0 .3 .marks-room)))
 
 local-write-requires : tie.Need-local-write-requires
 unfolding cellsOfFile
 local-write-requires c κs =
     let m = c .before .before in
-    let s = m .before .before .before .before in
+    let s = m .before .before .before .before .before .before .before in
     let p = s .pre .0 in
     rw (m .before .values-part .ensures, m .marks-part .ensures)
     (file-parts (now (s .args .out)) (s .args .sizes) (p .0) (p .1), p .2, s .pre .1 .found _ (p .2))
 
 -- what the rule writes, over the file
 abbrev start : tie.After-local-write → tie.Start
-start c = c .before .before .before .before .before .before .before
+start c = c .before .before .before .before .before .before .before .before .before .before
 
 wrote : (c : tie.After-local-write) → writeOf (read (start c)) (rule (start c)) ≡ c .local-write .result
 unfolding cellsOfFile
@@ -75,29 +74,11 @@ wrote c =
     let m = c .before .before .before in
     rw (m .before .values-part .ensures, m .marks-part .ensures) at (sym (c .local-write .ensures))
 
-enum-told : tie.Need-enum-told
-enum-told c = search needs
-
-enum-known-field : tie.Need-enum-known-field
-enum-known-field c = search needs
-
-store-requires : tie.Need-store-requires
-store-requires c κs =
-    let f = c .before .before .before in
-    let w = f .before .before in
+perform-requires : tie.Need-perform-requires
+perform-requires c κs =
+    let w = c .before .before in
     let s = start w in
-    (s .pre .0 .0, s .pre .0 .2, stores-field _ _ _ _ (field s) (wrote w ∙ f .field .given .1), s .pre .0 .3)
-
-enum-known-field-2 : tie.Need-enum-known-field-2
-enum-known-field-2 c = search needs
-
-column-requires : tie.Need-column-requires
-column-requires c κs =
-    let f = c .before in
-    let w = f .before .before in
-    let s = start w in
-    let limits = s .pre .0 .0 in
-    (limits .references≤, field-below (s .args .sizes) limits _ (offends-field _ _ _ _ (field s) (wrote w ∙ f .field2 .given .1)))
+    (s .pre .0 .0, s .pre .0 .2, writes-field _ _ _ (rule s) (field s) _ (wrote w), s .pre .0 .3)
 
 same-length : tie.Need-same-length
 same-length c = search needs
@@ -107,39 +88,9 @@ same-length-2 c = search needs
 
 returns : tie.Need-returns
 returns c =
-    let w = c .before .before in
-    rule-idles _ _ _ _ _ _ _ (wrote w ∙ c .enum-told .given .1)
-
-same-length-3 : tie.Need-same-length-3
-same-length-3 c = search needs
-
-same-length-4 : tie.Need-same-length-4
-same-length-4 c = search needs
-
-returns-2 : tie.Need-returns-2
-unfolding ruleIn
-returns-2 c =
-    let stored = c .before .before .before in
-    let f = stored .before .before .before .before in
-    let w = f .before .before in
-    let s = start w in
-    let p = s .pre .0 in
-    let z = f .field .given .0 .1 .0 in
-    let fits = stored .before .before .before .known-told .given .1 .0 .1 in
-    rule-stores _ _ _ _ _ _ _ _ z (wrote w ∙ f .field .given .1) (p .0) (p .2) (field s) (p .3)
-    (rw (kept z fits) at (stored .store .ensures)) (record { sfits = fits })
-
-same-length-5 : tie.Need-same-length-5
-same-length-5 c = search needs
-
-same-length-6 : tie.Need-same-length-6
-same-length-6 c = search needs
-
-returns-3 : tie.Need-returns-3
-returns-3 c =
-    let f = c .before .before in
-    let w = f .before .before in
-    rw (c .column .ensures) (rule-offends _ _ _ _ _ _ _ (wrote w ∙ f .field2 .given .1))
+    let p = c .before .before .before in
+    let w = p .before .before .before in
+    p .perform .ensures _ _ (wrote w) (field (start w))
 
 pub apply-rule-spec : {M : Type 1} → statement M
 apply-rule-spec =
@@ -152,17 +103,7 @@ apply-rule-spec =
     slice-reshare-prefix-local-write-2
     slice-aggregate-local-write-2
     local-write-requires
-    enum-told
-    enum-known-field
-    store-requires
-    enum-known-field-2
-    column-requires
+    perform-requires
     same-length
     same-length-2
-    returns
-    same-length-3
-    same-length-4
-    returns-2
-    same-length-5
-    same-length-6
-    returns-3)
+    returns)

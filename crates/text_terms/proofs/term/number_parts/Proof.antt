@@ -7,27 +7,26 @@ use lib.IntN.{ℤ}
 use mir.Facts.{toZ-ofZ}
 use Rattle.integers.specs.Range.{sumOf}
 use Rattle.integers.proofs.Complement.{kept}
-use Rattle.text_terms.specs.Read.{plainParts, numberParts}
+use Rattle.text_terms.specs.Term.{plainParts, numberParts}
 use Rattle.text_terms.proofs.term.number_parts.Statement.{statement}
 use Rattle.text_terms.proofs.term.number_parts.Tie as tie
 
 in-range-requires : tie.Need-in-range-requires
-in-range-requires c κs = search needs
+in-range-requires c = search needs
 
 enum-known-number : tie.Need-enum-known-number
 enum-known-number c = search needs
 
 plain-parts-requires : tie.Need-plain-parts-requires
-plain-parts-requires c κs = search needs
+plain-parts-requires c = search needs
 
 enum-told : tie.Need-enum-told
 enum-told c = search needs
 
 plain-parts-requires-2 : tie.Need-plain-parts-requires-2
-plain-parts-requires-2 c κs = search needs
+plain-parts-requires-2 c = search needs
 
 returns : tie.Need-returns
-unfolding numberParts
 returns c =
     let s = c .before .before .before .before in
     let v = c .before .before .number .given in
@@ -36,7 +35,6 @@ returns c =
     ∙ sym (ap numberParts (sym (s .in-range .ensures ∙ ap sumOf (toZ-ofZ (s .before .fits .value))) ∙ v .1))
 
 returns-2 : tie.Need-returns-2
-unfolding numberParts
 returns-2 c =
     let s = c .before .before .before in
     c .plain-parts2 .ensures

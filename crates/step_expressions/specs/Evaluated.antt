@@ -1,0 +1,48 @@
+-- What an expression comes to at one record: unfilled, a value, or out of range where one of its sums is.
+use Prim.Native.Nat.{ℕ}
+use mathlib.Core.Bool.{cond}
+use mathlib.Core.List.{List}
+use lib.IntN.{ℤ, pos}
+use lib.Dec.{eqb}
+use lib.ListN.{getD}
+use Rattle.integers.specs.Range.{sumOf}
+use Rattle.integers.specs.declared.Sum.{Sum}
+use Rattle.integers.specs.declared.Sum.the-variants as S
+use Rattle.register.specs.declared.Sizes.{Sizes}
+use Rattle.register.specs.declared.cells.Cell.{Cell}
+use Rattle.chain.specs.declared.reading.Reading.{Reading}
+use Rattle.chain.specs.declared.reading.Reading.the-variants as R
+use Rattle.program.specs.declared.rule.Operator.{Operator}
+use Rattle.program.specs.Program.{Expression}
+use Rattle.program.specs.Code.{locationAt}
+use Rattle.machine.specs.Value.{operate, value, overflows}
+use Rattle.step_terms.specs.Found.{foundAt}
+use Rattle.step_expressions.specs.declared.operation.Evaluated.{Evaluated}
+use Rattle.step_expressions.specs.declared.operation.Evaluated.the-variants.{Missing, Value, OutOfRange}
+
+unfoldable pub ofReading : Reading → Evaluated
+ofReading R.Missing = Missing
+ofReading (R.Value z) = Value z
+
+unfoldable pub ofSum : Sum → Evaluated
+ofSum (S.InRange z) = Value z
+ofSum S.OutOfRange = OutOfRange
+
+-- the answer for an expression: that a sum of it leaves the range, or its value
+unfoldable pub evaluated : (List ℕ → Reading) → Expression → Evaluated
+evaluated read e = cond (overflows read e) OutOfRange (ofReading (value read e))
+
+-- an operation on two answers
+unfoldable pub joined : Operator → Evaluated → Evaluated → Evaluated
+joined op OutOfRange y = OutOfRange
+joined op Missing OutOfRange = OutOfRange
+joined op Missing Missing = Missing
+joined op Missing (Value b) = Missing
+joined op (Value a) OutOfRange = OutOfRange
+joined op (Value a) Missing = Missing
+joined op (Value a) (Value b) = ofSum (sumOf (operate op a b))
+
+-- what record u finds for a code that is a chain or a number
+unfoldable pub termAt : Sizes → List Cell → List ℤ → List ℕ → ℕ → List ℕ → List ℤ → List ℕ → ℕ → Evaluated
+termAt s cells values marks u kinds numbers places i =
+    cond (eqb (getD kinds i 0) 0) (ofReading (foundAt s cells values marks u (locationAt (getD places i 0)))) (Value (getD numbers i (pos 0)))

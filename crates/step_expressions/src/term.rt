@@ -1,0 +1,168 @@
+// What a term comes to at a record, and whether a test holds there.
+ghost use mathlib.Core.Path.{_≡_};
+ghost use Prim.Native.Nat.{_<_};
+ghost use Rattle.register.specs.Cells.{cellsOf};
+ghost use Rattle.register.specs.Shape.{Parts};
+ghost use Rattle.program.specs.Code.{codesKept};
+ghost use Rattle.program.specs.Stored.{termIn, testIn};
+ghost use Rattle.machine.specs.Value.{compare as compareOf};
+ghost use Rattle.step_terms.specs.Found.{readsOf, TermFound, TestFound};
+ghost use Rattle.step_expressions.specs.Evaluated.{evaluated};
+ghost use Rattle.step_expressions.specs.Tests.{answered, compared, tested};
+use crate::evaluate;
+use crate::operation;
+use crate::operation::Evaluated;
+use program::location::Location;
+use program::location::Places;
+use program::rule::Comparison;
+use program::rule::Test;
+use program::term::Term;
+use register::Sizes;
+use step_terms::term;
+
+// A test holds or fails; or one of its sums leaves the range.
+pub enum Tested {
+    Holds,
+    Fails,
+    OutOfRange,
+}
+
+// A term at record u. The chains of the codes are for the contract: the places say where they are found.
+pub fn term_value(
+    cells: &[u8],
+    filled: &[u8],
+    values: &[i64],
+    marks: &[u8],
+    sizes: Sizes,
+    u: usize,
+    kinds: &[u8],
+    numbers: &[i32],
+    chains: &[u64],
+    places: &[u8],
+    term: Term,
+    at: Location,
+) -> Evaluated
+    requires { ⌜ Parts sizes (now cells) (now filled) × (u < sizes .records) × TermFound sizes (cellsOf (now cells) (now filled)) (now values) (now marks) u
+        (codesKept (now kinds) (now numbers) (now chains)) (now places) at term ⌝ }
+    ensures { λ r. ⌜ r ≡ evaluated (readsOf sizes (now (cells .entry)) (now (filled .entry)) u)
+        (termIn (codesKept (now (kinds .entry)) (now (numbers .entry)) (now (chains .entry))) term) ⌝ }
+{
+    match term {
+        Term::Chain(_) => operation::of_reading(term::found_at(
+            cells,
+            filled,
+            values,
+            marks,
+            sizes,
+            u,
+            at,
+        )),
+        Term::Number(value) => Evaluated::Value(value),
+        Term::Tree(from, to) => evaluate::evaluate(
+            cells,
+            filled,
+            values,
+            marks,
+            sizes,
+            u,
+            kinds,
+            numbers,
+            places,
+            from as usize,
+            to as usize,
+        ),
+    }
+}
+
+pub fn compare(comparison: Comparison, a: i32, b: i32) -> bool
+    ensures { λ r. ⌜ r ≡ compareOf comparison a b ⌝ }
+{
+    match comparison {
+        Comparison::Less => integers::less(a, b),
+        Comparison::Equal => integers::equal(a, b),
+        Comparison::Unequal => !integers::equal(a, b),
+    }
+}
+
+fn answer(holds: bool) -> Tested
+    ensures { λ r. ⌜ r ≡ answered holds ⌝ }
+{
+    if holds { Tested::Holds } else { Tested::Fails }
+}
+
+// Two sides: an unfilled one never holds, and a sum out of range is told even where the other side is unfilled.
+fn compare_sides(x: Evaluated, comparison: Comparison, y: Evaluated) -> Tested
+    ensures { λ r. ⌜ r ≡ compared comparison x y ⌝ }
+{
+    match x {
+        Evaluated::OutOfRange => Tested::OutOfRange,
+        Evaluated::Missing => match y {
+            Evaluated::OutOfRange => Tested::OutOfRange,
+            Evaluated::Missing => Tested::Fails,
+            Evaluated::Value(_) => Tested::Fails,
+        },
+        Evaluated::Value(a) => match y {
+            Evaluated::OutOfRange => Tested::OutOfRange,
+            Evaluated::Missing => Tested::Fails,
+            Evaluated::Value(b) => answer(compare(comparison, a, b)),
+        },
+    }
+}
+
+// A test at record u.
+pub fn test_at(
+    cells: &[u8],
+    filled: &[u8],
+    values: &[i64],
+    marks: &[u8],
+    sizes: Sizes,
+    u: usize,
+    kinds: &[u8],
+    numbers: &[i32],
+    chains: &[u64],
+    places: &[u8],
+    test: Test,
+    at: Places,
+) -> Tested
+    requires { ⌜ Parts sizes (now cells) (now filled) × (u < sizes .records) × TestFound sizes (cellsOf (now cells) (now filled)) (now values) (now marks) u
+        (codesKept (now kinds) (now numbers) (now chains)) (now places) at test ⌝ }
+    ensures { λ r. ⌜ r ≡ tested (readsOf sizes (now (cells .entry)) (now (filled .entry)) u)
+        (testIn (codesKept (now (kinds .entry)) (now (numbers .entry)) (now (chains .entry))) test) ⌝ }
+{
+    match test {
+        Test::Always => Tested::Holds,
+        Test::When(x, comparison, y) => {
+            let first = at.first;
+            let second = at.second;
+            let left = term_value(
+                cells,
+                filled,
+                values,
+                marks,
+                sizes,
+                u,
+                kinds,
+                numbers,
+                chains,
+                places,
+                x,
+                first,
+            );
+            let right = term_value(
+                cells,
+                filled,
+                values,
+                marks,
+                sizes,
+                u,
+                kinds,
+                numbers,
+                chains,
+                places,
+                y,
+                second,
+            );
+            compare_sides(left, comparison, right)
+        }
+    }
+}

@@ -1,0 +1,181 @@
+-- `text_actions::action::read_local` meets its contract.
+-- Assumes nothing.
+use mathlib.Core.Path.{sym, subst, _∙_}
+use native.Mathlib.Omega.{arith}
+use borrow.Author.Needs.{needs}
+use borrow.Author.Tests.{not-true, not-false}
+use Rattle.chain_text.specs.Text.{isReferenceLetter}
+use Rattle.chain_text.proofs.Steps.{capital-low}
+use Rattle.text_expressions.specs.Reading.{ExpressionAt}
+use Rattle.text_sides.specs.Word.{PassesAssigned}
+use Rattle.text_sides.proofs.Passing.{with-same}
+use Rattle.text_sides.proofs.Expressions.{codes-inside}
+use Rattle.text_actions.proofs.Forms.{no-action, whole-more, local-formed, local-none}
+use Rattle.text_actions.proofs.Actions.{roomy-later, local-read}
+use Rattle.text_actions.proofs.action.read_local.Statement.{statement}
+use Rattle.text_actions.proofs.action.read_local.Tie as tie
+
+assigned-requires : tie.Need-assigned-requires
+assigned-requires c κs = search needs
+
+enum-known-start : tie.Need-enum-known-start
+enum-known-start c = search needs
+
+enum-told : tie.Need-enum-told
+enum-told c = search needs
+
+returns : tie.Need-returns
+returns c =
+    let v = subst (PassesAssigned _ _) (c .enum-told .given .1) (c .before .before .assigned .ensures) in
+    no-action (v .none _)
+
+read-requires : tie.Need-read-requires
+read-requires c κs =
+    let s = c .before .before .before .before in
+    let i = s .before .before .before .before .before .before in
+    let p = i .pre in
+    let v = subst (PassesAssigned _ _) (s .start .given .1) (s .before .before .assigned .ensures) in
+    (p .0, v .behind .inside, roomy-later (v .behind) (p .3))
+
+enum-known-seen : tie.Need-enum-known-seen
+enum-known-seen c = search needs
+
+enum-told-2 : tie.Need-enum-told-2
+enum-told-2 c = search needs
+
+same-length : tie.Need-same-length
+same-length c = search needs
+
+same-length-2 : tie.Need-same-length-2
+same-length-2 c = search needs
+
+same-length-3 : tie.Need-same-length-3
+same-length-3 c = search needs
+
+returns-2 : tie.Need-returns-2
+returns-2 c =
+    let r = c .before .before .before .before .before .before .before in
+    let s = r .before .before .before .before .before in
+    let v = subst (PassesAssigned _ _) (s .start .given .1) (s .before .before .assigned .ensures) in
+    no-action (local-none _ v (subst (ExpressionAt _ _ _ _ _ _) (c .enum-told2 .given .1) (r .read .ensures)))
+
+ends-requires : tie.Need-ends-requires
+ends-requires c κs =
+    let k = c .before in
+    let w = subst (ExpressionAt _ _ _ _ _ _) (k .seen .given .1) (k .before .before .before .before .before .before .before .read .ensures) in
+    w .inside
+
+same-length-4 : tie.Need-same-length-4
+same-length-4 c = search needs
+
+same-length-5 : tie.Need-same-length-5
+same-length-5 c = search needs
+
+same-length-6 : tie.Need-same-length-6
+same-length-6 c = search needs
+
+returns-3 : tie.Need-returns-3
+returns-3 c =
+    let k = c .before .before .before in
+    let r = k .before .before .before .before .before .before .before in
+    let s = r .before .before .before .before .before in
+    let v = subst (PassesAssigned _ _) (s .start .given .1) (s .before .before .assigned .ensures) in
+    let w = subst (ExpressionAt _ _ _ _ _ _) (k .seen .given .1) (r .read .ensures) in
+    record { none = whole-more _ (local-formed _ v (w .form-is)) (sym (c .before .ends .ensures) ∙ not-true _ (c .if1 .taken)) }
+
+field-of-requires : tie.Need-field-of-requires
+field-of-requires c κs =
+    let k = c .before .before .before in
+    let i = k .before .before .before .before .before .before .before .before .before .before .before .before .before .before .before .before .before .before in
+    capital-low _ (i .pre .2)
+
+set-in-requires : tie.Need-set-in-requires
+set-in-requires c κs =
+    let k = c .before .before .before .before .before .before .before in
+    let r = k .before .before .before .before .before .before .before in
+    let i = r .before .before .before .before .before .before .before .before .before .before .before in
+    let w = subst (ExpressionAt _ _ _ _ _ _) (k .seen .given .1) (r .read .ensures) in
+    codes-inside w (omega (arith, i .pre .4, r .read .kept .1 .1 .1 .0))
+
+names-field-requires : tie.Need-names-field-requires
+names-field-requires c κs =
+    let k = c .before .before .before .before .before .before .before .before in
+    let i = k .before .before .before .before .before .before .before .before .before .before .before .before .before .before .before .before .before .before in
+    (i .pre .0 .references≤, i .pre .0 .measures≤)
+
+same-requires : tie.Need-same-requires
+same-requires c κs = search needs
+
+of-expression-requires : tie.Need-of-expression-requires
+of-expression-requires c κs = search needs
+
+with-kinds-requires : tie.Need-with-kinds-requires
+with-kinds-requires c κs = search needs
+
+codes-behind-set-requires : tie.Need-codes-behind-set-requires
+codes-behind-set-requires c κs =
+    let k = c .before .before .before .before .before .before .before .before .before .before .before .before in
+    let r = k .before .before .before .before .before .before .before in
+    let i = r .before .before .before .before .before .before .before .before .before .before .before in
+    let w = subst (ExpressionAt _ _ _ _ _ _) (k .seen .given .1) (r .read .ensures) in
+    codes-inside w (omega (arith, i .pre .4, r .read .kept .1 .1 .1 .0)) .0
+
+same-length-7 : tie.Need-same-length-7
+same-length-7 c =
+    let k = c .before .before .before .before .before .before .before .before .before .before .before .before .before in
+    k .before .before .before .before .before .before .before .read .kept .1 .1 .1 .0
+
+same-length-8 : tie.Need-same-length-8
+same-length-8 c = search needs
+
+same-length-9 : tie.Need-same-length-9
+same-length-9 c = search needs
+
+returns-4 : tie.Need-returns-4
+unfolding isReferenceLetter
+returns-4 c =
+    let k = c .before .before .before .before .before .before .before .before .before .before .before .before .before in
+    let r = k .before .before .before .before .before .before .before in
+    let s = r .before .before .before .before .before in
+    let i = s .before .before .before .before .before .before in
+    let v = subst (PassesAssigned _ _) (s .start .given .1) (s .before .before .assigned .ensures) in
+    let w = subst (ExpressionAt _ _ _ _ _ _) (k .seen .given .1) (r .read .ensures) in
+    let n = c .before .before .before .before in
+    let f = n .before .before .before .before .before in
+    local-read (i .pre .0) _ v w (sym (f .before .before .ends .ensures) ∙ not-false _ (f .before .if1 .left))
+    (f .field-of .ensures) (c .before .before .before .before .before .set-in .ensures)
+    (c .before .with-kinds .ensures
+    ∙ with-same (c .before .before .of-expression .ensures) (n .names-field .ensures) (c .before .before .before .same .ensures))
+    (c .codes-behind-set .ensures)
+
+pub read-local-spec : {M : Type 1} → statement M
+read-local-spec =
+    tie.close
+    (tie.spec
+    assigned-requires
+    enum-known-start
+    enum-told
+    returns
+    read-requires
+    enum-known-seen
+    enum-told-2
+    same-length
+    same-length-2
+    same-length-3
+    returns-2
+    ends-requires
+    same-length-4
+    same-length-5
+    same-length-6
+    returns-3
+    field-of-requires
+    set-in-requires
+    names-field-requires
+    same-requires
+    of-expression-requires
+    with-kinds-requires
+    codes-behind-set-requires
+    same-length-7
+    same-length-8
+    same-length-9
+    returns-4)

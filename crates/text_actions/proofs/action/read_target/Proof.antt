@@ -1,0 +1,124 @@
+-- `text_actions::action::read_target` meets its contract.
+-- Assumes nothing.
+use mathlib.Core.Path.{subst}
+use mathlib.Core.Bool.{false}
+use borrow.Author.Needs.{needs}
+use Rattle.text_syntax.specs.Token.{openSquare, closeSquare}
+use Rattle.text_terms.specs.Place.{Passes}
+use Rattle.text_terms.specs.Term.{ChainPartsAt}
+use Rattle.text_terms.proofs.ChainForms.{behind-behind}
+use Rattle.text_sides.specs.Word.{PassesLetter}
+use Rattle.text_actions.proofs.Forms.{target-none, target-unopened, target-unread, target-unclosed, target-closed}
+use Rattle.text_actions.proofs.action.read_target.Statement.{statement}
+use Rattle.text_actions.proofs.action.read_target.Tie as tie
+
+letter-requires : tie.Need-letter-requires
+letter-requires c κs = search needs
+
+enum-known-letter : tie.Need-enum-known-letter
+enum-known-letter c = search needs
+
+enum-told : tie.Need-enum-told
+enum-told c = search needs
+
+returns : tie.Need-returns
+returns c = target-none (subst (PassesLetter _ _) (c .enum-told .given .1) (c .before .before .letter .ensures))
+
+open-square-requires : tie.Need-open-square-requires
+open-square-requires c κs =
+    let l = subst (PassesLetter _ _) (c .before .letter2 .given .1) (c .before .before .before .letter .ensures) in
+    l .passing .behind .inside
+
+enum-known-inner : tie.Need-enum-known-inner
+enum-known-inner c = search needs
+
+enum-told-2 : tie.Need-enum-told-2
+enum-told-2 c = search needs
+
+returns-2 : tie.Need-returns-2
+returns-2 c =
+    let s = c .before .before .before .before in
+    let l = subst (PassesLetter _ _) (s .letter2 .given .1) (s .before .before .letter .ensures) in
+    target-unopened (l .passing)
+    (subst (Passes false false openSquare _ _) (c .enum-told2 .given .1) (c .before .before .open-square .ensures))
+
+read-chain-requires : tie.Need-read-chain-requires
+read-chain-requires c κs =
+    let o = subst (Passes false false openSquare _ _) (c .before .inner .given .1) (c .before .before .before .open-square .ensures) in
+    (c .before .before .before .before .before .before .before .before .before .pre .0, o .behind .inside)
+
+enum-known-parts : tie.Need-enum-known-parts
+enum-known-parts c = search needs
+
+enum-told-3 : tie.Need-enum-told-3
+enum-told-3 c = search needs
+
+returns-3 : tie.Need-returns-3
+returns-3 c =
+    let i = c .before .before .before .before in
+    let s = i .before .before .before .before in
+    let l = subst (PassesLetter _ _) (s .letter2 .given .1) (s .before .before .letter .ensures) in
+    let o = subst (Passes false false openSquare _ _) (i .inner .given .1) (i .before .before .open-square .ensures) in
+    target-unread (l .passing) o (subst (ChainPartsAt _ false _ _) (c .enum-told3 .given .1) (c .before .before .read-chain .ensures))
+
+close-square-requires : tie.Need-close-square-requires
+close-square-requires c κs =
+    let w = subst (ChainPartsAt _ false _ _) (c .before .parts .given .1) (c .before .before .before .read-chain .ensures) in
+    w .behind .inside
+
+enum-known-end : tie.Need-enum-known-end
+enum-known-end c = search needs
+
+enum-told-4 : tie.Need-enum-told-4
+enum-told-4 c = search needs
+
+returns-4 : tie.Need-returns-4
+returns-4 c =
+    let p = c .before .before .before .before in
+    let i = p .before .before .before .before in
+    let s = i .before .before .before .before in
+    let l = subst (PassesLetter _ _) (s .letter2 .given .1) (s .before .before .letter .ensures) in
+    let o = subst (Passes false false openSquare _ _) (i .inner .given .1) (i .before .before .open-square .ensures) in
+    let w = subst (ChainPartsAt _ false _ _) (p .parts .given .1) (p .before .before .read-chain .ensures) in
+    target-unclosed (l .passing) o (w .form-is)
+    (subst (Passes false false closeSquare _ _) (c .enum-told4 .given .1) (c .before .before .close-square .ensures))
+
+returns-5 : tie.Need-returns-5
+returns-5 c =
+    let e = c .before in
+    let p = e .before .before .before .before in
+    let i = p .before .before .before .before in
+    let s = i .before .before .before .before in
+    let l = subst (PassesLetter _ _) (s .letter2 .given .1) (s .before .before .letter .ensures) in
+    let o = subst (Passes false false openSquare _ _) (i .inner .given .1) (i .before .before .open-square .ensures) in
+    let w = subst (ChainPartsAt _ false _ _) (p .parts .given .1) (p .before .before .read-chain .ensures) in
+    let x = subst (Passes false false closeSquare _ _) (e .end .given .1) (e .before .before .close-square .ensures) in
+    record {
+      inner = w .letters;
+      form-is = target-closed (l .passing) o (w .form-is) x;
+      parts-are = w .parts-are;
+      capital = l .capital;
+      behind = behind-behind (behind-behind (l .passing .behind) (o .behind)) (behind-behind (w .behind) (x .behind));
+    }
+
+pub read-target-spec : {M : Type 1} → statement M
+read-target-spec =
+    tie.close
+    (tie.spec
+    letter-requires
+    enum-known-letter
+    enum-told
+    returns
+    open-square-requires
+    enum-known-inner
+    enum-told-2
+    returns-2
+    read-chain-requires
+    enum-known-parts
+    enum-told-3
+    returns-3
+    close-square-requires
+    enum-known-end
+    enum-told-4
+    returns-4
+    returns-5)

@@ -1,0 +1,2 @@
+-- What the readers of rules answer.
+pub mod Action

@@ -1,0 +1,199 @@
+// Rules without their test, to the end of the line.
+ghost use mathlib.Core.Path.{_≡_};
+ghost use mathlib.Core.Bool.{true, false};
+ghost use mathlib.Core.List.{_∷_};
+ghost use Prim.Native.Nat.{_≤_};
+ghost use lib.ListN.{length};
+ghost use Rattle.register.specs.Shape.{Limits};
+ghost use Rattle.chain_text.specs.Text.{isCapital};
+ghost use Rattle.program.specs.Code.{codesKept};
+ghost use Rattle.text_syntax.specs.Token as T;
+ghost use Rattle.text_syntax.specs.Grammar.{localForm};
+ghost use Rattle.text_terms.specs.Place.{tokensFrom};
+ghost use Rattle.text_expressions.specs.Codes.{Roomy};
+ghost use Rattle.text_actions.specs.Action.{TargetAt, SentBehind, actionForm, ActionAt};
+use chain_text::letters;
+use program::rule::Rule;
+use register::Sizes;
+use text_expressions::expression;
+use text_expressions::expression::ExpressionRead;
+use text_lexer::lexer;
+use text_lexer::token::Token;
+use text_rules::line::Checks;
+use text_sides::checks;
+use text_sides::side;
+use text_sides::side::SideRead;
+use text_sides::word;
+use text_sides::word::LetterRead;
+use text_sides::word::WriteRead;
+use text_terms::place;
+use text_terms::term;
+use text_terms::term::TermParts;
+use text_terms::term::TermRead;
+use text_words::token::Place;
+
+// A rule, what is asked of it and the number of codes then; or no rule stands there to the end of the line.
+pub enum ActionRead {
+    Action(Rule, Checks, usize),
+    NoForm,
+}
+
+// `[u] := X` behind F.
+fn read_local(
+    line: &[u8],
+    at: usize,
+    letter: u8,
+    sizes: Sizes,
+    kinds: &mut [u8],
+    numbers: &mut [i32],
+    chains: &mut [u64],
+    count: usize,
+) -> ActionRead
+    requires { ⌜ Limits sizes × (at ≤ length (now line)) × (isCapital letter ≡ true)
+        × Roomy (codesKept (now kinds) (now numbers) (now chains)) (now line) at count × (length (now kinds) ≤ 65536) ⌝ }
+    ensures { λ r.
+        ⌜ ActionAt sizes (now (line .entry)) at (localForm (T.letter letter ∷ tokensFrom false (now (line .entry)) at))
+        (codesKept (now (kinds .entry)) (now (numbers .entry)) (now (chains .entry)))
+        (codesKept (now (kinds .exit)) (now (numbers .exit)) (now (chains .exit))) count r ⌝ }
+{
+    let Place::At(start) = word::assigned(line, at) else {
+        return ActionRead::NoForm;
+    };
+    let ExpressionRead::Parts(seen, end, to) = expression::read(
+        line,
+        start,
+        sizes,
+        kinds,
+        numbers,
+        chains,
+        count,
+    ) else {
+        return ActionRead::NoForm;
+    };
+    if !word::ends(line, end) {
+        return ActionRead::NoForm;
+    }
+    let field = letters::field_of(letter);
+    let rule = side::set_in(kinds, numbers, chains, field, count, to);
+    let named = letters::names_field(sizes, letter);
+    let kinded = checks::same(letter < b'M', seen.reference);
+    let asked = checks::with_kinds(checks::of_expression(seen), named, kinded);
+    ActionRead::Action(rule, asked, side::codes_behind_set(count, to))
+}
+
+// F and C of a remote target `F[C]`, and the place behind it; or none stands there.
+pub enum TargetRead {
+    Target(u8, TermParts, usize),
+    NoForm,
+}
+
+// `F[C]` at `at`.
+fn read_target(line: &[u8], at: usize, sizes: Sizes) -> TargetRead
+    requires { ⌜ Limits sizes × (at ≤ length (now line)) ⌝ }
+    ensures { λ r. ⌜ TargetAt sizes (now (line .entry)) at r ⌝ }
+{
+    let LetterRead::Letter(letter, open) = word::letter(line, at) else {
+        return TargetRead::NoForm;
+    };
+    let Place::At(inner) = place::open_square(line, open) else {
+        return TargetRead::NoForm;
+    };
+    let TermRead::Parts(parts, close) = term::read_chain(line, inner, false, sizes) else {
+        return TargetRead::NoForm;
+    };
+    let Place::At(end) = place::close_square(line, close) else {
+        return TargetRead::NoForm;
+    };
+    TargetRead::Target(letter, parts, end)
+}
+
+// `<?= X` or `+= X` behind `remote F[C]`.
+fn read_sent(
+    line: &[u8],
+    at: usize,
+    letter: u8,
+    parts: TermParts,
+    sizes: Sizes,
+    kinds: &mut [u8],
+    numbers: &mut [i32],
+    chains: &mut [u64],
+    count: usize,
+) -> ActionRead
+    requires { ⌜ Limits sizes × (at ≤ length (now line)) × (isCapital letter ≡ true)
+        × Roomy (codesKept (now kinds) (now numbers) (now chains)) (now line) at count × (length (now kinds) ≤ 65536) ⌝ }
+    ensures { λ r.
+        ⌜ SentBehind sizes (now (line .entry)) at letter parts
+        (codesKept (now (kinds .entry)) (now (numbers .entry)) (now (chains .entry)))
+        (codesKept (now (kinds .exit)) (now (numbers .exit)) (now (chains .exit))) count r ⌝ }
+{
+    let WriteRead::Write(sort, start) = word::write(line, at) else {
+        return ActionRead::NoForm;
+    };
+    let SideRead::Side(seen, term, end, codes) = side::read(
+        line,
+        start,
+        sizes,
+        kinds,
+        numbers,
+        chains,
+        count,
+    ) else {
+        return ActionRead::NoForm;
+    };
+    if !word::ends(line, end) {
+        return ActionRead::NoForm;
+    }
+    let rule = Rule::Remote(sort, letters::field_of(letter), parts.packed, term);
+    let named = letters::names_field(sizes, letter);
+    let kinded = parts.reference & checks::sent_kinds(sort, letter < b'M', seen.reference);
+    let terms = checks::both(checks::of_target(parts), checks::of_expression(seen));
+    ActionRead::Action(rule, checks::with_kinds(terms, named, kinded), codes)
+}
+
+// The rule at `at`, by its first token.
+pub fn read(
+    line: &[u8],
+    at: usize,
+    sizes: Sizes,
+    kinds: &mut [u8],
+    numbers: &mut [i32],
+    chains: &mut [u64],
+    count: usize,
+) -> ActionRead
+    requires { ⌜ Limits sizes × (at ≤ length (now line)) × Roomy (codesKept (now kinds) (now numbers) (now chains)) (now line) at count
+        × (length (now kinds) ≤ 65536) ⌝ }
+    ensures { λ r.
+        ⌜ ActionAt sizes (now (line .entry)) at (actionForm (tokensFrom false (now (line .entry)) at))
+        (codesKept (now (kinds .entry)) (now (numbers .entry)) (now (chains .entry)))
+        (codesKept (now (kinds .exit)) (now (numbers .exit)) (now (chains .exit))) count r ⌝ }
+{
+    let first = lexer::next_token(line, at, false);
+    let token = first.token;
+    match token {
+        Token::Letter(letter) => read_local(
+            line,
+            first.end,
+            letter,
+            sizes,
+            kinds,
+            numbers,
+            chains,
+            count,
+        ),
+        Token::Remote => match read_target(line, first.end, sizes) {
+            TargetRead::Target(letter, parts, end) => read_sent(
+                line,
+                end,
+                letter,
+                parts,
+                sizes,
+                kinds,
+                numbers,
+                chains,
+                count,
+            ),
+            TargetRead::NoForm => ActionRead::NoForm,
+        },
+        _ => ActionRead::NoForm,
+    }
+}

@@ -1,0 +1,2 @@
+// Rules without their test, to the end of the line.
+pub mod action;

@@ -1,0 +1,175 @@
+// Expressions, operands and groups, which read each other, with a remaining depth.
+ghost use Prim.Native.Nat.{_≤_};
+ghost use lib.ListN.{length};
+ghost use Rattle.register.specs.Shape.{Limits};
+ghost use Rattle.program.specs.Code.{codesKept};
+ghost use Rattle.text_syntax.specs.Grammar.{expression, minimum, operand};
+ghost use Rattle.text_terms.specs.Term.{NoTerm};
+ghost use Rattle.text_expressions.specs.Codes.{Roomy};
+ghost use Rattle.text_expressions.specs.Reading.{ReadingAt, EndInside, GroupedBy};
+use crate::code;
+use crate::join;
+use crate::join::Joining;
+use crate::join::Pending;
+use crate::join::Reading;
+use crate::summary;
+use crate::summary::Summary;
+use register::Sizes;
+use text_terms::place;
+use text_terms::term;
+use text_terms::term::TermRead;
+use text_words::token::Place;
+
+// The expression at `at`: what `<?` joins, joined by `+` and `-`.
+pub fn read_expression(
+    line: &[u8],
+    at: usize,
+    sizes: Sizes,
+    room: usize,
+    before: Summary,
+    kinds: &mut [u8],
+    numbers: &mut [i32],
+    chains: &mut [u64],
+    count: usize,
+) -> Reading
+    requires { ⌜ Limits sizes × (room ≤ 8) × (at ≤ length (now line)) × (before .operators ≤ at) ⌝ }
+    requires { ⌜ Roomy (codesKept (now kinds) (now numbers) (now chains)) (now line) at count ⌝ }
+    ensures { λ r.
+        ⌜ ReadingAt expression sizes room before (now (line .entry)) at
+        (codesKept (now (kinds .entry)) (now (numbers .entry)) (now (chains .entry)))
+        (codesKept (now (kinds .exit)) (now (numbers .exit)) (now (chains .exit))) count r ⌝ }
+{
+    let mut next = Pending {
+        at,
+        seen: before,
+        codes: count,
+        kind: 0,
+    };
+    loop {
+        let seen = next.seen;
+        let i = next.at;
+        let codes = next.codes;
+        let read = read_minimum(line, i, sizes, room, seen, kinds, numbers, chains, codes);
+        match join::joined(line, kinds, read, next.kind, true) {
+            Joining::Next(more) => next = more,
+            Joining::Done(done) => return done,
+        }
+    }
+}
+
+// Operands joined by `<?`.
+fn read_minimum(
+    line: &[u8],
+    at: usize,
+    sizes: Sizes,
+    room: usize,
+    before: Summary,
+    kinds: &mut [u8],
+    numbers: &mut [i32],
+    chains: &mut [u64],
+    count: usize,
+) -> Reading
+    requires { ⌜ Limits sizes × (room ≤ 8) × (at ≤ length (now line)) × (before .operators ≤ at) ⌝ }
+    requires { ⌜ Roomy (codesKept (now kinds) (now numbers) (now chains)) (now line) at count ⌝ }
+    ensures { λ r.
+        ⌜ ReadingAt minimum sizes room before (now (line .entry)) at
+        (codesKept (now (kinds .entry)) (now (numbers .entry)) (now (chains .entry)))
+        (codesKept (now (kinds .exit)) (now (numbers .exit)) (now (chains .exit))) count r ⌝ }
+{
+    let mut next = Pending {
+        at,
+        seen: before,
+        codes: count,
+        kind: 0,
+    };
+    loop {
+        let seen = next.seen;
+        let i = next.at;
+        let codes = next.codes;
+        let read = read_operand(line, i, sizes, room, seen, kinds, numbers, chains, codes);
+        match join::joined(line, kinds, read, next.kind, false) {
+            Joining::Next(more) => next = more,
+            Joining::Done(done) => return done,
+        }
+    }
+}
+
+// A term or a group.
+fn read_operand(
+    line: &[u8],
+    at: usize,
+    sizes: Sizes,
+    room: usize,
+    before: Summary,
+    kinds: &mut [u8],
+    numbers: &mut [i32],
+    chains: &mut [u64],
+    count: usize,
+) -> Reading
+    requires { ⌜ Limits sizes × (room ≤ 8) × (at ≤ length (now line)) × (before .operators ≤ at) ⌝ }
+    requires { ⌜ Roomy (codesKept (now kinds) (now numbers) (now chains)) (now line) at count ⌝ }
+    ensures { λ r.
+        ⌜ ReadingAt operand sizes room before (now (line .entry)) at
+        (codesKept (now (kinds .entry)) (now (numbers .entry)) (now (chains .entry)))
+        (codesKept (now (kinds .exit)) (now (numbers .exit)) (now (chains .exit))) count r ⌝ }
+{
+    let TermRead::Parts(parts, end) = term::read_term(line, at, sizes) else {
+        return read_group(line, at, sizes, room, before, kinds, numbers, chains, count);
+    };
+    code::put_term(kinds, numbers, chains, count, parts);
+    Reading::Read(summary::with_term(8 - room, before, parts), end, count + 1)
+}
+
+// A group, where no term stands: an expression in brackets, of which one less remains.
+fn read_group(
+    line: &[u8],
+    at: usize,
+    sizes: Sizes,
+    room: usize,
+    before: Summary,
+    kinds: &mut [u8],
+    numbers: &mut [i32],
+    chains: &mut [u64],
+    count: usize,
+) -> Reading
+    requires { ⌜ Limits sizes × (room ≤ 8) × (at ≤ length (now line)) × (before .operators ≤ at) ⌝ }
+    requires { ⌜ Roomy (codesKept (now kinds) (now numbers) (now chains)) (now line) at count × NoTerm (now line) at ⌝ }
+    ensures { λ r.
+        ⌜ ReadingAt operand sizes room before (now (line .entry)) at
+        (codesKept (now (kinds .entry)) (now (numbers .entry)) (now (chains .entry)))
+        (codesKept (now (kinds .exit)) (now (numbers .exit)) (now (chains .exit))) count r ⌝ }
+{
+    let Place::At(inner) = place::open_round(line, at) else {
+        return Reading::NoForm;
+    };
+    if room == 0 {
+        return Reading::Deep;
+    }
+    let read = read_expression(
+        line,
+        inner,
+        sizes,
+        room - 1,
+        before,
+        kinds,
+        numbers,
+        chains,
+        count,
+    );
+    close_group(line, read)
+}
+
+// A group whose expression is read: `)` must stand behind it.
+fn close_group(line: &[u8], inner: Reading) -> Reading
+    requires { ⌜ EndInside (now line) inner ⌝ }
+    ensures { λ r. ⌜ GroupedBy (now (line .entry)) inner r ⌝ }
+{
+    match inner {
+        Reading::Read(seen, at, count) => match place::close_round(line, at) {
+            Place::At(end) => Reading::Read(seen, end, count),
+            Place::Nothing => Reading::NoForm,
+        },
+        Reading::NoForm => Reading::NoForm,
+        Reading::Deep => Reading::Deep,
+    }
+}

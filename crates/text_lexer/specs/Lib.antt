@@ -1,0 +1,2 @@
+-- What the lexer answers.
+pub mod Lexeme

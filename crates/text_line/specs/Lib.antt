@@ -1,2 +1,0 @@
--- What the line reader answers.
-pub mod LineRead

@@ -1,2 +1,0 @@
-// The line reader.
-pub mod line;

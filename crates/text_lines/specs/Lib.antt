@@ -1,0 +1,2 @@
+-- What the line reader answers.
+pub mod Line

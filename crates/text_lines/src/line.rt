@@ -1,0 +1,260 @@
+// Lines, by their first token.
+ghost use mathlib.Core.Path.{_≡_};
+ghost use mathlib.Core.Bool.{true, false};
+ghost use Prim.Native.Nat.{_≤_};
+ghost use lib.ListN.{length};
+ghost use Rattle.register.specs.Shape.{Limits};
+ghost use Rattle.program.specs.Code.{codesKept};
+ghost use Rattle.text_syntax.specs.Lexing.{tokens};
+ghost use Rattle.text_syntax.specs.Grammar.{anyForm};
+ghost use Rattle.text_terms.specs.Place.{tokensFrom};
+ghost use Rattle.text_expressions.specs.Codes.{Roomy};
+ghost use Rattle.text_lines.specs.Line.{noParts, whenParts, alwaysParts, wordRead, loopRead, RuledBehind, ComparedBehind, testedBehind, LineAt};
+use chain_text::letters;
+use program::rule::Comparison;
+use program::rule::Slot;
+use program::rule::Test;
+use program::term::Term;
+use register::Sizes;
+use text_actions::action;
+use text_actions::action::ActionRead;
+use text_expressions::summary::Summary;
+use text_lexer::lexer;
+use text_lexer::token::Token;
+use text_rules::line::Checks;
+use text_rules::line::LineRead;
+use text_sides::checks;
+use text_sides::side;
+use text_sides::side::SideRead;
+use text_sides::word;
+use text_sides::word::ComparisonRead;
+use text_sides::word::LetterRead;
+use text_words::token::Place;
+
+// A line and the number of codes behind it.
+pub struct LineParts {
+    pub line: LineRead,
+    pub codes: usize,
+}
+
+// A test and what is asked of it.
+pub struct TestParts {
+    pub test: Test,
+    pub checks: Checks,
+}
+
+// The first side of a test.
+pub struct FirstSide {
+    pub seen: Summary,
+    pub term: Term,
+    pub comparison: Comparison,
+}
+
+fn no_form(count: usize) -> LineParts
+    ensures { λ r. ⌜ r ≡ noParts count ⌝ }
+{
+    LineParts {
+        line: LineRead::NoForm,
+        codes: count,
+    }
+}
+
+// A line that is one word.
+fn word_line(line: &[u8], at: usize, word: LineRead) -> LineRead
+    requires { ⌜ at ≤ length (now line) ⌝ }
+    ensures { λ r. ⌜ r ≡ wordRead word (tokensFrom false (now (line .entry)) at) ⌝ }
+{
+    if word::ends(line, at) {
+        return word;
+    }
+    LineRead::NoForm
+}
+
+// The field of a loop, behind `loop`.
+fn read_loop(line: &[u8], at: usize, sizes: Sizes) -> LineRead
+    requires { ⌜ Limits sizes × (at ≤ length (now line)) ⌝ }
+    ensures { λ r. ⌜ r ≡ loopRead sizes (tokensFrom false (now (line .entry)) at) ⌝ }
+{
+    let LetterRead::Letter(letter, end) = word::letter(line, at) else {
+        return LineRead::NoForm;
+    };
+    let field = letters::field_of(letter);
+    word_line(
+        line,
+        end,
+        LineRead::Loop(field, letters::names_field(sizes, letter)),
+    )
+}
+
+// The rule at `at`, behind its test.
+fn read_ruled(
+    line: &[u8],
+    at: usize,
+    test: TestParts,
+    sizes: Sizes,
+    kinds: &mut [u8],
+    numbers: &mut [i32],
+    chains: &mut [u64],
+    count: usize,
+) -> LineParts
+    requires { ⌜ Limits sizes × (at ≤ length (now line)) × Roomy (codesKept (now kinds) (now numbers) (now chains)) (now line) at count
+        × (length (now kinds) ≤ 65536) ⌝ }
+    ensures { λ r.
+        ⌜ RuledBehind sizes (now (line .entry)) at test
+        (codesKept (now (kinds .entry)) (now (numbers .entry)) (now (chains .entry)))
+        (codesKept (now (kinds .exit)) (now (numbers .exit)) (now (chains .exit))) count r ⌝ }
+{
+    let ActionRead::Action(rule, asked, codes) = action::read(
+        line,
+        at,
+        sizes,
+        kinds,
+        numbers,
+        chains,
+        count,
+    ) else {
+        return no_form(count);
+    };
+    let own = test.test;
+    let slot = Slot { test: own, rule };
+    let before = test.checks;
+    LineParts {
+        line: LineRead::Rule(slot, checks::both(before, asked)),
+        codes,
+    }
+}
+
+fn when(first: FirstSide, seen: Summary, second: Term) -> TestParts
+    ensures { λ r. ⌜ r ≡ whenParts first seen second ⌝ }
+{
+    let other = first.seen;
+    let x = first.term;
+    let comparison = first.comparison;
+    let sides = checks::both(checks::of_expression(other), checks::of_expression(seen));
+    let kinded = checks::same(other.reference, seen.reference);
+    TestParts {
+        test: Test::When(x, comparison, second),
+        checks: checks::with_kinds(sides, true, kinded),
+    }
+}
+
+// `Y:` and a rule, behind `if X <`.
+fn read_compared(
+    line: &[u8],
+    at: usize,
+    first: FirstSide,
+    sizes: Sizes,
+    kinds: &mut [u8],
+    numbers: &mut [i32],
+    chains: &mut [u64],
+    count: usize,
+) -> LineParts
+    requires { ⌜ Limits sizes × (at ≤ length (now line)) × Roomy (codesKept (now kinds) (now numbers) (now chains)) (now line) at count
+        × (length (now kinds) ≤ 65536) ⌝ }
+    ensures { λ r.
+        ⌜ ComparedBehind sizes (now (line .entry)) at first
+        (codesKept (now (kinds .entry)) (now (numbers .entry)) (now (chains .entry)))
+        (codesKept (now (kinds .exit)) (now (numbers .exit)) (now (chains .exit))) count r ⌝ }
+{
+    let SideRead::Side(seen, term, end, codes) = side::read(
+        line,
+        at,
+        sizes,
+        kinds,
+        numbers,
+        chains,
+        count,
+    ) else {
+        return no_form(count);
+    };
+    let Place::At(start) = word::colon(line, end) else {
+        return no_form(count);
+    };
+    let test = when(first, seen, term);
+    read_ruled(line, start, test, sizes, kinds, numbers, chains, codes)
+}
+
+// A test and a rule, behind `if`.
+fn read_tested(
+    line: &[u8],
+    at: usize,
+    sizes: Sizes,
+    kinds: &mut [u8],
+    numbers: &mut [i32],
+    chains: &mut [u64],
+    count: usize,
+) -> LineParts
+    requires { ⌜ Limits sizes × (at ≤ length (now line)) × Roomy (codesKept (now kinds) (now numbers) (now chains)) (now line) at count
+        × (length (now kinds) ≤ 65536) ⌝ }
+    ensures { λ r.
+        ⌜ LineAt sizes (now (line .entry)) at (testedBehind (tokensFrom true (now (line .entry)) at))
+        (codesKept (now (kinds .entry)) (now (numbers .entry)) (now (chains .entry)))
+        (codesKept (now (kinds .exit)) (now (numbers .exit)) (now (chains .exit))) count count r ⌝ }
+{
+    let SideRead::Side(seen, term, end, codes) = side::read(
+        line,
+        at,
+        sizes,
+        kinds,
+        numbers,
+        chains,
+        count,
+    ) else {
+        return no_form(count);
+    };
+    let ComparisonRead::Compared(comparison, start) = word::comparison(line, end) else {
+        return no_form(count);
+    };
+    let first = FirstSide {
+        seen,
+        term,
+        comparison,
+    };
+    read_compared(line, start, first, sizes, kinds, numbers, chains, codes)
+}
+
+// No test.
+fn always() -> TestParts
+    ensures { λ r. ⌜ r ≡ alwaysParts ⌝ }
+{
+    TestParts {
+        test: Test::Always,
+        checks: checks::nothing(),
+    }
+}
+
+// A line without its byte 10, the codes of its expressions written from `count` on.
+pub fn read_line(
+    line: &[u8],
+    sizes: Sizes,
+    kinds: &mut [u8],
+    numbers: &mut [i32],
+    chains: &mut [u64],
+    count: usize,
+) -> LineParts
+    requires { ⌜ Limits sizes × Roomy (codesKept (now kinds) (now numbers) (now chains)) (now line) 0 count × (length (now kinds) ≤ 65536) ⌝ }
+    ensures { λ r.
+        ⌜ LineAt sizes (now (line .entry)) 0 (anyForm (tokens (now (line .entry))))
+        (codesKept (now (kinds .entry)) (now (numbers .entry)) (now (chains .entry)))
+        (codesKept (now (kinds .exit)) (now (numbers .exit)) (now (chains .exit))) count count r ⌝ }
+{
+    let first = lexer::next_token(line, 0, false);
+    let token = first.token;
+    let end = first.end;
+    let read = match token {
+        Token::Step => word_line(line, end, LineRead::Step),
+        Token::End => word_line(line, end, LineRead::End),
+        Token::Done => word_line(line, end, LineRead::Done),
+        Token::Loop => read_loop(line, end, sizes),
+        Token::If => {
+            return read_tested(line, end, sizes, kinds, numbers, chains, count);
+        }
+        _ => {
+            return read_ruled(line, 0, always(), sizes, kinds, numbers, chains, count);
+        }
+    };
+    LineParts {
+        line: read,
+        codes: count,
+    }
+}

@@ -1,2 +1,0 @@
--- What the readers of a rule answer.
-pub mod ActionRead

@@ -1,2 +1,0 @@
-// The readers of a local rule without its test.
-pub mod action;

@@ -1,2 +1,0 @@
--- What the readers of a remote rule answer.
-pub mod RemoteRead

@@ -1,2 +1,0 @@
-// The readers of a remote rule without its test.
-pub mod remote;

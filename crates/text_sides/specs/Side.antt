@@ -1,0 +1,75 @@
+-- Written expressions as the terms of a rule in the array.
+use Prim.Native.Nat.{ℕ, _+_, _≤_}
+use mathlib.Core.Path.{_≡_}
+use mathlib.Core.Bool.{true, false, cond}
+use mathlib.Core.List.{List}
+use lib.Dec.{eqb}
+use lib.IntN.{pos}
+use lib.ListN.{length, getD}
+use Rattle.register.specs.declared.Sizes.{Sizes}
+use Rattle.program.specs.declared.term.Term.{Term}
+use Rattle.program.specs.declared.term.Term.the-variants.{Chain, Number, Tree}
+use Rattle.program.specs.declared.rule.Rule.{Rule}
+use Rattle.program.specs.declared.rule.Rule.the-variants.{Set, Combine}
+use Rattle.program.specs.Code.{Codes, operatorOf, SameBelow}
+use Rattle.program.specs.Stored.{termIn}
+use Rattle.program.specs.Terms.{TermFormed, TermFrom, TermInside}
+use Rattle.text_syntax.specs.Form.{formed}
+use Rattle.text_syntax.specs.Written.{Expression}
+use Rattle.text_syntax.specs.Grammar.{expression}
+use Rattle.text_syntax.specs.Tree.{treeOf}
+use Rattle.text_syntax.specs.Flat as F
+use Rattle.text_rules.specs.LineRead.{allPass}
+use Rattle.text_expressions.specs.declared.summary.Summary.{Summary}
+use Rattle.text_terms.specs.Place.{tokensFrom}
+use Rattle.text_expressions.specs.Summary.{summaryOf}
+use Rattle.text_expressions.specs.Codes.{Roomy}
+use Rattle.text_expressions.specs.Reading.{Unread}
+use Rattle.text_sides.specs.Checks.{summaryChecks}
+use Rattle.text_sides.specs.declared.side.SideRead.{SideRead}
+use Rattle.text_sides.specs.declared.side.SideRead.the-variants.{Side, NoForm}
+
+-- they have the places below n
+pub record InArrays (a : Codes) (n : ℕ) : Type 0 where
+  pub in-kinds : n ≤ length (a .kinds)
+  pub in-numbers : n ≤ length (a .numbers)
+  pub in-chains : n ≤ length (a .chains)
+
+-- the term of one code, and of the codes from..to
+unfoldable pub singleIn : Codes → ℕ → Term
+singleIn a at = cond (eqb (getD (a .kinds) at 0) 0) (Chain (getD (a .chains) at 0)) (Number (getD (a .numbers) at (pos 0)))
+
+unfoldable pub termHeld : Codes → ℕ → ℕ → Term
+termHeld a from to = cond (eqb to (from + 1)) (singleIn a from) (Tree from to)
+
+-- the local rule of the codes from..to: three codes are two terms and their operator
+unfoldable pub ruleHeld : Codes → ℕ → ℕ → ℕ → Rule
+ruleHeld a f from to = cond (eqb to (from + 3))
+    (Combine f (operatorOf (getD (a .kinds) (from + 2) 0)) (singleIn a from) (singleIn a (from + 1))) (Set f (termHeld a from to))
+
+-- the number of codes then, where `size` codes are given back
+unfoldable pub codesLeft : ℕ → ℕ → ℕ → ℕ
+codesLeft from to size = cond (eqb to (from + size)) from to
+
+-- a term in the array is a written expression; its codes, if it has any, stand from..to
+pub record Holds (b : Codes) (from to : ℕ) (e : Expression) (x : Term) : Type 0 where
+  pub term-is : termIn b x ≡ treeOf e
+  pub formed : TermFormed b x
+  pub behind : TermFrom from x
+  pub inside : TermInside to x
+
+-- an expression stands at a place where an operand is due; if it passes what is asked of it, the term is that expression
+pub record SideFormed (s : Sizes) (line : List ℕ) (at : ℕ) (a b : Codes) (count : ℕ) (g : Summary) (x : Term) (end to : ℕ) : Type 0 where
+  pub written : Expression
+  pub form-is : expression (tokensFrom true line at) ≡ formed written (tokensFrom false line end)
+  pub summary-is : summaryOf g ≡ F.summary s written
+  pub holds : allPass (summaryChecks g) ≡ true → Holds b count to written x
+  pub kept : allPass (summaryChecks g) ≡ true → SameBelow a b count
+  pub more-codes : count ≤ to
+  pub few-codes : to + at ≤ count + end
+  pub inside : end ≤ length line
+  pub roomy : Roomy b line end to
+
+abbrev pub SideAt : Sizes → List ℕ → ℕ → Codes → Codes → ℕ → SideRead → Type 0
+SideAt s line at a b count (Side g x end to) = SideFormed s line at a b count g x end to
+SideAt s line at a b count NoForm = Unread expression line at

@@ -1,0 +1,126 @@
+// Expressions as the terms of a rule: one term by itself, several by their codes.
+ghost use mathlib.Core.Path.{_≡_};
+ghost use Prim.Native.Nat.{_+_, _≤_, _<_};
+ghost use lib.ListN.{length, getD};
+ghost use Rattle.register.specs.Shape.{Limits};
+ghost use Rattle.program.specs.Code.{operatorOf, codesKept};
+ghost use Rattle.text_expressions.specs.Codes.{Roomy};
+ghost use Rattle.text_sides.specs.Side.{InArrays, singleIn, termHeld, ruleHeld, codesLeft, SideAt};
+use program::rule::Operator;
+use program::rule::Rule;
+use program::term::Term;
+use register::Sizes;
+use text_expressions::expression;
+use text_expressions::expression::ExpressionRead;
+use text_expressions::summary::Summary;
+
+// The term whose one code stands at `at`.
+pub fn single(kinds: &[u8], numbers: &[i32], chains: &[u64], at: usize) -> Term
+    requires { ⌜ InArrays (codesKept (now kinds) (now numbers) (now chains)) (at + 1) ⌝ }
+    ensures { λ r. ⌜ r ≡ singleIn (codesKept (now (kinds .entry)) (now (numbers .entry)) (now (chains .entry))) at ⌝ }
+{
+    if kinds[at] == 0 {
+        return Term::Chain(chains[at]);
+    }
+    Term::Number(numbers[at])
+}
+
+// The term whose codes stand from..to.
+pub fn term_in(kinds: &[u8], numbers: &[i32], chains: &[u64], from: usize, to: usize) -> Term
+    requires { ⌜ (from < 65536) × (to < 65536) × InArrays (codesKept (now kinds) (now numbers) (now chains)) to ⌝ }
+    ensures { λ r. ⌜ r ≡ termHeld (codesKept (now (kinds .entry)) (now (numbers .entry)) (now (chains .entry))) from to ⌝ }
+{
+    if to == from + 1 {
+        return single(kinds, numbers, chains, from);
+    }
+    Term::Tree(from as u16, to as u16)
+}
+
+// The operator whose code stands at `at`.
+pub fn operator_in(kinds: &[u8], at: usize) -> Operator
+    requires { ⌜ at < length (now kinds) ⌝ }
+    ensures { λ r. ⌜ r ≡ operatorOf (getD (now (kinds .entry)) at 0) ⌝ }
+{
+    let kind = kinds[at];
+    if kind == 2 {
+        return Operator::Plus;
+    }
+    if kind == 3 {
+        return Operator::Minus;
+    }
+    Operator::Smaller
+}
+
+// `F[u] := X` for the X whose codes stand from..to: one operator on two terms is kept without codes.
+pub fn set_in(
+    kinds: &[u8],
+    numbers: &[i32],
+    chains: &[u64],
+    field: u64,
+    from: usize,
+    to: usize,
+) -> Rule
+    requires { ⌜ (from < 65536) × (to < 65536) × InArrays (codesKept (now kinds) (now numbers) (now chains)) to ⌝ }
+    ensures { λ r. ⌜ r ≡ ruleHeld (codesKept (now (kinds .entry)) (now (numbers .entry)) (now (chains .entry))) field from to ⌝ }
+{
+    if to == from + 3 {
+        let x = single(kinds, numbers, chains, from);
+        let y = single(kinds, numbers, chains, from + 1);
+        return Rule::Combine(field, operator_in(kinds, from + 2), x, y);
+    }
+    Rule::Set(field, term_in(kinds, numbers, chains, from, to))
+}
+
+// The number of codes behind an expression whose codes stand from..to: those of a term without codes are given back.
+pub fn codes_left(from: usize, to: usize, size: usize) -> usize
+    requires { ⌜ from + size < 18446744073709551616 ⌝ }
+    ensures { λ r. ⌜ r ≡ codesLeft from to size ⌝ }
+{
+    if to == from + size { from } else { to }
+}
+
+// The same behind `:=`, where one operator on two terms has no codes either.
+pub fn codes_behind_set(from: usize, to: usize) -> usize
+    requires { ⌜ from < 65536 ⌝ }
+    ensures { λ r. ⌜ r ≡ codesLeft from (codesLeft from to 1) 3 ⌝ }
+{
+    codes_left(from, codes_left(from, to, 1), 3)
+}
+
+// What is asked of an expression, its term, the place behind it and the number of codes then; or none stands there.
+pub enum SideRead {
+    Side(Summary, Term, usize, usize),
+    NoForm,
+}
+
+// The expression at `at`, as a term.
+pub fn read(
+    line: &[u8],
+    at: usize,
+    sizes: Sizes,
+    kinds: &mut [u8],
+    numbers: &mut [i32],
+    chains: &mut [u64],
+    count: usize,
+) -> SideRead
+    requires { ⌜ Limits sizes × (at ≤ length (now line)) × Roomy (codesKept (now kinds) (now numbers) (now chains)) (now line) at count
+        × (length (now kinds) ≤ 65536) ⌝ }
+    ensures { λ r.
+        ⌜ SideAt sizes (now (line .entry)) at
+        (codesKept (now (kinds .entry)) (now (numbers .entry)) (now (chains .entry)))
+        (codesKept (now (kinds .exit)) (now (numbers .exit)) (now (chains .exit))) count r ⌝ }
+{
+    let ExpressionRead::Parts(seen, end, to) = expression::read(
+        line,
+        at,
+        sizes,
+        kinds,
+        numbers,
+        chains,
+        count,
+    ) else {
+        return SideRead::NoForm;
+    };
+    let term = term_in(kinds, numbers, chains, count, to);
+    SideRead::Side(seen, term, end, codes_left(count, to, 1))
+}

@@ -1,0 +1,100 @@
+-- `text_terms::term::read_chain` meets its contract.
+-- Assumes nothing.
+use Prim.Native.Nat.{_-_}
+use mathlib.Core.Path.{sym, subst}
+use mathlib.Core.Bool.{false}
+use native.Mathlib.Omega.{arith}
+use borrow.Author.Needs.{needs}
+use denote.Ref.{now}
+use Rattle.chain_text.specs.Scan.{step}
+use Rattle.chain_text.specs.declared.letters.Letters.{Letters}
+use Rattle.chain_text.proofs.Steps.{start}
+use Rattle.chain_text.proofs.Scanning.{step-small}
+use Rattle.text_terms.specs.Chain.{LinkAt, Opens, ChainAt}
+use Rattle.text_terms.specs.Term.{ChainTerm, ChainPartsAt}
+use Rattle.text_terms.specs.declared.term.TermParts.{TermParts}
+use Rattle.text_terms.proofs.ChainForms.{chain-closed, chain-inside}
+use Rattle.text_terms.proofs.Terms.{own-chain, letter-chain}
+use Rattle.text_terms.proofs.term.read_chain.Statement.{statement}
+use Rattle.text_terms.proofs.term.read_chain.Tie as tie
+
+first-link-requires : tie.Need-first-link-requires
+first-link-requires c κs = search needs
+
+enum-known-end : tie.Need-enum-known-end
+enum-known-end c = search needs
+
+chain-parts-requires : tie.Need-chain-parts-requires
+chain-parts-requires c κs = search needs
+
+enum-known-letter : tie.Need-enum-known-letter
+enum-known-letter c = search needs
+
+-- the letter that opens
+opens : (c : tie.After-known-told2) → let a = c .before .before .before .before .before .args in Opens (a .due) (now (a .line)) (a .at)
+    (c .before .letter .given .0 .0) (c .before .letter .given .0 .1 .0)
+opens c = subst (LinkAt _ _ _) (c .before .letter .given .1) (c .before .before .before .first-link .ensures)
+
+step-requires : tie.Need-step-requires
+step-requires c κs = (c .before .before .before .before .before .pre .0, opens c .capital, omega arith, omega arith)
+
+read-requires : tie.Need-read-requires
+read-requires c κs =
+    let o = opens (c .before) in (
+      c .before .before .before .before .before .before .pre .0,
+      omega arith,
+      rw (c .step .ensures)
+          (step-small (c .before .before .before .before .before .before .args .sizes) 16 start _ (o .capital) (λ e. omega arith) (omega arith)
+          (omega arith)),
+      o .behind .inside,
+    )
+
+closed-requires : tie.Need-closed-requires
+closed-requires c κs =
+    let a = c .before .before .before .before .before .before .before .args in
+    chain-inside (a .sizes) 15 (c .before .step .result) false (now (a .line)) (c .before .before .before .letter .given .0 .1 .0) (c .read .result)
+    (c .read .ensures)
+
+chain-term-requires : tie.Need-chain-term-requires
+chain-term-requires c κs = search needs
+
+enum-told : tie.Need-enum-told
+enum-told c = search needs
+
+returns : tie.Need-returns
+returns c =
+    let a = c .before .before .before .before .before .before .args in
+    subst (λ (p : TermParts). ChainTerm (a .sizes) (a .due) (now (a .line)) (a .at) p (c .before .before .end .given .0 .0)) (sym (c .chain-parts .ensures))
+    (own-chain (subst (LinkAt _ _ _) (c .before .before .end .given .1) (c .before .before .before .before .first-link .ensures)))
+
+returns-2 : tie.Need-returns-2
+returns-2 c =
+    let a = c .before .before .before .before .before .before .before .before .before .args in
+    let o = opens (c .before .before .before .before) in
+    let inner : ChainAt (a .sizes) 15 (step (a .sizes) 16 start (c .before .before .before .before .before .letter .given .0 .0)) false (now (a .line))
+    (c .before .before .before .before .before .letter .given .0 .1 .0) (c .before .before .read .result) =
+    subst (λ (y : Letters). ChainAt (a .sizes) 15 y false (now (a .line)) (c .before .before .before .before .before .letter .given .0 .1 .0)
+    (c .before .before .read .result)) (c .before .before .before .step .ensures) (c .before .before .read .ensures) in
+    subst (ChainPartsAt (a .sizes) (a .due) (now (a .line)) (a .at)) (sym (c .chain-term .ensures))
+    (letter-chain (a .sizes) o (c .before .closed .result)
+    (chain-closed (a .sizes) 16 start o (c .before .before .read .result) (c .before .closed .result) inner (c .before .closed .ensures)))
+
+returns-3 : tie.Need-returns-3
+returns-3 c = subst (LinkAt _ _ _) (c .enum-told .given .1) (c .before .before .first-link .ensures)
+
+pub read-chain-spec : {M : Type 1} → statement M
+read-chain-spec =
+    tie.close
+    (tie.spec
+    first-link-requires
+    enum-known-end
+    chain-parts-requires
+    enum-known-letter
+    step-requires
+    read-requires
+    closed-requires
+    chain-term-requires
+    enum-told
+    returns
+    returns-2
+    returns-3)
