@@ -237,7 +237,7 @@ module _ (read : List ℕ → Reading) (k : Codes) where
         → s ≡ sumOf (operate op (toZ w32 (ofZ w32 v)) (toZ w32 (ofZ w32 w)))
         → doneBy (own f) (ofSum s) ≡ doneBy (own f) (evaluated read (operation op (termIn k x) (termIn k y)))
     unfolding ofReading
-    sum-written p q hv hw e = ap (doneBy (own f)) (values-joined op (ap ofReading p) (ap ofReading q) hv hw e refl) ∙ joined-is
+    sum-written p q hv hw e = ap (doneBy (own f)) (values-joined op (ap ofReading p) (ap ofReading q) hv hw e) ∙ joined-is
 
 -- the term of a plain rule that stores it
 pub set-plain : (r : Rule) (f : ℕ) (x : Term) → r ≡ Set f x → plainRule r ≡ true → isPlain x ≡ true

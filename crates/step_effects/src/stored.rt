@@ -107,7 +107,7 @@ fn combine(
         y,
         second,
     );
-    operation::join(operator, a, b)
+    operation::join(operation::kind_of(operator), a, b)
 }
 
 // The expression of a rule at record u.

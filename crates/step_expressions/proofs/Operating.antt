@@ -1,51 +1,131 @@
 -- Operations on values as the code holds them, and on answers.
-use Prim.Native.Nat.{ℕ, _<_}
+use Prim.Native.Nat.{ℕ, zero, suc, _≤_, _<_}
 use mathlib.Core.Path.{_≡_, refl, sym, ap, ap₂, _∙_}
 use mathlib.Core.Bool.{Bool, true, false, cond, not, _||_}
 use mathlib.Core.List.{List}
-use lib.IntN.{ℤ}
+use native.Mathlib.Omega.{arith}
+use borrow.Author.Tests.{lt-ltb}
+use lib.IntN.{ℤ, pos, negsuc, negℤ}
 use lib.Signed.{mag, ltZ}
-use mir.Syntax.{w32}
+use mir.Syntax.{w32, w64}
 use mir.Val.{toZ, ofZ, SFits}
 use mir.Facts.{toZ-ofZ}
+use Rattle.laws.proofs.Bools.{and-both}
 use Rattle.integers.specs.Range.{inRange, sumOf}
 use Rattle.integers.specs.declared.Sum.{Sum}
 use Rattle.integers.specs.declared.Sum.the-variants as S
-use Rattle.integers.proofs.Complement.{kept, fits-range}
+use Rattle.integers.proofs.Complement.{kept, mag-sum, range-fits, fits-range}
 use Rattle.chain.specs.declared.reading.Reading.{Reading}
 use Rattle.chain.specs.declared.reading.Reading.the-variants as R
 use Rattle.program.specs.declared.rule.Operator.{Operator}
-use Rattle.program.specs.declared.rule.Operator.the-variants.{Smaller}
+use Rattle.program.specs.declared.rule.Operator.the-variants.{Plus, Minus, Smaller}
 use Rattle.program.specs.Program.{Expression, operation}
 use Rattle.machine.specs.Value.{both, operate, combined, value, readingInRange, overflows}
 use Rattle.step_expressions.specs.declared.operation.Evaluated.{Evaluated}
 use Rattle.step_expressions.specs.declared.operation.Evaluated.the-variants.{Missing, Value, OutOfRange}
-use Rattle.step_expressions.specs.Evaluated.{ofReading, ofSum, evaluated, joined}
+use Rattle.step_expressions.specs.Evaluated.{ofReading, ofSum, answerOf, evaluated, joined}
 
--- an operation on two values, for the operator that was matched
-pub operate-kept : {k l : Operator} {a b : ℤ} {s : Sum} → SFits w32 a → SFits w32 b → k ≡ l → s ≡ sumOf (operate l (toZ w32 (ofZ w32 a)) (toZ w32 (ofZ w32 b)))
-    → s ≡ sumOf (operate k a b)
-operate-kept {l} ha hb e q = q ∙ ap sumOf (ap₂ (operate l) (toZ-ofZ ha) (toZ-ofZ hb)) ∙ rw e
+-- how far an operation on two values can reach
+module _ {a b : ℤ} (ha : SFits w32 a) (hb : SFits w32 b) where
+  negated : (z : ℤ) → mag (negℤ z) ≤ suc (mag z)
+  negated (pos zero) = omega arith
+  negated (pos (suc n)) = omega arith
+  negated (negsuc n) = omega arith
 
--- the smaller of two values, by their comparison
-module _ {a b : ℤ} (ha : SFits w32 a) (hb : SFits w32 b) {t : Bool} (k : t ≡ ltZ (toZ w32 (ofZ w32 b)) (toZ w32 (ofZ w32 a))) where
-  tested : ltZ b a ≡ t
-  tested = sym (k ∙ ap₂ ltZ (toZ-ofZ hb) (toZ-ofZ ha))
+  reaches : (op : Operator) → mag (operate op a b) ≤ 4294967296
+  unfolding operate
+  reaches Plus = omega (arith, mag-sum a b, ha .sfits, hb .sfits)
+  reaches Minus = omega (arith, mag-sum a (negℤ b), negated b, ha .sfits, hb .sfits)
+  reaches Smaller = go (ltZ b a)
+    where
+      go : (t : Bool) → mag (cond t b a) ≤ 4294967296
+      go true = omega (arith, hb .sfits)
+      go false = omega (arith, ha .sfits)
 
-  pub second-smaller : t ≡ true → S.InRange (toZ w32 (ofZ w32 b)) ≡ sumOf (operate Smaller a b)
-  unfolding operate sumOf
-  second-smaller e = simp (tested ∙ e, fits-range b hb) (ap S.InRange (toZ-ofZ hb))
+-- a number of 64 bits is read back from its bits
+pub summed : {z : ℤ} → SFits w64 z → {s t : Sum} → s ≡ sumOf (toZ w64 (ofZ w64 z)) → s ≡ t → sumOf z ≡ t
+summed h e k = ap sumOf (sym (toZ-ofZ h)) ∙ sym e ∙ k
 
-  pub first-smaller : t ≡ false → S.InRange (toZ w32 (ofZ w32 a)) ≡ sumOf (operate Smaller a b)
-  unfolding operate sumOf
-  first-smaller e = simp (tested ∙ e, fits-range a ha) (ap S.InRange (toZ-ofZ ha))
+pub read-back : (z : ℤ) → mag z < 9223372036854775808 → answerOf (toZ w64 (ofZ w64 z)) ≡ answerOf z
+read-back z h = ap answerOf (toZ-ofZ {w = w64} (record { sfits = h }))
 
--- two values joined
-pub values-joined : (op : Operator) {x y : Evaluated} {a b : ℤ} {s : Sum} {r : Evaluated} → x ≡ Value a → y ≡ Value b → mag a < 2147483648 → mag b < 2147483648
-    → s ≡ sumOf (operate op (toZ w32 (ofZ w32 a)) (toZ w32 (ofZ w32 b))) → r ≡ ofSum s → r ≡ joined op x y
-unfolding joined
-values-joined op {a} {b} p q ha hb k e =
-    e ∙ ap ofSum (k ∙ ap sumOf (ap₂ (operate op) (kept a ha) (kept b hb))) ∙ sym (ap₂ (joined op) p q)
+-- the sum of an operation's exact result, for the operator that was matched
+pub exact-sum : {k l : Operator} {a b z : ℤ} {s : Sum} → SFits w32 a → SFits w32 b → k ≡ l → mag z < 9223372036854775808
+    → z ≡ operate l (toZ w32 (ofZ w32 a)) (toZ w32 (ofZ w32 b)) → s ≡ sumOf (toZ w64 (ofZ w64 z)) → s ≡ sumOf (operate k a b)
+exact-sum {l} ha hb e h q p = p ∙ ap sumOf (toZ-ofZ {w = w64} (record { sfits = h }) ∙ q ∙ ap₂ (operate l) (toZ-ofZ ha) (toZ-ofZ hb)) ∙ rw e
+
+-- the answer of a number
+filled : (z : ℤ) → mag z ≤ 4294967296 → ltZ z (pos 8589934592) ≡ true
+filled (pos n) h = lt-ltb n 8589934592 (omega arith)
+filled (negsuc n) h = refl
+
+small-answer : (z : ℤ) → mag z ≤ 4294967296 → answerOf z ≡ ofSum (sumOf z)
+unfolding answerOf
+small-answer z h = simp (filled z h)
+
+pub value-answer : (z : ℤ) → mag z < 2147483648 → answerOf z ≡ Value z
+unfolding sumOf ofSum
+value-answer z h = small-answer z (omega arith) ∙ simp (fits-range z (record { sfits = h }))
+
+module _ (z : ℤ) where
+  in-range-is : {a : ℤ} → sumOf z ≡ S.InRange a → (inRange z ≡ true) × (z ≡ a)
+  unfolding sumOf
+  in-range-is {a} = go (inRange z)
+    where
+      go : (t : Bool) → cond t (S.InRange z) S.OutOfRange ≡ S.InRange a → (t ≡ true) × (z ≡ a)
+      go true e = (refl, cc)
+      go false e = absurd (let q : _≡_ {A = ℕ} 0 1 = cc in omega arith)
+
+  in-range-fits : inRange z ≡ true → SFits w32 z
+  unfolding inRange
+  in-range-fits e = let (low, high) = and-both _ _ e in range-fits z low high
+
+  pub in-range-answer : {a : ℤ} → sumOf z ≡ S.InRange a → answerOf z ≡ Value a
+  in-range-answer e = let (t, q) = in-range-is e in value-answer z (in-range-fits t .sfits) ∙ ap Value q
+
+  pub unfilled-answer : ltZ z (pos 8589934592) ≡ false → answerOf z ≡ Missing
+  unfolding answerOf
+  unfilled-answer l = simp l
+
+  -- out of range: no value, and unfilled or not
+  without-value : sumOf z ≡ S.OutOfRange → answerOf z ≡ cond (ltZ z (pos 8589934592)) OutOfRange Missing
+  unfolding answerOf ofSum
+  without-value e = rw e
+
+  pub out-answer : sumOf z ≡ S.OutOfRange → ltZ z (pos 8589934592) ≡ true → answerOf z ≡ OutOfRange
+  out-answer e l = without-value e ∙ simp l
+
+-- an answer that is not out of range
+abbrev Formed : Evaluated → Type 0
+Formed Missing = Unit {0}
+Formed (Value a) = Unit {0}
+Formed OutOfRange = ⊥
+
+-- two answers joined, by what each of them is
+module _ (op : Operator) where
+  pub values-joined : {x y : Evaluated} {a b : ℤ} {s : Sum} → x ≡ Value a → y ≡ Value b → mag a < 2147483648 → mag b < 2147483648
+      → s ≡ sumOf (operate op (toZ w32 (ofZ w32 a)) (toZ w32 (ofZ w32 b))) → ofSum s ≡ joined op x y
+  unfolding joined
+  values-joined {a} {b} p q ha hb e = ap ofSum (e ∙ ap sumOf (ap₂ (operate op) (kept a ha) (kept b hb))) ∙ sym (ap₂ (joined op) p q)
+
+  pub numbers-joined : {x y : Evaluated} {a b : ℤ} (z : ℤ) → x ≡ Value a → y ≡ Value b → mag a < 2147483648 → mag b < 2147483648
+      → z ≡ operate op (toZ w32 (ofZ w32 a)) (toZ w32 (ofZ w32 b)) → answerOf z ≡ joined op x y
+  numbers-joined {a} {b} z p q ha hb e =
+      let small : mag z ≤ 4294967296 =
+      rw (e ∙ ap₂ (operate op) (kept a ha) (kept b hb)) (reaches (record { sfits = ha }) (record { sfits = hb }) op) in
+      small-answer z small ∙ values-joined p q ha hb (ap sumOf e)
+
+  -- beside such an answer what has no value stays
+  pub without-joined : {x : Evaluated} (f : Evaluated) → Formed f → x ≡ f → (y : ℤ) → sumOf y ≡ S.OutOfRange → answerOf y ≡ joined op x (answerOf y)
+  unfolding joined
+  without-joined f h p y e = rw (p, without-value y e) (go f h (ltZ y (pos 8589934592)))
+    where
+      go : (f : Evaluated) → Formed f → (t : Bool) → cond t OutOfRange Missing ≡ joined op f (cond t OutOfRange Missing)
+      go OutOfRange h t = absurd h
+      go Missing h true = refl
+      go Missing h false = refl
+      go (Value a) h true = refl
+      go (Value a) h false = refl
 
 -- the answer of an operation is that of its operands joined
 module _ (op : Operator) where

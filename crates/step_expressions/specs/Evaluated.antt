@@ -5,6 +5,7 @@ use mathlib.Core.List.{List}
 use lib.IntN.{ℤ, pos}
 use lib.Dec.{eqb}
 use lib.ListN.{getD}
+use lib.Signed.{ltZ}
 use Rattle.integers.specs.Range.{sumOf}
 use Rattle.integers.specs.declared.Sum.{Sum}
 use Rattle.integers.specs.declared.Sum.the-variants as S
@@ -27,6 +28,10 @@ ofReading (R.Value z) = Value z
 unfoldable pub ofSum : Sum → Evaluated
 ofSum (S.InRange z) = Value z
 ofSum S.OutOfRange = OutOfRange
+
+-- the answer that a number of 64 bits stands for: that of a sum, or unfilled from 2 ^ 33 on, where no sum of two values reaches
+unfoldable pub answerOf : ℤ → Evaluated
+answerOf z = cond (ltZ z (pos 8589934592)) (ofSum (sumOf z)) Missing
 
 -- the answer for an expression: that a sum of it leaves the range, or its value
 unfoldable pub evaluated : (List ℕ → Reading) → Expression → Evaluated

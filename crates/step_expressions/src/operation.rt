@@ -1,13 +1,15 @@
 // Answers of expressions, and operations on them.
 ghost use mathlib.Core.Path.{_≡_};
 ghost use Rattle.integers.specs.Range.{sumOf};
-ghost use Rattle.program.specs.declared.rule.Operator.the-variants.{Smaller};
 ghost use Rattle.program.specs.Code.{operatorOf};
 ghost use Rattle.machine.specs.Value.{operate as operateOn};
-ghost use Rattle.step_expressions.specs.Evaluated.{ofReading, ofSum, joined};
+ghost use Rattle.step_expressions.specs.Evaluated.{ofReading, ofSum, answerOf, joined};
 use chain::reading::Reading;
 use integers::Sum;
 use program::rule::Operator;
+
+// From 2 ^ 33 on a number stands for an unfilled answer: no sum of two values reaches it.
+const UNFILLED: i64 = 8589934592;
 
 // An expression is unfilled or has a value; or one of its sums leaves the range.
 pub enum Evaluated {
@@ -34,62 +36,77 @@ fn of_sum(sum: Sum) -> Evaluated
     }
 }
 
-// The smaller of two values, which is in range.
-fn smaller(a: i32, b: i32) -> Sum
-    ensures { λ r. ⌜ r ≡ sumOf (operateOn Smaller a b) ⌝ }
+// The exact result of an operation, by the kind of its code: a match on an operator made of the kind is not seen through by the
+// compiler.
+fn operate_by(kind: u8, a: i32, b: i32) -> i64
+    ensures { λ r. ⌜ r ≡ operateOn (operatorOf kind) a b ⌝ }
 {
-    if integers::less(b, a) {
-        Sum::InRange(b)
-    } else {
-        Sum::InRange(a)
+    if kind == 2 {
+        return a as i64 + b as i64;
     }
+    if kind == 3 {
+        return a as i64 - b as i64;
+    }
+    if b < a { b as i64 } else { a as i64 }
 }
 
 pub fn operate(operator: Operator, a: i32, b: i32) -> Sum
     ensures { λ r. ⌜ r ≡ sumOf (operateOn operator a b) ⌝ }
 {
     match operator {
-        Operator::Plus => integers::add(a, b),
-        Operator::Minus => integers::subtract(a, b),
-        Operator::Smaller => smaller(a, b),
+        Operator::Plus => integers::in_range(operate_by(2, a, b)),
+        Operator::Minus => integers::in_range(operate_by(3, a, b)),
+        Operator::Smaller => integers::in_range(operate_by(4, a, b)),
     }
 }
 
-// The operation of a code's kind: taken from the kind, for a match on an operator made of it is not seen through by the compiler.
-fn operate_by(kind: u8, a: i32, b: i32) -> Sum
-    ensures { λ r. ⌜ r ≡ sumOf (operateOn (operatorOf kind) a b) ⌝ }
+// A number of 64 bits that stands for an answer, so that operands that wait are copied and tested as one number.
+pub fn number_of(answer: Evaluated) -> i64
+    ensures { λ r. ⌜ answerOf r ≡ answer ⌝ }
 {
-    if kind == 2 {
-        return integers::add(a, b);
+    match answer {
+        Evaluated::Missing => UNFILLED,
+        Evaluated::Value(value) => integers::widen(value),
+        Evaluated::OutOfRange => 4294967296,
     }
-    if kind == 3 {
-        return integers::subtract(a, b);
-    }
-    smaller(a, b)
 }
 
-// An operation on two answers, by the kind of its code: a sum out of range stays so, and an unfilled operand makes the whole
-// unfilled.
-pub fn join_by(kind: u8, x: Evaluated, y: Evaluated) -> Evaluated
-    ensures { λ r. ⌜ r ≡ joined (operatorOf kind) x y ⌝ }
+// The answer that a number stands for.
+pub fn answer_of(number: i64) -> Evaluated
+    ensures { λ r. ⌜ r ≡ answerOf number ⌝ }
 {
-    match x {
-        Evaluated::OutOfRange => x,
-        Evaluated::Missing => match y {
-            Evaluated::OutOfRange => y,
-            Evaluated::Missing => y,
-            Evaluated::Value(_) => x,
-        },
-        Evaluated::Value(a) => match y {
-            Evaluated::OutOfRange => Evaluated::OutOfRange,
-            Evaluated::Missing => Evaluated::Missing,
-            Evaluated::Value(b) => of_sum(operate_by(kind, a, b)),
-        },
+    if number < UNFILLED {
+        return of_sum(integers::in_range(number));
+    }
+    Evaluated::Missing
+}
+
+// An operation on two answers as numbers, by the kind of its code: a sum out of range stays so, and an unfilled operand makes
+// the whole unfilled.
+pub fn join_by(kind: u8, x: i64, y: i64) -> i64
+    ensures { λ r. ⌜ answerOf r ≡ joined (operatorOf kind) (answerOf x) (answerOf y) ⌝ }
+{
+    match integers::in_range(x) {
+        Sum::InRange(a) => {
+            let Sum::InRange(b) = integers::in_range(y) else {
+                return y;
+            };
+            operate_by(kind, a, b)
+        }
+        Sum::OutOfRange => {
+            if x < UNFILLED {
+                return x;
+            }
+            match integers::in_range(y) {
+                Sum::InRange(_) => x,
+                Sum::OutOfRange => y,
+            }
+        }
     }
 }
 
 // The kind of an operator's code.
-fn kind_of(operator: Operator) -> u8
+pub fn kind_of(operator: Operator) -> u8
     ensures { λ r. ⌜ operatorOf r ≡ operator ⌝ }
 {
     match operator {
@@ -99,9 +116,9 @@ fn kind_of(operator: Operator) -> u8
     }
 }
 
-// An operation on two answers.
-pub fn join(operator: Operator, x: Evaluated, y: Evaluated) -> Evaluated
-    ensures { λ r. ⌜ r ≡ joined operator x y ⌝ }
+// An operation on two answers, by the kind of its code.
+pub fn join(kind: u8, x: Evaluated, y: Evaluated) -> Evaluated
+    ensures { λ r. ⌜ r ≡ joined (operatorOf kind) x y ⌝ }
 {
-    join_by(kind_of(operator), x, y)
+    answer_of(join_by(kind, number_of(x), number_of(y)))
 }
