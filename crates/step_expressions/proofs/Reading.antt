@@ -19,12 +19,12 @@ use Rattle.program.specs.Code.{Code, chain, number, operator, postfix, Arrays, 
 use Rattle.program.proofs.Codes.{codes-first, codes-none}
 use Rattle.machine.specs.Value.{value, overflows}
 use Rattle.step_terms.specs.Found.{followed}
-use Rattle.step_expressions.specs.declared.operation.Evaluated.{Evaluated}
-use Rattle.step_expressions.specs.declared.operation.Evaluated.the-variants.{Value}
+use Rattle.step_operations.specs.declared.operation.Evaluated.{Evaluated}
+use Rattle.step_operations.specs.declared.operation.Evaluated.the-variants.{Value}
 use Rattle.step_expressions.specs.declared.evaluate.Part.{Part}
-use Rattle.step_expressions.specs.Evaluated.{ofReading, evaluated, joined, termAt}
-use Rattle.step_expressions.specs.Codes.{Reached, Ends, CodesFound, Read, BeginsWith, Evaluates}
-use Rattle.step_expressions.proofs.Operating.{operation-joined}
+use Rattle.step_operations.specs.Evaluated.{ofReading, evaluated, joined}
+use Rattle.step_expressions.specs.Codes.{termAt, Reached, Ends, CodesFound, Read, BeginsWith, Evaluates}
+use Rattle.step_operations.proofs.Operating.{operation-joined}
 use Rattle.step_expressions.proofs.Joining.{Joins, wrapped, joinCodes, TermCode, opened}
 
 -- what a code says of its kind

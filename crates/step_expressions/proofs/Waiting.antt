@@ -17,10 +17,10 @@ use Rattle.program.specs.Program.{Expression, operation}
 use Rattle.program.specs.Code.{Code, operator, postfix, operatorOf, codesIn}
 use Rattle.program.proofs.Codes.{codes-none}
 use Rattle.step_terms.specs.Found.{followed}
-use Rattle.step_expressions.specs.declared.operation.Evaluated.{Evaluated}
-use Rattle.step_expressions.specs.Evaluated.{answerOf, evaluated, joined, termAt}
-use Rattle.step_expressions.specs.Codes.{Ends, CodesFound, Evaluates}
-use Rattle.step_expressions.proofs.Operating.{read-back, operation-joined}
+use Rattle.step_operations.specs.declared.operation.Evaluated.{Evaluated}
+use Rattle.step_operations.specs.Evaluated.{answerOf, evaluated, joined}
+use Rattle.step_expressions.specs.Codes.{termAt, Ends, CodesFound, Evaluates}
+use Rattle.step_operations.proofs.Operating.{read-back, operation-joined}
 use Rattle.step_expressions.proofs.Joining.{Joins, wrapped, joinCodes, opened}
 use Rattle.step_expressions.proofs.Reading.{first-code, no-code, term-at, no-end-at, operator-at, more, term-value, begins}
 

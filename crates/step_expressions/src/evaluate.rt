@@ -4,12 +4,12 @@ ghost use Prim.Native.Nat.{_+_, _<_};
 ghost use Rattle.register.specs.Cells.{cellsOf};
 ghost use Rattle.register.specs.Shape.{Parts};
 ghost use Rattle.program.specs.Code.{Arrays, locationAt};
-ghost use Rattle.step_expressions.specs.Evaluated.{answerOf, termAt};
-ghost use Rattle.step_expressions.specs.Codes.{Reached, BeginsWith, Evaluates, Tries};
-use crate::operation;
-use crate::operation::Evaluated;
+ghost use Rattle.step_operations.specs.Evaluated.{answerOf};
+ghost use Rattle.step_expressions.specs.Codes.{termAt, Reached, BeginsWith, Evaluates, Tries};
 use program::location::Location;
 use register::Sizes;
+use step_operations::operation;
+use step_operations::operation::Evaluated;
 use step_terms::term;
 
 // What an expression comes to that stands first among some codes, and where it ends.

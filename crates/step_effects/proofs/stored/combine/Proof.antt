@@ -1,8 +1,8 @@
 -- `step_effects::stored::combine` meets its contract.
 -- Assumes nothing.
 use mathlib.Core.Path.{sym, ap₂, _∙_}
-use Rattle.step_expressions.specs.Evaluated.{joined}
-use Rattle.step_expressions.proofs.Operating.{operation-joined}
+use Rattle.step_operations.specs.Evaluated.{joined}
+use Rattle.step_operations.proofs.Operating.{operation-joined}
 use borrow.Author.Needs.{needs}
 use Rattle.step_effects.proofs.stored.combine.Statement.{statement}
 use Rattle.step_effects.proofs.stored.combine.Tie as tie

@@ -9,14 +9,14 @@ use borrow.Fn.Kinds.{In}
 use borrow.Fn.PlainCycle.{Measures, is, falls, and}
 use Rattle.laws.proofs.Bools.{true-false}
 use Rattle.register.specs.Cells.{cellsOf}
-use Rattle.step_expressions.proofs.Operating.{read-back}
+use Rattle.step_operations.proofs.Operating.{read-back}
 use Rattle.step_expressions.proofs.Reading.{first-asked, ReadTo, read-first, read-more, read-none, read-all}
 use Rattle.step_expressions.proofs.evaluate.expression.Reads as expression
 use Rattle.step_expressions.proofs.evaluate.expression.Kinds as expression-kinds
 use Rattle.step_expressions.proofs.evaluate.+expression.Lts-expression as expression-lts
 use Rattle.step_expressions.proofs.evaluate.term_at.Reads as term-at-reads
-use Rattle.step_expressions.proofs.operation.answer_of.Reads as answer-of-reads
-use Rattle.step_expressions.proofs.operation.join.Reads as join-reads
+use Rattle.step_operations.proofs.operation.answer_of.Reads as answer-of-reads
+use Rattle.step_operations.proofs.operation.join.Reads as join-reads
 use Rattle.step_expressions.proofs.evaluate.+expression.{statement}
 use Rattle.step_expressions.proofs.evaluate.+expression.Tie.{close}
 

@@ -8,7 +8,7 @@ use borrow.Author.Needs.{needs}
 use mir.Syntax.{w64}
 use mir.Val.{toZ}
 use Rattle.register.specs.Cells.{cellsOf}
-use Rattle.step_expressions.proofs.Operating.{read-back}
+use Rattle.step_operations.proofs.Operating.{read-back}
 use Rattle.step_expressions.proofs.Reading.{first-asked}
 use Rattle.step_expressions.proofs.Waiting.{WorkedTo, worked-first, worked-push, worked-pop, worked-as, worked-all}
 use Rattle.step_expressions.proofs.evaluate.shallow.Statement.{statement}

@@ -5,8 +5,9 @@ use native.Mathlib.Omega.{arith}
 use borrow.Author.Tests.{eq-eqb, ne-eqb}
 use Rattle.integers.proofs.Complement.{kept}
 use Rattle.step_terms.specs.Found.{foundAt}
-use Rattle.step_expressions.specs.Evaluated.{ofReading, answerOf, termAt}
-use Rattle.step_expressions.proofs.Operating.{read-back, value-answer}
+use Rattle.step_operations.specs.Evaluated.{ofReading, answerOf}
+use Rattle.step_expressions.specs.Codes.{termAt}
+use Rattle.step_operations.proofs.Operating.{read-back, value-answer}
 use borrow.Author.Needs.{needs}
 use Rattle.step_expressions.proofs.evaluate.term_at.Statement.{statement}
 use Rattle.step_expressions.proofs.evaluate.term_at.Tie as tie
