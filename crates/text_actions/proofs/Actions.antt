@@ -19,19 +19,19 @@ use Rattle.text_syntax.specs.Grammar.{localForm, sentForm}
 use Rattle.text_syntax.specs.Parts.{sameKind}
 use Rattle.text_rules.specs.declared.line.Checks.{Checks}
 use Rattle.text_rules.specs.LineRead.{allPass}
-use Rattle.text_expressions.specs.declared.summary.Summary.{Summary}
-use Rattle.text_terms.specs.declared.term.TermParts.{TermParts}
-use Rattle.text_terms.specs.Place.{tokensFrom, Behind, Passing}
-use Rattle.text_terms.specs.Term.{partsOf}
-use Rattle.text_expressions.specs.Codes.{Roomy}
-use Rattle.text_expressions.specs.Reading.{ExpressionFormed}
-use Rattle.text_sides.specs.Word.{isEmpty, Assigned}
-use Rattle.text_sides.specs.Checks.{summaryChecks, termChecks, bothChecks, withKinds, sentKinds}
+use Rattle.text_codes.specs.declared.summary.Summary.{Summary}
+use Rattle.text_codes.specs.declared.code.TermParts.{TermParts}
+use Rattle.text_places.specs.Place.{tokensFrom, Behind, Passing}
+use Rattle.text_codes.specs.Coded.{partsOf}
+use Rattle.text_codes.specs.Codes.{Roomy}
+use Rattle.text_sides.specs.Expression.{ExpressionFormed}
+use Rattle.text_places.specs.Word.{isEmpty, Assigned}
+use Rattle.text_checks.specs.Checks.{summaryChecks, termChecks, bothChecks, withKinds, sentKinds}
 use Rattle.text_sides.specs.Side.{ruleHeld, codesLeft, SideFormed}
 use Rattle.text_actions.specs.Action.{ActionFormed, ActionAt}
 use Rattle.text_actions.specs.declared.action.ActionRead.{ActionRead}
 use Rattle.text_actions.specs.declared.action.ActionRead.the-variants.{Action as ActionParts, NoForm}
-use Rattle.text_sides.proofs.Passing.{both-pass, kinds-pass, set-checks, remote-checks}
+use Rattle.text_checks.proofs.Passing.{both-pass, kinds-pass, set-checks, remote-checks}
 use Rattle.text_sides.proofs.Sides.{left-least, left-most}
 use Rattle.text_sides.proofs.Expressions.{passed-codes, passed-kept}
 use Rattle.text_actions.proofs.Rules.{rule-held, remote-held}

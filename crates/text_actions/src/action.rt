@@ -9,28 +9,27 @@ ghost use Rattle.chain_text.specs.Text.{isCapital};
 ghost use Rattle.program.specs.Code.{codesKept};
 ghost use Rattle.text_syntax.specs.Token as T;
 ghost use Rattle.text_syntax.specs.Grammar.{localForm};
-ghost use Rattle.text_terms.specs.Place.{tokensFrom};
-ghost use Rattle.text_expressions.specs.Codes.{Roomy};
+ghost use Rattle.text_places.specs.Place.{tokensFrom};
+ghost use Rattle.text_codes.specs.Codes.{Roomy};
 ghost use Rattle.text_actions.specs.Action.{TargetAt, SentBehind, actionForm, ActionAt};
 use chain_text::letters;
 use program::rule::Rule;
 use register::Sizes;
-use text_expressions::expression;
-use text_expressions::expression::ExpressionRead;
+use text_codes::code::TermParts;
 use text_lexer::lexer;
-use text_lexer::token::Token;
+use text_places::place;
+use text_places::word;
+use text_places::word::LetterRead;
+use text_places::word::WriteRead;
 use text_rules::line::Checks;
-use text_sides::checks;
+use text_sides::expression;
+use text_sides::expression::ExpressionRead;
 use text_sides::side;
 use text_sides::side::SideRead;
-use text_sides::word;
-use text_sides::word::LetterRead;
-use text_sides::word::WriteRead;
-use text_terms::place;
 use text_terms::term;
-use text_terms::term::TermParts;
 use text_terms::term::TermRead;
 use text_words::token::Place;
+use text_words::token::Token;
 
 // A rule, what is asked of it and the number of codes then; or no rule stands there to the end of the line.
 pub enum ActionRead {
@@ -76,8 +75,8 @@ fn read_local(
     let field = letters::field_of(letter);
     let rule = side::set_in(kinds, numbers, chains, field, count, to);
     let named = letters::names_field(sizes, letter);
-    let kinded = checks::same(letter < b'M', seen.reference);
-    let asked = checks::with_kinds(checks::of_expression(seen), named, kinded);
+    let kinded = text_checks::same(letter < b'M', seen.reference);
+    let asked = text_checks::with_kinds(text_checks::of_expression(seen), named, kinded);
     ActionRead::Action(rule, asked, side::codes_behind_set(count, to))
 }
 
@@ -145,9 +144,12 @@ fn read_sent(
     }
     let rule = Rule::Remote(sort, letters::field_of(letter), parts.packed, term);
     let named = letters::names_field(sizes, letter);
-    let kinded = parts.reference & checks::sent_kinds(sort, letter < b'M', seen.reference);
-    let terms = checks::both(checks::of_target(parts), checks::of_expression(seen));
-    ActionRead::Action(rule, checks::with_kinds(terms, named, kinded), codes)
+    let kinded = parts.reference & text_checks::sent_kinds(sort, letter < b'M', seen.reference);
+    let terms = text_checks::both(
+        text_checks::of_target(parts),
+        text_checks::of_expression(seen),
+    );
+    ActionRead::Action(rule, text_checks::with_kinds(terms, named, kinded), codes)
 }
 
 // The rule at `at`, by its first token.

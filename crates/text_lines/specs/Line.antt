@@ -23,11 +23,11 @@ use Rattle.text_syntax.specs.Flat as F
 use Rattle.text_rules.specs.declared.line.LineRead.{LineRead}
 use Rattle.text_rules.specs.declared.line.LineRead.the-variants.{Step, End, Done, Loop, Rule, NoForm}
 use Rattle.text_rules.specs.LineRead.{allPass, Reads}
-use Rattle.text_expressions.specs.declared.summary.Summary.{Summary}
-use Rattle.text_terms.specs.Place.{tokensFrom}
-use Rattle.text_expressions.specs.Summary.{summaryOf}
-use Rattle.text_sides.specs.Word.{isEmpty}
-use Rattle.text_sides.specs.Checks.{allTrue, summaryChecks, bothChecks, withKinds, conditionChecks}
+use Rattle.text_codes.specs.declared.summary.Summary.{Summary}
+use Rattle.text_places.specs.Place.{tokensFrom}
+use Rattle.text_codes.specs.Summary.{summaryOf}
+use Rattle.text_places.specs.Word.{isEmpty}
+use Rattle.text_checks.specs.Checks.{allTrue, summaryChecks, bothChecks, withKinds, conditionChecks}
 use Rattle.text_sides.specs.Side.{Holds}
 use Rattle.text_lines.specs.declared.line.LineParts.{LineParts}
 use Rattle.text_lines.specs.declared.line.TestParts.{TestParts}

@@ -7,8 +7,8 @@ ghost use Rattle.register.specs.Shape.{Limits};
 ghost use Rattle.program.specs.Code.{codesKept};
 ghost use Rattle.text_syntax.specs.Lexing.{tokens};
 ghost use Rattle.text_syntax.specs.Grammar.{anyForm};
-ghost use Rattle.text_terms.specs.Place.{tokensFrom};
-ghost use Rattle.text_expressions.specs.Codes.{Roomy};
+ghost use Rattle.text_places.specs.Place.{tokensFrom};
+ghost use Rattle.text_codes.specs.Codes.{Roomy};
 ghost use Rattle.text_lines.specs.Line.{noParts, whenParts, alwaysParts, wordRead, loopRead, RuledBehind, ComparedBehind, testedBehind, LineAt};
 use chain_text::letters;
 use program::rule::Comparison;
@@ -18,18 +18,17 @@ use program::term::Term;
 use register::Sizes;
 use text_actions::action;
 use text_actions::action::ActionRead;
-use text_expressions::summary::Summary;
+use text_codes::summary::Summary;
 use text_lexer::lexer;
-use text_lexer::token::Token;
+use text_places::word;
+use text_places::word::ComparisonRead;
+use text_places::word::LetterRead;
 use text_rules::line::Checks;
 use text_rules::line::LineRead;
-use text_sides::checks;
 use text_sides::side;
 use text_sides::side::SideRead;
-use text_sides::word;
-use text_sides::word::ComparisonRead;
-use text_sides::word::LetterRead;
 use text_words::token::Place;
+use text_words::token::Token;
 
 // A line and the number of codes behind it.
 pub struct LineParts {
@@ -119,7 +118,7 @@ fn read_ruled(
     let slot = Slot { test: own, rule };
     let before = test.checks;
     LineParts {
-        line: LineRead::Rule(slot, checks::both(before, asked)),
+        line: LineRead::Rule(slot, text_checks::both(before, asked)),
         codes,
     }
 }
@@ -130,11 +129,14 @@ fn when(first: FirstSide, seen: Summary, second: Term) -> TestParts
     let other = first.seen;
     let x = first.term;
     let comparison = first.comparison;
-    let sides = checks::both(checks::of_expression(other), checks::of_expression(seen));
-    let kinded = checks::same(other.reference, seen.reference);
+    let sides = text_checks::both(
+        text_checks::of_expression(other),
+        text_checks::of_expression(seen),
+    );
+    let kinded = text_checks::same(other.reference, seen.reference);
     TestParts {
         test: Test::When(x, comparison, second),
-        checks: checks::with_kinds(sides, true, kinded),
+        checks: text_checks::with_kinds(sides, true, kinded),
     }
 }
 
@@ -219,7 +221,7 @@ fn always() -> TestParts
 {
     TestParts {
         test: Test::Always,
-        checks: checks::nothing(),
+        checks: text_checks::nothing(),
     }
 }
 

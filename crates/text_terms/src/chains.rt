@@ -4,13 +4,13 @@ ghost use Prim.Native.Nat.{_+_, _-_, _*_, _^_, _≤_};
 ghost use lib.ListN.{length};
 ghost use Rattle.register.specs.Shape.{Limits};
 ghost use Rattle.text_terms.specs.Chain.{LinkAt, ChainAt, ClosesAt, EndsInside, ClosedBy};
-use crate::place;
 use chain_text::letters;
 use chain_text::letters::Letters;
 use register::Sizes;
 use text_lexer::lexer;
-use text_lexer::token::Token;
+use text_places::place;
 use text_words::token::Place;
+use text_words::token::Token;
 
 // What a chain begins with: `u`, or a letter and `[`, and the place behind; or no chain stands there.
 pub enum Link {

@@ -6,9 +6,9 @@ use borrow.Author.Needs.{needs}
 use borrow.Author.Tests.{not-true, not-false}
 use Rattle.chain_text.specs.Text.{isReferenceLetter}
 use Rattle.chain_text.proofs.Steps.{capital-low}
-use Rattle.text_expressions.specs.Reading.{ExpressionAt}
-use Rattle.text_sides.specs.Word.{PassesAssigned}
-use Rattle.text_sides.proofs.Passing.{with-same}
+use Rattle.text_sides.specs.Expression.{ExpressionAt}
+use Rattle.text_places.specs.Word.{PassesAssigned}
+use Rattle.text_checks.proofs.Passing.{with-same}
 use Rattle.text_sides.proofs.Expressions.{codes-inside}
 use Rattle.text_actions.proofs.Forms.{no-action, whole-more, local-formed, local-none}
 use Rattle.text_actions.proofs.Actions.{roomy-later, local-read}

@@ -6,9 +6,9 @@ use borrow.Author.Needs.{needs}
 use borrow.Author.Tests.{not-true, not-false}
 use Rattle.chain_text.specs.Text.{isReferenceLetter}
 use Rattle.chain_text.proofs.Steps.{capital-low}
-use Rattle.text_sides.specs.Word.{PassesWrite}
+use Rattle.text_places.specs.Word.{PassesWrite}
 use Rattle.text_sides.specs.Side.{SideAt}
-use Rattle.text_sides.proofs.Passing.{with-same, both-same}
+use Rattle.text_checks.proofs.Passing.{with-same, both-same}
 use Rattle.text_actions.proofs.Forms.{no-action, whole-more, not-sent, sent-formed, sent-none}
 use Rattle.text_actions.proofs.Actions.{roomy-later, sent-read}
 use Rattle.text_actions.proofs.action.read_sent.Statement.{statement}

@@ -4,10 +4,10 @@ use mathlib.Core.Path.{subst}
 use mathlib.Core.Bool.{false}
 use borrow.Author.Needs.{needs}
 use Rattle.text_syntax.specs.Token.{openSquare, closeSquare}
-use Rattle.text_terms.specs.Place.{Passes}
+use Rattle.text_places.specs.Place.{Passes}
 use Rattle.text_terms.specs.Term.{ChainPartsAt}
-use Rattle.text_terms.proofs.ChainForms.{behind-behind}
-use Rattle.text_sides.specs.Word.{PassesLetter}
+use Rattle.text_places.proofs.Places.{behind-behind}
+use Rattle.text_places.specs.Word.{PassesLetter}
 use Rattle.text_actions.proofs.Forms.{target-none, target-unopened, target-unread, target-unclosed, target-closed}
 use Rattle.text_actions.proofs.action.read_target.Statement.{statement}
 use Rattle.text_actions.proofs.action.read_target.Tie as tie

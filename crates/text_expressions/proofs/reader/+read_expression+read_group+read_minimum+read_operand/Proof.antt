@@ -13,9 +13,9 @@ use denote.Ref.{now}
 use Rattle.program.specs.Code.{Codes, codesKept}
 use Rattle.text_syntax.specs.Token.{openRound}
 use Rattle.text_syntax.specs.Grammar.{expression, minimum, operand, minimumFrom, expressionFrom}
-use Rattle.text_terms.specs.Place.{Passing, Passes}
+use Rattle.text_places.specs.Place.{Passing, Passes}
 use Rattle.text_terms.specs.Term.{TermAt}
-use Rattle.text_expressions.specs.declared.join.Joining.the-variants.{Next}
+use Rattle.text_joins.specs.declared.Joining.the-variants.{Next}
 use Rattle.text_expressions.proofs.Joining.{sum-joins, smaller-joins, Joined, joined-start, joined-room, joined-ready, JoinedTo, joined-by, term-operand, group-none, group-full, group-closed, reading-inside}
 use Rattle.text_expressions.proofs.reader.read_expression.Reads as read-expression
 use Rattle.text_expressions.proofs.reader.read_expression.Kinds as read-expression-kinds
@@ -29,11 +29,11 @@ use Rattle.text_expressions.proofs.reader.+read_expression+read_group+r
 use Rattle.text_expressions.proofs.reader.read_operand.Reads as read-operand
 use Rattle.text_expressions.proofs.reader.read_operand.Kinds as read-operand-kinds
 use Rattle.text_expressions.proofs.reader.+read_expression+read_group+read_minimum+read_operand.Lts-read_operand as read-operand-lts
-use Rattle.text_expressions.proofs.code.put_term.Reads as put-term-reads
-use Rattle.text_expressions.proofs.join.joined.Reads as joined-reads
-use Rattle.text_terms.proofs.place.open_round.Reads as open-round-reads
-use Rattle.text_expressions.proofs.reader.close_group.Reads as close-group-reads
-use Rattle.text_expressions.proofs.summary.with_term.Reads as with-term-reads
+use Rattle.text_codes.proofs.code.put_term.Reads as put-term-reads
+use Rattle.text_joins.proofs.joined.Reads as joined-reads
+use Rattle.text_places.proofs.place.open_round.Reads as open-round-reads
+use Rattle.text_joins.proofs.close_group.Reads as close-group-reads
+use Rattle.text_codes.proofs.summary.with_term.Reads as with-term-reads
 use Rattle.text_terms.proofs.term.read_term.Reads as read-term-reads
 use Rattle.text_expressions.proofs.reader.+read_expression+read_group+read_minimum+read_operand.{statement}
 use Rattle.text_expressions.proofs.reader.+read_expression+read_group+read_minimum+read_operand.Tie.{close}

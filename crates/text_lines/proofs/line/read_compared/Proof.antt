@@ -5,7 +5,7 @@ use mathlib.Core.Bool.{false}
 use native.Mathlib.Omega.{arith}
 use borrow.Author.Needs.{needs}
 use Rattle.text_syntax.specs.Token.{colon}
-use Rattle.text_terms.specs.Place.{Passes}
+use Rattle.text_places.specs.Place.{Passes}
 use Rattle.text_sides.specs.Side.{SideAt}
 use Rattle.text_actions.proofs.Actions.{roomy-later}
 use Rattle.text_lines.proofs.Lines.{no-second, no-colon, compared}

@@ -5,7 +5,7 @@ use mathlib.Core.Bool.{false}
 use borrow.Author.Needs.{needs}
 use denote.Ref.{now}
 use Rattle.text_syntax.specs.Token.{closeSquare}
-use Rattle.text_terms.specs.Place.{Passes}
+use Rattle.text_places.specs.Place.{Passes}
 use Rattle.text_terms.specs.Chain.{EndsInside, ClosedBy}
 use Rattle.text_terms.specs.declared.chains.ChainRead.{ChainRead}
 use Rattle.text_terms.specs.declared.chains.ChainRead.the-variants.{Chain, NoForm}

@@ -5,7 +5,7 @@ use mathlib.Core.Bool.{false}
 use native.Mathlib.Omega.{arith}
 use borrow.Author.Needs.{needs}
 use Rattle.text_syntax.specs.Token.{closeSquare}
-use Rattle.text_terms.specs.Place.{Passes}
+use Rattle.text_places.specs.Place.{Passes}
 use Rattle.text_terms.proofs.ChainForms.{Closing, closing-start, closing-more, closing-none, closing-done}
 use Rattle.text_terms.proofs.chains.closes.Statement.{statement}
 use Rattle.text_terms.proofs.chains.closes.Tie as tie

@@ -5,10 +5,10 @@ use mathlib.Core.Bool.{false}
 use mathlib.Core.List.{[], _∷_}
 use borrow.Author.Needs.{needs}
 use Rattle.text_syntax.specs.Token as S
-use Rattle.text_lexer.specs.Lexeme.{tokenCode}
+use Rattle.text_words.specs.Tokens.{tokenCode}
 use Rattle.text_lexer.proofs.Lexemes.{lexed}
-use Rattle.text_terms.specs.Place.{Passes}
-use Rattle.text_terms.proofs.Places.{told, passed, goes-on}
+use Rattle.text_places.specs.Place.{Passes}
+use Rattle.text_places.proofs.Places.{told, passed, goes-on}
 use Rattle.text_terms.proofs.ChainForms.{link-letter, link-none, link-other}
 use Rattle.text_terms.proofs.chains.first_link.Statement.{statement}
 use Rattle.text_terms.proofs.chains.first_link.Tie as tie
