@@ -16,6 +16,7 @@ use chain_text::letters;
 use program::rule::Rule;
 use register::Sizes;
 use text_codes::code::TermParts;
+use text_demands::rule;
 use text_lexer::lexer;
 use text_places::place;
 use text_places::word;
@@ -73,11 +74,9 @@ fn read_local(
         return ActionRead::NoForm;
     }
     let field = letters::field_of(letter);
-    let rule = side::set_in(kinds, numbers, chains, field, count, to);
-    let named = letters::names_field(sizes, letter);
-    let kinded = text_checks::same(letter < b'M', seen.reference);
-    let asked = text_checks::with_kinds(text_checks::of_expression(seen), named, kinded);
-    ActionRead::Action(rule, asked, side::codes_behind_set(count, to))
+    let held = side::set_in(kinds, numbers, chains, field, count, to);
+    let asked = rule::local(letter, letters::names_field(sizes, letter), seen);
+    ActionRead::Action(held, asked, side::codes_behind_set(count, to))
 }
 
 // F and C of a remote target `F[C]`, and the place behind it; or none stands there.
@@ -94,13 +93,13 @@ fn read_target(line: &[u8], at: usize, sizes: Sizes) -> TargetRead
     let LetterRead::Letter(letter, open) = word::letter(line, at) else {
         return TargetRead::NoForm;
     };
-    let Place::At(inner) = place::open_square(line, open) else {
+    let Place::At(inner) = place::mark(line, open, false, place::OPEN_SQUARE) else {
         return TargetRead::NoForm;
     };
     let TermRead::Parts(parts, close) = term::read_chain(line, inner, false, sizes) else {
         return TargetRead::NoForm;
     };
-    let Place::At(end) = place::close_square(line, close) else {
+    let Place::At(end) = place::mark(line, close, false, place::CLOSE_SQUARE) else {
         return TargetRead::NoForm;
     };
     TargetRead::Target(letter, parts, end)
@@ -142,14 +141,9 @@ fn read_sent(
     if !word::ends(line, end) {
         return ActionRead::NoForm;
     }
-    let rule = Rule::Remote(sort, letters::field_of(letter), parts.packed, term);
+    let held = Rule::Remote(sort, letters::field_of(letter), parts.packed, term);
     let named = letters::names_field(sizes, letter);
-    let kinded = parts.reference & text_checks::sent_kinds(sort, letter < b'M', seen.reference);
-    let terms = text_checks::both(
-        text_checks::of_target(parts),
-        text_checks::of_expression(seen),
-    );
-    ActionRead::Action(rule, text_checks::with_kinds(terms, named, kinded), codes)
+    ActionRead::Action(held, rule::remote(sort, letter, named, parts, seen), codes)
 }
 
 // The rule at `at`, by its first token.

@@ -1,4 +1,5 @@
 // What 9 to 12, 24 and 25 ask of the parts of a rule.
+
 ghost use mathlib.Core.Path.{_≡_};
 ghost use Rattle.text_syntax.specs.Parts.{sameKind};
 ghost use Rattle.text_checks.specs.Checks.{allTrue, summaryChecks, termChecks, bothChecks, withKinds, sentKinds};

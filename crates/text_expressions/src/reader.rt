@@ -138,7 +138,7 @@ fn read_group(
         (codesKept (now (kinds .entry)) (now (numbers .entry)) (now (chains .entry)))
         (codesKept (now (kinds .exit)) (now (numbers .exit)) (now (chains .exit))) count r ⌝ }
 {
-    let Place::At(inner) = place::open_round(line, at) else {
+    let Place::At(inner) = place::mark(line, at, true, place::OPEN_ROUND) else {
         return Reading::NoForm;
     };
     if room == 0 {

@@ -110,7 +110,7 @@ pub fn close_group(line: &[u8], inner: Reading) -> Reading
     ensures { λ r. ⌜ GroupedBy (now (line .entry)) inner r ⌝ }
 {
     match inner {
-        Reading::Read(seen, at, count) => match place::close_round(line, at) {
+        Reading::Read(seen, at, count) => match place::mark(line, at, false, place::CLOSE_ROUND) {
             Place::At(end) => Reading::Read(seen, end, count),
             Place::Nothing => Reading::NoForm,
         },

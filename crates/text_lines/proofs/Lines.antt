@@ -39,10 +39,11 @@ use Rattle.text_places.specs.Word.{isEmpty, NoComparison}
 use Rattle.text_checks.specs.Checks.{summaryChecks, bothChecks, conditionChecks}
 use Rattle.text_sides.specs.Side.{Holds, SideFormed}
 use Rattle.text_actions.specs.Action.{actionForm, ActionHeld, ActionFormed, NoAction}
-use Rattle.text_lines.specs.Line.{noParts, wordRead, loopField, loopRead, whenParts, alwaysParts, TestHeld, Leaves, LineAt, RuledBehind, ComparedBehind, testedBehind}
+use Rattle.text_lines.specs.Line.{noParts, wordRead, loopField, loopRead, TestHeld, Leaves, LineAt, RuledBehind, ComparedBehind, testedBehind}
+use Rattle.text_demands.specs.Demands.{whenParts, alwaysParts}
 use Rattle.text_lines.specs.declared.line.LineParts.{LineParts}
-use Rattle.text_lines.specs.declared.line.TestParts.{TestParts}
-use Rattle.text_lines.specs.declared.line.FirstSide.{FirstSide}
+use Rattle.text_demands.specs.declared.test.TestParts.{TestParts}
+use Rattle.text_demands.specs.declared.test.FirstSide.{FirstSide}
 use Rattle.text_checks.proofs.Passing.{both-pass, both-same}
 use Rattle.text_lines.proofs.Tests.{when-pass, when-checks, line-checks}
 

@@ -1,60 +1,56 @@
 // Single tokens of a line, and the place behind them.
-ghost use mathlib.Core.Bool.{true, false};
+ghost use mathlib.Core.Path.{_≡_};
 ghost use Prim.Native.Nat.{_≤_};
 ghost use lib.ListN.{length};
-ghost use Rattle.text_syntax.specs.Token.{openSquare, closeSquare, openRound, closeRound};
-ghost use Rattle.text_places.specs.Place.{Passes, PassesOperator};
+ghost use Rattle.text_syntax.specs.Lexing.{operandBehind};
+ghost use Rattle.text_places.specs.Place.{markToken, markNumber, Passes, PassesOperator};
 use program::rule::Operator;
 use text_lexer::lexer;
 use text_words::token::Place;
 use text_words::token::Token;
 
-pub fn open_square(line: &[u8], at: usize) -> Place
-    requires { ⌜ at ≤ length (now line) ⌝ }
-    ensures { λ r. ⌜ Passes false false openSquare (now (line .entry)) at r ⌝ }
+// The numbers of `u`, `:=`, `:` and brackets, tokens that stand for themselves.
+pub const OWN: u8 = 7;
+
+pub const BECOMES: u8 = 8;
+
+pub const COLON: u8 = 9;
+
+pub const OPEN_SQUARE: u8 = 10;
+
+pub const CLOSE_SQUARE: u8 = 11;
+
+pub const OPEN_ROUND: u8 = 12;
+
+pub const CLOSE_ROUND: u8 = 13;
+
+// The number of such a token, 0 for every other one.
+fn number_of(token: Token) -> u8
+    ensures { λ r. ⌜ r ≡ markNumber token ⌝ }
 {
-    let read = lexer::next_token(line, at, false);
-    let token = read.token;
-    let Token::OpenSquare = token else {
-        return Place::Nothing;
-    };
-    Place::At(read.end)
+    match token {
+        Token::Own => OWN,
+        Token::Becomes => BECOMES,
+        Token::Colon => COLON,
+        Token::OpenSquare => OPEN_SQUARE,
+        Token::CloseSquare => CLOSE_SQUARE,
+        Token::OpenRound => OPEN_ROUND,
+        Token::CloseRound => CLOSE_ROUND,
+        _ => 0,
+    }
 }
 
-pub fn close_square(line: &[u8], at: usize) -> Place
-    requires { ⌜ at ≤ length (now line) ⌝ }
-    ensures { λ r. ⌜ Passes false false closeSquare (now (line .entry)) at r ⌝ }
+// The token of a number at `at`, where an operand is due or not.
+pub fn mark(line: &[u8], at: usize, due: bool, number: u8) -> Place
+    requires { ⌜ (at ≤ length (now line)) × (7 ≤ number) × (number ≤ 13) ⌝ }
+    ensures { λ r. ⌜ Passes due (operandBehind (markToken number)) (markToken number) (now (line .entry)) at r ⌝ }
 {
-    let read = lexer::next_token(line, at, false);
+    let read = lexer::next_token(line, at, due);
     let token = read.token;
-    let Token::CloseSquare = token else {
-        return Place::Nothing;
-    };
-    Place::At(read.end)
-}
-
-pub fn open_round(line: &[u8], at: usize) -> Place
-    requires { ⌜ at ≤ length (now line) ⌝ }
-    ensures { λ r. ⌜ Passes true true openRound (now (line .entry)) at r ⌝ }
-{
-    let read = lexer::next_token(line, at, true);
-    let token = read.token;
-    let Token::OpenRound = token else {
-        return Place::Nothing;
-    };
-    Place::At(read.end)
-}
-
-pub fn close_round(line: &[u8], at: usize) -> Place
-    requires { ⌜ at ≤ length (now line) ⌝ }
-    ensures { λ r. ⌜ Passes false false closeRound (now (line .entry)) at r ⌝ }
-{
-    let read = lexer::next_token(line, at, false);
-    let token = read.token;
-    let Token::CloseRound = token else {
-        return Place::Nothing;
-    };
-    Place::At(read.end)
+    if number_of(token) == number {
+        return Place::At(read.end);
+    }
+    Place::Nothing
 }
 
 // An operator and the place behind it; or none stands there.

@@ -1,10 +1,9 @@
 // Single tokens of a line, and the place behind them.
 ghost use mathlib.Core.Path.{_≡_};
-ghost use mathlib.Core.Bool.{true, false};
+ghost use mathlib.Core.Bool.{false};
 ghost use Prim.Native.Nat.{_≤_};
 ghost use lib.ListN.{length};
-ghost use Rattle.text_syntax.specs.Token.{own, becomes, colon};
-ghost use Rattle.text_places.specs.Place.{Passes, tokensFrom};
+ghost use Rattle.text_places.specs.Place.{tokensFrom};
 ghost use Rattle.text_places.specs.Word.{PassesLetter, PassesWrite, PassesComparison, PassesAssigned, isEmpty};
 use crate::place;
 use program::rule::Comparison;
@@ -12,42 +11,6 @@ use program::rule::Sort;
 use text_lexer::lexer;
 use text_words::token::Place;
 use text_words::token::Token;
-
-pub fn own(line: &[u8], at: usize) -> Place
-    requires { ⌜ at ≤ length (now line) ⌝ }
-    ensures { λ r. ⌜ Passes false false own (now (line .entry)) at r ⌝ }
-{
-    let read = lexer::next_token(line, at, false);
-    let token = read.token;
-    let Token::Own = token else {
-        return Place::Nothing;
-    };
-    Place::At(read.end)
-}
-
-pub fn becomes(line: &[u8], at: usize) -> Place
-    requires { ⌜ at ≤ length (now line) ⌝ }
-    ensures { λ r. ⌜ Passes false true becomes (now (line .entry)) at r ⌝ }
-{
-    let read = lexer::next_token(line, at, false);
-    let token = read.token;
-    let Token::Becomes = token else {
-        return Place::Nothing;
-    };
-    Place::At(read.end)
-}
-
-pub fn colon(line: &[u8], at: usize) -> Place
-    requires { ⌜ at ≤ length (now line) ⌝ }
-    ensures { λ r. ⌜ Passes false false colon (now (line .entry)) at r ⌝ }
-{
-    let read = lexer::next_token(line, at, false);
-    let token = read.token;
-    let Token::Colon = token else {
-        return Place::Nothing;
-    };
-    Place::At(read.end)
-}
 
 // A capital and the place behind it; or none stands there.
 pub enum LetterRead {
@@ -108,16 +71,16 @@ pub fn assigned(line: &[u8], at: usize) -> Place
     requires { ⌜ at ≤ length (now line) ⌝ }
     ensures { λ r. ⌜ PassesAssigned (now (line .entry)) at r ⌝ }
 {
-    let Place::At(inner) = place::open_square(line, at) else {
+    let Place::At(inner) = place::mark(line, at, false, place::OPEN_SQUARE) else {
         return Place::Nothing;
     };
-    let Place::At(behind) = own(line, inner) else {
+    let Place::At(behind) = place::mark(line, inner, false, place::OWN) else {
         return Place::Nothing;
     };
-    let Place::At(end) = place::close_square(line, behind) else {
+    let Place::At(end) = place::mark(line, behind, false, place::CLOSE_SQUARE) else {
         return Place::Nothing;
     };
-    becomes(line, end)
+    place::mark(line, end, false, place::BECOMES)
 }
 
 // Whether the line ends here.

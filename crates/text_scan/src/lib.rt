@@ -56,7 +56,7 @@ fn opened(line: &[u8], sizes: Sizes, state: State) -> Turn
 {
     let deep = state.deep;
     let seen = state.seen;
-    match place::open_round(line, state.at) {
+    match place::mark(line, state.at, true, place::OPEN_ROUND) {
         Place::At(end) => Turn::Next(State {
             at: end,
             due: true,
@@ -96,7 +96,7 @@ fn closed(line: &[u8], sizes: Sizes, state: State) -> Turn
     if deep == 0 {
         return Turn::Done(seen, at);
     }
-    match place::close_round(line, at) {
+    match place::mark(line, at, false, place::CLOSE_ROUND) {
         Place::At(end) => Turn::Next(State {
             at: end,
             due: false,

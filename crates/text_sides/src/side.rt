@@ -6,13 +6,13 @@ ghost use Rattle.register.specs.Shape.{Limits};
 ghost use Rattle.program.specs.Code.{operatorOf, codesKept};
 ghost use Rattle.text_codes.specs.Codes.{Roomy};
 ghost use Rattle.text_sides.specs.Side.{InArrays, singleIn, termHeld, ruleHeld, codesLeft, SideAt};
+use crate::expression;
+use crate::expression::ExpressionRead;
 use program::rule::Operator;
 use program::rule::Rule;
 use program::term::Term;
 use register::Sizes;
 use text_codes::summary::Summary;
-use crate::expression;
-use crate::expression::ExpressionRead;
 
 // The term whose one code stands at `at`.
 pub fn single(kinds: &[u8], numbers: &[i32], chains: &[u64], at: usize) -> Term

@@ -1,8 +1,8 @@
--- `text_lines::line::always` meets its contract.
+-- `text_demands::test::always` meets its contract.
 -- Assumes nothing.
 use borrow.Author.Needs.{needs}
-use Rattle.text_lines.proofs.line.always.Statement.{statement}
-use Rattle.text_lines.proofs.line.always.Tie as tie
+use Rattle.text_demands.proofs.test.always.Statement.{statement}
+use Rattle.text_demands.proofs.test.always.Tie as tie
 
 nothing-requires : tie.Need-nothing-requires
 nothing-requires c κs = search needs

@@ -1,8 +1,8 @@
--- `text_lines::line::when` meets its contract.
+-- `text_demands::test::when` meets its contract.
 -- Assumes nothing.
 use borrow.Author.Needs.{needs}
-use Rattle.text_lines.proofs.line.when.Statement.{statement}
-use Rattle.text_lines.proofs.line.when.Tie as tie
+use Rattle.text_demands.proofs.test.when.Statement.{statement}
+use Rattle.text_demands.proofs.test.when.Tie as tie
 
 of-expression-requires : tie.Need-of-expression-requires
 of-expression-requires c κs = search needs
