@@ -24,7 +24,7 @@ use program::rule::Test;
 use program::setting::Setting;
 use program::term::Term;
 use register::Sizes;
-use text_plan::locate::plan_rule;
+use text_plan::plan_rule;
 use text_rules::line::LineRead;
 use text_state::state;
 use text_state::state::State;

@@ -11,7 +11,7 @@ use Rattle.register.specs.declared.Sizes.{Sizes}
 use Rattle.laws.specs.Outcome.{refused}
 use Rattle.program.specs.Code.{Codes, codesKept}
 use Rattle.text_rules.specs.Text.{advance}
-use Rattle.text_plan.specs.Readings.{addedOf}
+use Rattle.text_growth.specs.Growth.{addedOf}
 use Rattle.text_state.specs.State.{advanceOf}
 use Rattle.text_reader.specs.Answers.{CodeArrays}
 use Rattle.text_reader.proofs.Arms.{Behind}
