@@ -3,7 +3,7 @@ ghost use mathlib.Core.Path.{_≡_};
 ghost use mathlib.Core.Bool.{true};
 ghost use Prim.Native.Nat.{_≤_, _<_};
 ghost use Rattle.register.specs.Cells.{cellsOf};
-ghost use Rattle.register.specs.File.{width};
+ghost use Rattle.register.specs.File.{width, cellCount, cellIndex};
 ghost use Rattle.register.specs.Shape.{Limits, Parts, Valid};
 ghost use Rattle.chain.specs.Word.{hasField, column as columnOf, fieldAt, fieldCell, readCell, readable, unpack, valueAtRecord};
 use crate::packed;
@@ -37,16 +37,20 @@ pub fn field_at(sizes: Sizes, column: usize) -> usize
     }
 }
 
+// Which cell of the register is that of record u and a field.
+fn field_index(sizes: Sizes, u: usize, field: usize) -> usize
+    requires { ⌜ Limits sizes × (u < sizes .records) × (hasField sizes field ≡ true) ⌝ }
+    ensures { λ r. ⌜ (r ≡ cellIndex sizes u (columnOf sizes field)) × (r < cellCount sizes) ⌝ }
+{
+    register::cell_index(sizes, u, column(sizes, field))
+}
+
 // The cell of record u and a field.
 pub fn field_cell(cells: &[u8], filled: &[u8], sizes: Sizes, u: usize, field: usize) -> Cell
     requires { ⌜ Parts sizes (now cells) (now filled) × (u < sizes .records) × (hasField sizes field ≡ true) ⌝ }
     ensures { λ r. ⌜ r ≡ fieldCell sizes (cellsOf (now (cells .entry)) (now (filled .entry))) u field ⌝ }
 {
-    cells::cell_at(
-        cells,
-        filled,
-        register::cell_index(sizes, u, column(sizes, field)),
-    )
+    cells::cell_at(cells, filled, field_index(sizes, u, field))
 }
 
 // What is read of the cell of record u and a field.
@@ -54,7 +58,7 @@ pub fn read_cell(cells: &[u8], filled: &[u8], sizes: Sizes, u: usize, field: usi
     requires { ⌜ Parts sizes (now cells) (now filled) × (u < sizes .records) × (hasField sizes field ≡ true) ⌝ }
     ensures { λ r. ⌜ r ≡ readCell sizes (cellsOf (now (cells .entry)) (now (filled .entry))) u field ⌝ }
 {
-    reading::read_of(field_cell(cells, filled, sizes, u, field))
+    reading::reading_at(cells, filled, field_index(sizes, u, field))
 }
 
 // The value of a packed chain at record u.

@@ -10,7 +10,7 @@ use lib.ListN.{length, getD, take, set, length-set}
 use lib.Seq.{take-suc-set}
 use Rattle.laws.proofs.Bools.{and-both}
 use Rattle.laws.proofs.Lists.{each-append}
-use Rattle.step_expressions.specs.Plain.{plainSlot}
+use Rattle.step_tests.specs.Plain.{plainSlot}
 use Rattle.register.specs.File.{cellCount, cellsOfFile}
 use Rattle.register.specs.Shape.{Limits}
 use Rattle.register.specs.declared.Sizes.{Sizes}

@@ -18,9 +18,9 @@ use run_loop;
 use step_cells;
 use step_cells::stop::Stop;
 use step_commit;
-use step_expressions::plain::stay_plain;
 use step_rules::local;
 use step_rules::remote;
+use step_tests::stay_plain;
 
 // The refusal's number, 0 for none, with its line where it has one; the finished steps and what they count; for 21 the record and
 // the column where it happened.

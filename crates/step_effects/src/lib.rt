@@ -1,4 +1,3 @@
 // What one record makes of one rule: what it stores and what it sends.
-pub mod plain;
 pub mod sent;
 pub mod stored;

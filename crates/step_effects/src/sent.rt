@@ -16,7 +16,7 @@ use machine::message::Message;
 use program::location::Located;
 use program::rule::Rule;
 use register::Sizes;
-use step_expressions::operation::Evaluated;
+use step_operations::operation::Evaluated;
 use step_terms::term;
 
 // A rule sends nothing, or one message.

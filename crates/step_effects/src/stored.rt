@@ -8,7 +8,7 @@ ghost use Rattle.program.specs.Code.{codesKept};
 ghost use Rattle.program.specs.Program.{operation as operationOn, targetField};
 ghost use Rattle.program.specs.Stored.{ruleIn, targetIn, expressionIn, termIn};
 ghost use Rattle.step_terms.specs.Found.{readsOf, RuleFound, RuleReads};
-ghost use Rattle.step_expressions.specs.Evaluated.{evaluated};
+ghost use Rattle.step_operations.specs.Evaluated.{evaluated};
 ghost use Rattle.step_effects.specs.Answers.{doneBy, effectOf, writeOf};
 use program::location::Located;
 use program::location::Places;
@@ -16,10 +16,10 @@ use program::rule::Operator;
 use program::rule::Rule;
 use program::term::Term;
 use register::Sizes;
-use step_expressions::operation;
-use step_expressions::operation::Evaluated;
 use step_expressions::term;
-use step_expressions::term::Tested;
+use step_operations::comparison::Tested;
+use step_operations::operation;
+use step_operations::operation::Evaluated;
 
 // A rule stores nothing in its own record or a value in a field; or a sum of it leaves the range, for the field that it writes.
 pub enum Write {
@@ -107,7 +107,7 @@ fn combine(
         y,
         second,
     );
-    operation::join(operator, a, b)
+    operation::join(operation::kind_of(operator), a, b)
 }
 
 // The expression of a rule at record u.

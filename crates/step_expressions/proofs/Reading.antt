@@ -19,12 +19,12 @@ use Rattle.program.specs.Code.{Code, chain, number, operator, postfix, Arrays, 
 use Rattle.program.proofs.Codes.{codes-first, codes-none}
 use Rattle.machine.specs.Value.{value, overflows}
 use Rattle.step_terms.specs.Found.{followed}
-use Rattle.step_expressions.specs.declared.operation.Evaluated.{Evaluated}
-use Rattle.step_expressions.specs.declared.operation.Evaluated.the-variants.{Value}
+use Rattle.step_operations.specs.declared.operation.Evaluated.{Evaluated}
+use Rattle.step_operations.specs.declared.operation.Evaluated.the-variants.{Value}
 use Rattle.step_expressions.specs.declared.evaluate.Part.{Part}
-use Rattle.step_expressions.specs.Evaluated.{ofReading, evaluated, joined, termAt}
-use Rattle.step_expressions.specs.Codes.{Reached, Ends, CodesFound, Read, BeginsWith, Evaluates}
-use Rattle.step_expressions.proofs.Operating.{operation-joined}
+use Rattle.step_operations.specs.Evaluated.{ofReading, evaluated, joined}
+use Rattle.step_expressions.specs.Codes.{termAt, Reached, Ends, CodesFound, Read, BeginsWith, Evaluates}
+use Rattle.step_operations.proofs.Operating.{operation-joined}
 use Rattle.step_expressions.proofs.Joining.{Joins, wrapped, joinCodes, TermCode, opened}
 
 -- what a code says of its kind
@@ -231,14 +231,3 @@ module _ (s : Sizes) (cells : List Cell) (values : List ℤ) (marks : List ℕ) 
       goes-on = omega (arith, r .beyond);
       reads = λ chains found e rest q end. absurd (omega (arith, joins chains found e rest q end .0));
     }
-
--- an operand of one code, with the operator behind it
-module _ (s : Sizes) (cells : List Cell) (values : List ℤ) (marks : List ℕ) (u : ℕ) (kinds : List ℕ) (numbers : List ℤ) (places : List ℕ) (from to : ℕ) where
-  pub read-single : {v : Evaluated} {at : ℕ} → ReadTo s cells values marks u kinds numbers places from to v at → at < to → getD kinds at 0 < 2
-      → at + 1 < to → 1 < getD kinds (at + 1) 0
-      → ReadTo s cells values marks u kinds numbers places from to
-      (joined (operatorOf (getD kinds (at + 1) 0)) v (termAt s cells values marks u kinds numbers places at)) (at + 1 + 1)
-  read-single {at} r h k l o =
-      let first = read-first s cells values marks u kinds numbers places at to h in
-      let one = read-all s cells values marks u kinds numbers places at to first (λ l k. omega arith) in
-      read-more s cells values marks u kinds numbers places from to r h k _ one l

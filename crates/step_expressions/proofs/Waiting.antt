@@ -3,9 +3,12 @@ use Prim.Native.Nat.{ℕ, zero, suc, _+_, _≤_, _<_}
 use mathlib.Core.Path.{_≡_, refl, sym, ap, ap₂, subst, _∙_}
 use mathlib.Core.List.{List, [], _∷_, _++_, map, append-nil, append-assoc}
 use native.Mathlib.Omega.{arith}
-use lib.IntN.{ℤ}
+use lib.IntN.{ℤ, pos}
 use lib.ListN.{length, getD, set, length-set}
+use lib.Signed.{mag}
 use lib.Seq.{getD-set-same, getD-set-other}
+use mir.Syntax.{w64}
+use mir.Val.{toZ, ofZ}
 use Rattle.register.specs.declared.Sizes.{Sizes}
 use Rattle.register.specs.declared.cells.Cell.{Cell}
 use Rattle.chain.specs.declared.reading.Reading.{Reading}
@@ -14,11 +17,10 @@ use Rattle.program.specs.Program.{Expression, operation}
 use Rattle.program.specs.Code.{Code, operator, postfix, operatorOf, codesIn}
 use Rattle.program.proofs.Codes.{codes-none}
 use Rattle.step_terms.specs.Found.{followed}
-use Rattle.step_expressions.specs.declared.operation.Evaluated.{Evaluated}
-use Rattle.step_expressions.specs.declared.operation.Evaluated.the-variants.{Missing}
-use Rattle.step_expressions.specs.Evaluated.{evaluated, joined, termAt}
-use Rattle.step_expressions.specs.Codes.{Ends, CodesFound, Evaluates}
-use Rattle.step_expressions.proofs.Operating.{operation-joined}
+use Rattle.step_operations.specs.declared.operation.Evaluated.{Evaluated}
+use Rattle.step_operations.specs.Evaluated.{answerOf, evaluated, joined}
+use Rattle.step_expressions.specs.Codes.{termAt, Ends, CodesFound, Evaluates}
+use Rattle.step_operations.proofs.Operating.{read-back, operation-joined}
 use Rattle.step_expressions.proofs.Joining.{Joins, wrapped, joinCodes, opened}
 use Rattle.step_expressions.proofs.Reading.{first-code, no-code, term-at, no-end-at, operator-at, more, term-value, begins}
 
@@ -46,24 +48,19 @@ module _ (op : Operator) (y : Expression) (js : Joins) where
   behind-join [] = refl
   behind-join (w ∷ ws) = append-assoc (postfix y) (operator op ∷ joinCodes js) (operator (w .0) ∷ behind (w .2) ws)
 
--- the first n answers of an array, the last first
-unfoldable pub lastFirst : List Evaluated → ℕ → List Evaluated
+-- the answers of the first n numbers of an array, the last first
+unfoldable pub lastFirst : List ℤ → ℕ → List Evaluated
 lastFirst l zero = []
-lastFirst l (suc n) = getD l n Missing ∷ lastFirst l n
+lastFirst l (suc n) = answerOf (getD l n (pos 0)) ∷ lastFirst l n
 
-kept-before : (l : List Evaluated) (n i : ℕ) (v : Evaluated) → n ≤ i → lastFirst (set l i v) n ≡ lastFirst l n
+kept-before : (l : List ℤ) (n i : ℕ) (v : ℤ) → n ≤ i → lastFirst (set l i v) n ≡ lastFirst l n
 unfolding lastFirst
 kept-before l zero i v h = refl
-kept-before l (suc n) i v h = ap₂ _∷_ (getD-set-other l i n v Missing (λ q. omega arith)) (kept-before l n i v (omega arith))
+kept-before l (suc n) i v h = ap₂ _∷_ (ap answerOf (getD-set-other l i n v (pos 0) (λ q. omega arith))) (kept-before l n i v (omega arith))
 
-one-more : (l : List Evaluated) (n : ℕ) (v : Evaluated) → n < length l → lastFirst (set l n v) (suc n) ≡ v ∷ lastFirst l n
+one-more : (l : List ℤ) (n : ℕ) (v : ℤ) → n < length l → lastFirst (set l n v) (suc n) ≡ answerOf v ∷ lastFirst l n
 unfolding lastFirst
-one-more l n v h = ap₂ _∷_ (getD-set-same l n v Missing h) (kept-before l n n v (omega arith))
-
-any-default : {A : Type 0} (l : List A) (i : ℕ) (d e : A) → i < length l → getD l i d ≡ getD l i e
-any-default [] i d e h = absurd (omega arith)
-any-default (x ∷ xs) zero d e h = refl
-any-default (x ∷ xs) (suc i) d e h = any-default xs i d e (omega arith)
+one-more l n v h = ap₂ _∷_ (ap answerOf (getD-set-same l n v (pos 0) h)) (kept-before l n n v (omega arith))
 
 -- an expression whose part so far comes to a value, with the answers of what waits, and the codes that are left
 pub record Worked (read : List ℕ → Reading) (e : Expression) (value : Evaluated) (waiting : List Evaluated) (l : List Code) : Type 0 where
@@ -174,60 +171,62 @@ module _ (s : Sizes) (cells : List Cell) (values : List ℤ) (marks : List ℕ) 
           let o = opened (j .1) in
           absurd (no-code (sym none ∙ l ∙ behind-join (j .0) (j .1) js ls ∙ ap (λ (m : List Code). m ++ (operator (j .0) ∷ behind js ls)) (o .codes)))
 
--- the codes from `from` up to `at` are worked out, and the first `count` answers of an array wait
+-- the codes from `from` up to `at` are worked out, and the answers of the first `count` numbers of an array wait
 module _ (s : Sizes) (cells : List Cell) (values : List ℤ) (marks : List ℕ) (u : ℕ) (kinds : List ℕ) (numbers : List ℤ) (places : List ℕ) (from to : ℕ) where
-  pub record WorkedTo (waiting : List Evaluated) (count : ℕ) (v : Evaluated) (at : ℕ) : Type 0 where
+  pub record WorkedTo (waiting : List ℤ) (count : ℕ) (v : ℤ) (at : ℕ) : Type 0 where
     pub beyond : from < at
     pub within : at ≤ to
     pub room : length waiting ≡ 18
     pub few : count ≤ 18
     pub works : (chains : List ℕ) → CodesFound s cells values marks u kinds chains places from to → (e : Expression)
-        → codesIn kinds numbers chains from to ≡ postfix e → Worked (followed s cells u) e v (lastFirst waiting count) (codesIn kinds numbers chains at to)
+        → codesIn kinds numbers chains from to ≡ postfix e → Worked (followed s cells u) e (answerOf v) (lastFirst waiting count) (codesIn kinds numbers chains at to)
 
-  pub worked-first : {waiting : List Evaluated} → from < to → length waiting ≡ 18 → WorkedTo waiting 0 (termAt s cells values marks u kinds numbers places from) (from + 1)
+  pub worked-first : {waiting : List ℤ} {v : ℤ} → from < to → length waiting ≡ 18 → answerOf v ≡ termAt s cells values marks u kinds numbers places from
+      → WorkedTo waiting 0 v (from + 1)
   unfolding lastFirst
-  worked-first h n = record {
+  worked-first h n q = record {
     beyond = omega arith;
     within = omega arith;
     room = n;
     few = omega arith;
-    works = λ chains found e q. first s cells values marks u kinds numbers places to chains e from h found q;
+    works = λ chains found e p. rw q (first s cells values marks u kinds numbers places to chains e from h found p);
   }
 
-  pub worked-push : {waiting : List Evaluated} {count : ℕ} {v : Evaluated} {at : ℕ} → WorkedTo waiting count v at → at < to → getD kinds at 0 ≤ 1 → count < 18
-      → WorkedTo (set waiting count v) (count + 1) (termAt s cells values marks u kinds numbers places at) (at + 1)
-  worked-push {waiting} {count} {v} {at} r h k l =
-      let next : count + 1 ≡ suc count = omega arith in
-      record {
-        beyond = omega (arith, r .beyond);
-        within = omega arith;
-        room = length-set waiting count v ∙ r .room;
-        few = omega arith;
-        works = λ chains found e q.
-            subst (λ (st : List Evaluated). Worked (followed s cells u) e (termAt s cells values marks u kinds numbers places at) st (codesIn kinds numbers chains (at + 1) to))
-            (sym (ap (lastFirst (set waiting count v)) next ∙ one-more waiting count v (omega (arith, r .room))))
-            (push s cells values marks u kinds numbers places to chains e at h (omega arith) (λ i b. found i (omega (arith, r .beyond))) (r .works chains found e q));
-      }
+  module _ {waiting : List ℤ} {count : ℕ} {v : ℤ} {at : ℕ} (r : WorkedTo waiting count v at) (h : at < to) where
+    pub worked-push : getD kinds at 0 ≤ 1 → count < 18 → {z : ℤ} → answerOf z ≡ termAt s cells values marks u kinds numbers places at
+        → WorkedTo (set waiting count v) (count + 1) z (at + 1)
+    worked-push k l {z} q =
+        let next : count + 1 ≡ suc count = omega arith in
+        record {
+          beyond = omega (arith, r .beyond);
+          within = omega arith;
+          room = length-set waiting count v ∙ r .room;
+          few = omega arith;
+          works = λ chains found e p.
+              rw (q, ap (lastFirst (set waiting count v)) next ∙ one-more waiting count v (omega (arith, r .room)))
+              (push s cells values marks u kinds numbers places to chains e at h (omega arith) (λ i b. found i (omega (arith, r .beyond))) (r .works chains found e p));
+        }
 
-  pub worked-pop : {waiting : List Evaluated} {count : ℕ} {v : Evaluated} {at : ℕ} → WorkedTo waiting count v at → at < to → 1 < getD kinds at 0
-      → {n : ℕ} → count ≡ suc n → (d : Evaluated) → WorkedTo waiting n (joined (operatorOf (getD kinds at 0)) (getD waiting n d) v) (at + 1)
-  unfolding lastFirst
-  worked-pop {waiting} {count} {v} {at} r h k {n} q d = record {
-    beyond = omega (arith, r .beyond);
-    within = omega arith;
-    room = r .room;
-    few = omega (arith, r .few);
-    works = λ chains found e p.
-        rw (any-default waiting n d Missing (omega (arith, r .room, r .few)))
-        (pop s cells values marks u kinds numbers places to chains e at h k
-        (subst (λ (i : ℕ). Worked (followed s cells u) e v (lastFirst waiting i) (codesIn kinds numbers chains at to)) q (r .works chains found e p)));
-  }
+    -- what waits is read back from its bits
+    pub worked-pop : 1 < getD kinds at 0 → {n : ℕ} → count ≡ suc n → mag (getD waiting n (pos 0)) < 9223372036854775808 → {z : ℤ}
+        → answerOf z ≡ joined (operatorOf (getD kinds at 0)) (answerOf (toZ w64 (ofZ w64 (getD waiting n (pos 0))))) (answerOf v) → WorkedTo waiting n z (at + 1)
+    unfolding lastFirst
+    worked-pop k {n} q b a = record {
+      beyond = omega (arith, r .beyond);
+      within = omega arith;
+      room = r .room;
+      few = omega (arith, r .few);
+      works = λ chains found e p.
+          rw (a, read-back (getD waiting n (pos 0)) b)
+          (pop s cells values marks u kinds numbers places to chains e at h k
+          (subst (λ (i : ℕ). Worked (followed s cells u) e (answerOf v) (lastFirst waiting i) (codesIn kinds numbers chains at to)) q (r .works chains found e p)));
+    }
 
   -- under the names that a later state has
-  pub worked-as : {waiting waiting′ : List Evaluated} {count count′ : ℕ} {v v′ : Evaluated} {at : ℕ} → WorkedTo waiting count v at
+  pub worked-as : {waiting waiting′ : List ℤ} {count count′ : ℕ} {v v′ : ℤ} {at : ℕ} → WorkedTo waiting count v at
       → waiting′ ≡ waiting → count′ ≡ count → v′ ≡ v → WorkedTo waiting′ count′ v′ at
   worked-as r w n q = rw (w, n, q) r
 
-  pub worked-all : {waiting : List Evaluated} {count : ℕ} {v : Evaluated} {at : ℕ} → WorkedTo waiting count v at → to ≤ at
-      → Evaluates s cells values marks u kinds numbers places from to v
+  pub worked-all : {waiting : List ℤ} {count : ℕ} {v : ℤ} {at : ℕ} → WorkedTo waiting count v at → to ≤ at
+      → Evaluates s cells values marks u kinds numbers places from to (answerOf v)
   worked-all {at} r h chains found e q = worked s cells values marks u kinds numbers places to chains e at h (r .works chains found e q)

@@ -1,19 +1,27 @@
 -- Codes whose expression is evaluated at a record: what is asked of the arrays, and what the answer says.
 use Prim.Native.Nat.{ℕ, _≤_, _<_}
 use mathlib.Core.Path.{_≡_}
+use mathlib.Core.Bool.{cond}
 use mathlib.Core.List.{List, [], _∷_, _++_}
-use lib.IntN.{ℤ}
+use lib.Dec.{eqb}
+use lib.IntN.{ℤ, pos}
 use lib.ListN.{getD}
 use Rattle.register.specs.declared.Sizes.{Sizes}
 use Rattle.register.specs.declared.cells.Cell.{Cell}
 use Rattle.program.specs.Program.{Expression}
 use Rattle.program.specs.Code.{Code, chain, number, operator, postfix, codesIn, locationAt, EachChain}
-use Rattle.step_terms.specs.Found.{Reaches, WordFound, followed}
-use Rattle.step_expressions.specs.declared.operation.Evaluated.{Evaluated}
+use Rattle.step_terms.specs.Found.{foundAt, Reaches, WordFound, followed}
+use Rattle.step_operations.specs.declared.operation.Evaluated.{Evaluated}
+use Rattle.step_operations.specs.declared.operation.Evaluated.the-variants.{Value}
 use Rattle.step_expressions.specs.declared.evaluate.Part.{Part}
 use Rattle.step_expressions.specs.declared.evaluate.Tried.{Tried}
 use Rattle.step_expressions.specs.declared.evaluate.Tried.the-variants as T
-use Rattle.step_expressions.specs.Evaluated.{evaluated}
+use Rattle.step_operations.specs.Evaluated.{ofReading, evaluated}
+
+-- what record u finds for a code that is a chain or a number
+unfoldable pub termAt : Sizes → List Cell → List ℤ → List ℕ → ℕ → List ℕ → List ℤ → List ℕ → ℕ → Evaluated
+termAt s cells values marks u kinds numbers places i =
+    cond (eqb (getD kinds i 0) 0) (ofReading (foundAt s cells values marks u (locationAt (getD places i 0)))) (Value (getD numbers i (pos 0)))
 
 -- the place of each chain of the codes from..to leads somewhere
 abbrev pub Reached : Sizes → List ℤ → List ℕ → ℕ → List ℕ → List ℕ → ℕ → ℕ → Type 0

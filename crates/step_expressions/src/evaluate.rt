@@ -3,14 +3,13 @@ ghost use mathlib.Core.Path.{_≡_};
 ghost use Prim.Native.Nat.{_+_, _<_};
 ghost use Rattle.register.specs.Cells.{cellsOf};
 ghost use Rattle.register.specs.Shape.{Parts};
-ghost use Rattle.program.specs.Code.{Arrays, operatorOf, locationAt};
-ghost use Rattle.step_expressions.specs.Evaluated.{termAt};
-ghost use Rattle.step_expressions.specs.Codes.{Reached, BeginsWith, Evaluates, Tries};
-use crate::operation;
-use crate::operation::Evaluated;
+ghost use Rattle.program.specs.Code.{Arrays, locationAt};
+ghost use Rattle.step_operations.specs.Evaluated.{answerOf};
+ghost use Rattle.step_expressions.specs.Codes.{termAt, Reached, BeginsWith, Evaluates, Tries};
 use program::location::Location;
-use program::rule::Operator;
 use register::Sizes;
+use step_operations::operation;
+use step_operations::operation::Evaluated;
 use step_terms::term;
 
 // What an expression comes to that stands first among some codes, and where it ends.
@@ -31,19 +30,7 @@ fn location_at(place: u8) -> Location
     Location::Line(place - 17)
 }
 
-fn operator_of(kind: u8) -> Operator
-    ensures { λ r. ⌜ r ≡ operatorOf kind ⌝ }
-{
-    if kind == 2 {
-        return Operator::Plus;
-    }
-    if kind == 3 {
-        return Operator::Minus;
-    }
-    Operator::Smaller
-}
-
-// A chain or a number at record u.
+// A chain or a number at record u, as the number of an answer.
 fn term_at(
     cells: &[u8],
     filled: &[u8],
@@ -55,25 +42,18 @@ fn term_at(
     numbers: &[i32],
     places: &[u8],
     at: usize,
-) -> Evaluated
+) -> i64
     requires { ⌜ Parts sizes (now cells) (now filled) × (u < sizes .records) × Arrays (now kinds) (now numbers) (now places) (at + 1) ⌝ }
     requires { ⌜ Reached sizes (now values) (now marks) u (now kinds) (now places) at (at + 1) ⌝ }
-    ensures { λ r. ⌜ r ≡ termAt sizes (cellsOf (now (cells .entry)) (now (filled .entry))) (now (values .entry)) (now (marks .entry)) u
+    ensures { λ r. ⌜ answerOf r ≡ termAt sizes (cellsOf (now (cells .entry)) (now (filled .entry))) (now (values .entry)) (now (marks .entry)) u
         (now (kinds .entry)) (now (numbers .entry)) (now (places .entry)) at ⌝ }
 {
     if kinds[at] == 0 {
         let location = location_at(places[at]);
-        return operation::of_reading(term::found_at(
-            cells,
-            filled,
-            values,
-            marks,
-            sizes,
-            u,
-            location,
-        ));
+        let reading = term::found_at(cells, filled, values, marks, sizes, u, location);
+        return operation::number_of(operation::of_reading(reading));
     }
-    Evaluated::Value(numbers[at])
+    integers::widen(numbers[at])
 }
 
 // An expression that begins at `from`: a term, and as long as an operand follows, that operand joined to it.
@@ -95,7 +75,7 @@ fn expression(
     ensures { λ r. ⌜ BeginsWith sizes (cellsOf (now (cells .entry)) (now (filled .entry))) (now (values .entry)) (now (marks .entry)) u
         (now (kinds .entry)) (now (numbers .entry)) (now (places .entry)) from to r ⌝ }
 {
-    let mut value = term_at(
+    let mut value = operation::answer_of(term_at(
         cells,
         filled,
         values,
@@ -106,47 +86,29 @@ fn expression(
         numbers,
         places,
         from,
-    );
+    ));
     let mut at = from + 1;
     while at < to && kinds[at] < 2 {
-        let next = at + 1;
-        if next < to && 1 < kinds[next] {
-            let y = term_at(
-                cells,
-                filled,
-                values,
-                marks,
-                sizes,
-                u,
-                kinds,
-                numbers,
-                places,
-                at,
-            );
-            value = operation::join(operator_of(kinds[next]), value, y);
-            at = next + 1;
-        } else {
-            let right = expression(
-                cells,
-                filled,
-                values,
-                marks,
-                sizes,
-                u,
-                kinds,
-                numbers,
-                places,
-                at,
-                to,
-            );
-            let end = right.end;
-            if to <= end {
-                return Part { value, end: to };
-            }
-            let y = right.value;
-            value = operation::join(operator_of(kinds[end]), value, y);
-            at = end + 1;
+        let right = expression(
+            cells,
+            filled,
+            values,
+            marks,
+            sizes,
+            u,
+            kinds,
+            numbers,
+            places,
+            at,
+            to,
+        );
+        let end = right.end;
+        if to <= end {
+            return Part { value, end: to };
         }
+        let y = right.value;
+        value = operation::join(kinds[end], value, y);
+        at = end + 1;
     }
     Part { value, end: at }
 }
@@ -177,7 +139,7 @@ fn shallow(
     ensures { λ r. ⌜ Tries sizes (cellsOf (now (cells .entry)) (now (filled .entry))) (now (values .entry)) (now (marks .entry)) u
         (now (kinds .entry)) (now (numbers .entry)) (now (places .entry)) from to r ⌝ }
 {
-    let mut waiting = [Evaluated::Missing; 18];
+    let mut waiting = [0i64; 18];
     let mut count = 0;
     let mut value = term_at(
         cells,
@@ -219,7 +181,7 @@ fn shallow(
             );
         }
     }
-    Tried::Value(value)
+    Tried::Value(operation::answer_of(value))
 }
 
 // The expression whose codes are those from..to.

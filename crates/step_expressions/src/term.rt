@@ -5,27 +5,20 @@ ghost use Rattle.register.specs.Cells.{cellsOf};
 ghost use Rattle.register.specs.Shape.{Parts};
 ghost use Rattle.program.specs.Code.{codesKept};
 ghost use Rattle.program.specs.Stored.{termIn, testIn};
-ghost use Rattle.machine.specs.Value.{compare as compareOf};
 ghost use Rattle.step_terms.specs.Found.{readsOf, TermFound, TestFound};
-ghost use Rattle.step_expressions.specs.Evaluated.{evaluated};
-ghost use Rattle.step_expressions.specs.Tests.{answered, compared, tested};
+ghost use Rattle.step_operations.specs.Evaluated.{evaluated};
+ghost use Rattle.step_operations.specs.Tests.{tested};
 use crate::evaluate;
-use crate::operation;
-use crate::operation::Evaluated;
 use program::location::Location;
 use program::location::Places;
-use program::rule::Comparison;
 use program::rule::Test;
 use program::term::Term;
 use register::Sizes;
+use step_operations::comparison;
+use step_operations::comparison::Tested;
+use step_operations::operation;
+use step_operations::operation::Evaluated;
 use step_terms::term;
-
-// A test holds or fails; or one of its sums leaves the range.
-pub enum Tested {
-    Holds,
-    Fails,
-    OutOfRange,
-}
 
 // A term at record u. The chains of the codes are for the contract: the places say where they are found.
 pub fn term_value(
@@ -71,41 +64,6 @@ pub fn term_value(
             from as usize,
             to as usize,
         ),
-    }
-}
-
-pub fn compare(comparison: Comparison, a: i32, b: i32) -> bool
-    ensures { λ r. ⌜ r ≡ compareOf comparison a b ⌝ }
-{
-    match comparison {
-        Comparison::Less => integers::less(a, b),
-        Comparison::Equal => integers::equal(a, b),
-        Comparison::Unequal => !integers::equal(a, b),
-    }
-}
-
-fn answer(holds: bool) -> Tested
-    ensures { λ r. ⌜ r ≡ answered holds ⌝ }
-{
-    if holds { Tested::Holds } else { Tested::Fails }
-}
-
-// Two sides: an unfilled one never holds, and a sum out of range is told even where the other side is unfilled.
-fn compare_sides(x: Evaluated, comparison: Comparison, y: Evaluated) -> Tested
-    ensures { λ r. ⌜ r ≡ compared comparison x y ⌝ }
-{
-    match x {
-        Evaluated::OutOfRange => Tested::OutOfRange,
-        Evaluated::Missing => match y {
-            Evaluated::OutOfRange => Tested::OutOfRange,
-            Evaluated::Missing => Tested::Fails,
-            Evaluated::Value(_) => Tested::Fails,
-        },
-        Evaluated::Value(a) => match y {
-            Evaluated::OutOfRange => Tested::OutOfRange,
-            Evaluated::Missing => Tested::Fails,
-            Evaluated::Value(b) => answer(compare(comparison, a, b)),
-        },
     }
 }
 
@@ -162,7 +120,7 @@ pub fn test_at(
                 y,
                 second,
             );
-            compare_sides(left, comparison, right)
+            comparison::compare_sides(left, comparison, right)
         }
     }
 }

@@ -32,8 +32,8 @@ use Rattle.machine.specs.Step.{sumOffence}
 use Rattle.machine.proofs.Stops.{sum-at}
 use Rattle.step_terms.specs.Found.{followed}
 use Rattle.step_effects.specs.Answers.{writeOf}
-use Rattle.step_expressions.specs.Plain.{plainSlot}
-use Rattle.step_expressions.proofs.Plainly.{plain-reads}
+use Rattle.step_tests.specs.Plain.{plainSlot}
+use Rattle.step_tests.proofs.Plainly.{plain-reads}
 use Rattle.step_effects.specs.declared.stored.Write.{Write}
 use Rattle.step_effects.specs.declared.stored.Write.the-variants.{Nothing, Store, OutOfRange}
 use Rattle.step_cells.specs.Work.{Room, HoldsCells, Same, Put, Small}

@@ -20,7 +20,7 @@ use Rattle.program.specs.Stored.{targetIn, ruleIn}
 use Rattle.machine.specs.Local.{offends, localRule, localRecords, sumColumn}
 use Rattle.machine.specs.Step.{sumOffence}
 use Rattle.step_terms.specs.Found.{followed, RuleReads}
-use Rattle.step_expressions.specs.Plain.{plainSlot, PlainReads}
+use Rattle.step_tests.specs.Plain.{plainSlot, PlainReads}
 use Rattle.step_effects.specs.Answers.{writeOf}
 use Rattle.step_effects.specs.declared.stored.Write.{Write}
 use Rattle.step_effects.specs.declared.stored.Write.the-variants as W

@@ -19,9 +19,9 @@ use register::cells;
 use scratch;
 use step_cells;
 use step_cells::stop::Stop;
-use step_effects::plain;
 use step_effects::stored;
 use step_effects::stored::Write;
+use step_plain;
 
 // Stores a value in the working cell of record u and a field: it is worked out, whatever was read for it.
 fn store(
@@ -114,7 +114,7 @@ pub fn apply_plain(
     ensures { λ r. ⌜ PlainLocal sizes (cellsOfFile sizes (now (out .entry))) base u (rule .slot)
         (now (values .entry)) (now (marks .entry)) (now (values .exit)) (now (marks .exit)) r ⌝ }
 {
-    let write = plain::local_write(
+    let write = step_plain::local_write(
         cells::values_part(out, sizes),
         cells::marks_part(out, sizes),
         &values[..base],

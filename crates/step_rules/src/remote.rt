@@ -17,9 +17,9 @@ use program::location::Located;
 use register::Sizes;
 use register::cells;
 use step_cells;
-use step_effects::plain;
 use step_effects::sent;
 use step_effects::sent::Sent;
+use step_plain;
 
 // The message of a rule, where it sends one. The number of messages, with those sent before: a number of its own would be made 0
 // or 1 on every way out and added.
@@ -105,7 +105,7 @@ fn apply_plain(
     ensures { λ r. ⌜ PlainDelivered sizes (cellsOf (now (cells .entry)) (now (filled .entry))) base u (rule .slot)
         (now (values .entry)) (now (marks .entry)) (now (values .exit)) (now (marks .exit)) sent r ⌝ }
 {
-    let message = plain::message_of(
+    let message = step_plain::message_of(
         cells,
         filled,
         &values[..base],

@@ -14,10 +14,10 @@ use Rattle.program.specs.declared.rule.Rule.the-variants.{Set, Combine, Remote}
 use Rattle.program.specs.Program.{isRemote}
 use Rattle.program.specs.Stored.{targetIn}
 use Rattle.machine.specs.Remote.{sentTo}
-use Rattle.step_expressions.specs.declared.operation.Evaluated.{Evaluated}
-use Rattle.step_expressions.specs.declared.operation.Evaluated.the-variants.{Value}
-use Rattle.step_expressions.proofs.operation.Evaluated as E
-use Rattle.step_expressions.proofs.Sides.{both-values, named}
+use Rattle.step_operations.specs.declared.operation.Evaluated.{Evaluated}
+use Rattle.step_operations.specs.declared.operation.Evaluated.the-variants.{Value}
+use Rattle.step_operations.proofs.operation.Evaluated as E
+use Rattle.step_tests.proofs.Sides.{both-values, named}
 use Rattle.step_effects.specs.Answers.{messagesIn}
 use Rattle.step_effects.proofs.Answering.{send-local, sent-nowhere, sent-one, sent-none}
 use borrow.Author.Needs.{needs}

@@ -1,6 +1,7 @@
 -- `step_expressions::evaluate::expression` meets its contract: it calls itself on an operand, which has fewer codes.
 -- Assumes nothing.
 use Prim.Native.Nat.{ℕ, _-_, _<_}
+use mathlib.Core.Path.{_∙_}
 use native.Mathlib.Omega.{arith}
 use borrow.Author.Needs.{needs}
 use borrow.Author.Tests.{ltb-true, lt-ltb}
@@ -8,13 +9,14 @@ use borrow.Fn.Kinds.{In}
 use borrow.Fn.PlainCycle.{Measures, is, falls, and}
 use Rattle.laws.proofs.Bools.{true-false}
 use Rattle.register.specs.Cells.{cellsOf}
-use Rattle.step_expressions.proofs.Reading.{first-asked, ReadTo, read-first, read-single, read-more, read-none, read-all}
+use Rattle.step_operations.proofs.Operating.{read-back}
+use Rattle.step_expressions.proofs.Reading.{first-asked, ReadTo, read-first, read-more, read-none, read-all}
 use Rattle.step_expressions.proofs.evaluate.expression.Reads as expression
 use Rattle.step_expressions.proofs.evaluate.expression.Kinds as expression-kinds
 use Rattle.step_expressions.proofs.evaluate.+expression.Lts-expression as expression-lts
-use Rattle.step_expressions.proofs.evaluate.operator_of.Reads as operator-of-reads
 use Rattle.step_expressions.proofs.evaluate.term_at.Reads as term-at-reads
-use Rattle.step_expressions.proofs.operation.join.Reads as join-reads
+use Rattle.step_operations.proofs.operation.answer_of.Reads as answer-of-reads
+use Rattle.step_operations.proofs.operation.join.Reads as join-reads
 use Rattle.step_expressions.proofs.evaluate.+expression.{statement}
 use Rattle.step_expressions.proofs.evaluate.+expression.Tie.{close}
 
@@ -33,12 +35,12 @@ abbrev called : ℕ → expression-lts.Claims
 called t = (
   term-at-reads.Asked,
   term-at-reads.Learnt,
-  operator-of-reads.Asked,
-  operator-of-reads.Learnt,
-  join-reads.Asked,
-  join-reads.Learnt,
+  answer-of-reads.Asked,
+  answer-of-reads.Learnt,
   expression-below t,
   expression.Post,
+  join-reads.Asked,
+  join-reads.Learnt,
 )
 
 abbrev Inv-loop : expression-lts.InvT-loop
@@ -56,115 +58,69 @@ module _ (t : ℕ) where
       let f = first-asked _ _ _ _ _ _ _ _ _ (p .3) (p .2) (s .pre .1 .1) in
       ((p .0, p .1, f .0), f .1)
 
+  answer-of-requires : expression-lts.Need-answer-of-requires (called t) (expression-at t) expression.Post Inv-loop μ-loop
+  answer-of-requires c κs = search needs
+
   add-at : expression-lts.Need-add-at (called t) (expression-at t) expression.Post Inv-loop μ-loop
-  add-at c = let s = c .before .before .before .before .before .before in record { fits = omega (arith, s .pre .1 .0 .3, s .fits .to .fits) }
+  add-at c =
+      let s = c .before .before .before .before .before .before .before in
+      record { fits = omega (arith, s .pre .1 .0 .3, s .fits .to .fits) }
 
   loop-holds : expression-lts.Need-loop-holds (called t) (expression-at t) expression.Post Inv-loop μ-loop
-  loop-holds c = rw (c .term-at .ensures) (read-first _ _ _ _ _ _ _ _ _ _ (c .before .before .before .before .before .before .pre .1 .0 .3))
+  loop-holds c =
+      let k = c .before in
+      rw (c .answer-of .ensures ∙ read-back _ (k .term-at .ok) ∙ k .term-at .ensures)
+      (read-first _ _ _ _ _ _ _ _ _ _ (k .before .before .before .before .before .before .pre .1 .0 .3))
+
+  -- a code that is an operand's first is at hand
+  module _ (c : expression-lts.In-loop (called t) (expression-at t) expression.Post Inv-loop μ-loop) where
+    abbrev start : expression-lts.Start (called t) (expression-at t) expression.Post Inv-loop μ-loop
+    start = c .before .before .before .before .before .before .before .before .before
 
   shared-slice-read-if1 : expression-lts.Need-shared-slice-read-if1 (called t) (expression-at t) expression.Post Inv-loop μ-loop
-  shared-slice-read-if1 c =
-      let s = c .before .before .before .before .before .before .before .before .before in
-      omega (arith, c .before .loop-test .taken, s .pre .1 .0 .2 .in-kinds)
+  shared-slice-read-if1 c = omega (arith, c .before .loop-test .taken, start (c .before) .pre .1 .0 .2 .in-kinds)
 
-  add-next : expression-lts.Need-add-next (called t) (expression-at t) expression.Post Inv-loop μ-loop
-  add-next c =
-      let s = c .before .before .before .before .before .before .before .before .before .before in
-      record { fits = omega (arith, c .before .before .loop-test .taken, s .fits .to .fits) }
+  expression-requires : expression-lts.Need-expression-requires (called t) (expression-at t) expression.Post Inv-loop μ-loop
+  expression-requires c κs =
+      let l = c .before .before in
+      let p = start l .pre in
+      let b = l .before .loop .inv .beyond in
+      let h = l .loop-test .taken in
+      (omega (arith, p .0, b, h), ((p .1 .0 .0, p .1 .0 .1, p .1 .0 .2, h), λ i q. p .1 .1 i (omega (arith, b))))
 
-  shared-slice-read-if3 : expression-lts.Need-shared-slice-read-if3 (called t) (expression-at t) expression.Post Inv-loop μ-loop
-  shared-slice-read-if3 c =
-      let s = c .before .before .before .before .before .before .before .before .before .before .before .before in
-      omega (arith, c .before .if2 .taken, s .pre .1 .0 .2 .in-kinds)
+  returns : expression-lts.Need-returns (called t) (expression-at t) expression.Post Inv-loop μ-loop
+  returns c =
+      let k = c .before .before in
+      let l = k .before .before in
+      read-none _ _ _ _ _ _ _ _ _ _ (l .before .loop .inv) (l .loop-test .taken) (ltb-true _ 2 (k .if1 .taken)) _
+      (c .before .expression .ensures) (c .if2 .taken)
 
-  term-at-requires-2 : expression-lts.Need-term-at-requires-2 (called t) (expression-at t) expression.Post Inv-loop μ-loop
-  term-at-requires-2 c κs =
-      let l = c .before .before .before .before .before .before in
-      let s = l .before .before .before .before .before .before .before in
-      let p = s .pre .1 .0 in
-      let inside = c .before .before .before .before .before .loop-test .taken in
-      let f = first-asked _ _ _ _ _ _ _ _ _ inside (p .2) (λ i h. s .pre .1 .1 i (omega (arith, l .loop .inv .beyond))) in
-      ((p .0, p .1, f .0), f .1)
-
-  shared-slice-read-operator-of : expression-lts.Need-shared-slice-read-operator-of (called t) (expression-at t) expression.Post Inv-loop μ-loop
-  shared-slice-read-operator-of c =
-      let n = c .before .before .before .before in
-      let s = n .before .before .before .before .before .before .before .before .before .before .before in
-      omega (arith, n .if2 .taken, s .pre .1 .0 .2 .in-kinds)
-
-  operator-of-requires : expression-lts.Need-operator-of-requires (called t) (expression-at t) expression.Post Inv-loop μ-loop
-  operator-of-requires c κs = search needs
+  shared-slice-read-join : expression-lts.Need-shared-slice-read-join (called t) (expression-at t) expression.Post Inv-loop μ-loop
+  shared-slice-read-join c =
+      let l = c .before .before .before .before .before in
+      omega (arith, c .before .if2 .left, start l .pre .1 .0 .2 .in-kinds)
 
   join-requires : expression-lts.Need-join-requires (called t) (expression-at t) expression.Post Inv-loop μ-loop
   join-requires c κs = search needs
 
   add-at-2 : expression-lts.Need-add-at-2 (called t) (expression-at t) expression.Post Inv-loop μ-loop
   add-at-2 c =
-      let n = c .before .before .before .before .before .before in
-      let s = n .before .before .before .before .before .before .before .before .before .before .before in
-      record { fits = omega (arith, n .if2 .taken, s .fits .to .fits) }
+      let e = c .before .before in
+      record { fits = omega (arith, e .if2 .left, start (e .before .before .before .before) .fits .to .fits) }
 
   loop-less : expression-lts.Need-loop-less (called t) (expression-at t) expression.Post Inv-loop μ-loop
   loop-less c =
-      let n = c .before .before .before .before .before .before in
-      omega (arith, n .if2 .taken)
+      let e = c .before .before in
+      omega (arith, e .if2 .left, e .before .expression .ensures .goes-on)
 
   loop-again : expression-lts.Need-loop-again (called t) (expression-at t) expression.Post Inv-loop μ-loop
   loop-again c =
-      let n = c .before .before .before .before in
-      let k = n .before .before .before in
+      let e = c .before .before in
+      let k = e .before .before in
       let l = k .before .before in
-      rw (c .join .ensures, c .before .operator-of .ensures, c .before .before .before .term-at2 .ensures)
-      (read-single _ _ _ _ _ _ _ _ _ _ (l .before .loop .inv) (l .loop-test .taken) (ltb-true _ 2 (k .if1 .taken))
-      (n .before .before .if2 .taken) (ltb-true 1 _ (n .if3 .taken)))
-
-  expression-requires : expression-lts.Need-expression-requires (called t) (expression-at t) expression.Post Inv-loop μ-loop
-  expression-requires c κs =
-      let l = c .before .before .before .before in
-      let s = l .before .before .before .before .before .before .before in
-      let p = s .pre .1 .0 in
-      let b = l .loop .inv .beyond in
-      let h = c .before .before .before .loop-test .taken in
-      (omega (arith, s .pre .0, b, h), ((p .0, p .1, p .2, h), λ i q. s .pre .1 .1 i (omega (arith, b))))
-
-  returns : expression-lts.Need-returns (called t) (expression-at t) expression.Post Inv-loop μ-loop
-  returns c =
-      let k = c .before .before .before in
-      let l = k .before .before in
-      read-none _ _ _ _ _ _ _ _ _ _ (l .before .loop .inv) (l .loop-test .taken) (ltb-true _ 2 (k .if1 .taken)) _
-      (c .before .expression .ensures) (c .if4 .taken)
-
-  shared-slice-read-operator-of-2 : expression-lts.Need-shared-slice-read-operator-of-2 (called t) (expression-at t) expression.Post Inv-loop μ-loop
-  shared-slice-read-operator-of-2 c =
-      let e = c .before in
-      let s = e .before .before .before .before .before .before .before .before .before .before .before .before .before in
-      omega (arith, e .if4 .left, s .pre .1 .0 .2 .in-kinds)
-
-  operator-of-requires-2 : expression-lts.Need-operator-of-requires-2 (called t) (expression-at t) expression.Post Inv-loop μ-loop
-  operator-of-requires-2 c κs = search needs
-
-  join-requires-2 : expression-lts.Need-join-requires-2 (called t) (expression-at t) expression.Post Inv-loop μ-loop
-  join-requires-2 c κs = search needs
-
-  add-at-3 : expression-lts.Need-add-at-3 (called t) (expression-at t) expression.Post Inv-loop μ-loop
-  add-at-3 c =
-      let e = c .before .before .before in
-      let s = e .before .before .before .before .before .before .before .before .before .before .before .before .before in
-      record { fits = omega (arith, e .if4 .left, s .fits .to .fits) }
-
-  loop-less-2 : expression-lts.Need-loop-less-2 (called t) (expression-at t) expression.Post Inv-loop μ-loop
-  loop-less-2 c =
-      let e = c .before .before .before in
-      omega (arith, e .if4 .left, e .before .expression .ensures .goes-on)
-
-  loop-again-2 : expression-lts.Need-loop-again-2 (called t) (expression-at t) expression.Post Inv-loop μ-loop
-  loop-again-2 c =
-      let e = c .before .before .before in
-      let k = e .before .before .before in
-      let l = k .before .before in
-      rw (c .join2 .ensures, c .before .operator-of2 .ensures)
+      rw (c .join .ensures)
       (read-more _ _ _ _ _ _ _ _ _ _ (l .before .loop .inv) (l .loop-test .taken) (ltb-true _ 2 (k .if1 .taken)) _
-      (e .before .expression .ensures) (e .if4 .left))
+      (e .before .expression .ensures) (e .if2 .left))
 
   returns-2 : expression-lts.Need-returns-2 (called t) (expression-at t) expression.Post Inv-loop μ-loop
   returns-2 c = read-all _ _ _ _ _ _ _ _ _ _ (c .before .before .before .loop .inv) (λ l k. true-false (lt-ltb _ 2 k) (c .if1 .left))
@@ -178,25 +134,16 @@ pub +expression-spec : {M : Type 1} → statement M
     (λ t.
     expression-lts.spec (called t) (expression-at t) expression.Post Inv-loop μ-loop
     (term-at-requires t)
+    (answer-of-requires t)
     (add-at t)
     (loop-holds t)
     (shared-slice-read-if1 t)
-    (add-next t)
-    (shared-slice-read-if3 t)
-    (term-at-requires-2 t)
-    (shared-slice-read-operator-of t)
-    (operator-of-requires t)
+    (expression-requires t)
+    (returns t)
+    (shared-slice-read-join t)
     (join-requires t)
     (add-at-2 t)
     (loop-less t)
     (loop-again t)
-    (expression-requires t)
-    (returns t)
-    (shared-slice-read-operator-of-2 t)
-    (operator-of-requires-2 t)
-    (join-requires-2 t)
-    (add-at-3 t)
-    (loop-less-2 t)
-    (loop-again-2 t)
     (returns-2 t)
     (returns-3 t))

@@ -1,11 +1,14 @@
 -- `step_expressions::evaluate::shallow` meets its contract: a term waits until its operator comes.
 -- Assumes nothing.
 use Prim.Native.Nat.{suc, _-_, _<_}
-use mathlib.Core.Path.{_≡_, refl}
+use mathlib.Core.Path.{_≡_, refl, ap, _∙_}
 use mathlib.Core.Logic.{⊎-elim}
 use native.Mathlib.Omega.{arith}
 use borrow.Author.Needs.{needs}
+use mir.Syntax.{w64}
+use mir.Val.{toZ}
 use Rattle.register.specs.Cells.{cellsOf}
+use Rattle.step_operations.proofs.Operating.{read-back}
 use Rattle.step_expressions.proofs.Reading.{first-asked}
 use Rattle.step_expressions.proofs.Waiting.{WorkedTo, worked-first, worked-push, worked-pop, worked-as, worked-all}
 use Rattle.step_expressions.proofs.evaluate.shallow.Statement.{statement}
@@ -13,7 +16,7 @@ use Rattle.step_expressions.proofs.evaluate.shallow.Tie as tie
 
 abbrev Inv-loop : tie.InvT-loop
 Inv-loop cells filled values marks sizes u kinds numbers places from to waiting₀ count₀ value₀ at₀ waiting count value at =
-    WorkedTo sizes (cellsOf cells filled) values marks u kinds numbers places from to waiting count value at
+    WorkedTo sizes (cellsOf cells filled) values marks u kinds numbers places from to waiting count (toZ w64 value) at
 
 abbrev μ-loop : tie.MeasureT-loop
 μ-loop cells filled values marks sizes u kinds numbers places from to waiting₀ count₀ value₀ at₀ waiting count value at = to - at
@@ -29,7 +32,8 @@ add-at : tie.Need-add-at Inv-loop μ-loop
 add-at c = let s = c .before .before .before .before .before .before in record { fits = omega (arith, s .pre .0 .3, s .fits .to .fits) }
 
 loop-holds : tie.Need-loop-holds Inv-loop μ-loop
-loop-holds c = rw (c .term-at .ensures) (worked-first _ _ _ _ _ _ _ _ _ _ (c .before .before .before .before .before .before .pre .0 .3) refl)
+loop-holds c =
+    worked-first _ _ _ _ _ _ _ _ _ _ (c .before .before .before .before .before .before .pre .0 .3) refl (read-back _ (c .term-at .ok) ∙ c .term-at .ensures)
 
 -- the kind of a code is at hand
 abbrev Turning : Type 0
@@ -101,14 +105,19 @@ loop-again c =
     ⊎-elim
     (λ w.
     let n : head t .loop .count ≡ suc (head t .loop .count - 1) = omega (arith, w .1 .left) in
-    worked-as _ _ _ _ _ _ _ _ _ _ (rw (w .4 .ensures) (worked-pop _ _ _ _ _ _ _ _ _ _ inv (in-kinds t) (w .0 .taken) n _)) (w .5) (w .6) (w .7))
+    worked-as _ _ _ _ _ _ _ _ _ _
+    (worked-pop _ _ _ _ _ _ _ _ _ _ inv (in-kinds t) (w .0 .taken) n (w .2 .given) (read-back _ (w .4 .ok) ∙ w .4 .ensures)) (w .5) (w .6) (ap (toZ w64) (w .7)))
     (λ w.
     let few : head t .loop .count < 18 = omega (arith, w .1 .left, inv .few) in
-    worked-as _ _ _ _ _ _ _ _ _ _ (rw (w .2 .ensures) (worked-push _ _ _ _ _ _ _ _ _ _ inv (in-kinds t) (w .0 .left) few)) (w .3) (w .4) (w .5))
+    worked-as _ _ _ _ _ _ _ _ _ _
+    (worked-push _ _ _ _ _ _ _ _ _ _ inv (in-kinds t) (w .0 .left) few (read-back _ (w .2 .ok) ∙ w .2 .ensures)) (w .3) (w .4) (ap (toZ w64) (w .5)))
     (c .if1 .came)
 
+answer-of-requires : tie.Need-answer-of-requires Inv-loop μ-loop
+answer-of-requires c κs = search needs
+
 returns-3 : tie.Need-returns-3 Inv-loop μ-loop
-returns-3 c = worked-all _ _ _ _ _ _ _ _ _ _ (c .before .loop .inv) (c .loop-test .left)
+returns-3 c = rw (c .answer-of .ensures) (worked-all _ _ _ _ _ _ _ _ _ _ (c .before .before .loop .inv) (c .before .loop-test .left))
 
 pub shallow-spec : {M : Type 1} → statement M
 shallow-spec =
@@ -134,4 +143,5 @@ shallow-spec =
     add-at-2
     loop-less
     loop-again
+    answer-of-requires
     returns-3)

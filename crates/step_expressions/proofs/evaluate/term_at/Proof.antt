@@ -5,8 +5,9 @@ use native.Mathlib.Omega.{arith}
 use borrow.Author.Tests.{eq-eqb, ne-eqb}
 use Rattle.integers.proofs.Complement.{kept}
 use Rattle.step_terms.specs.Found.{foundAt}
-use Rattle.step_expressions.specs.declared.operation.Evaluated.the-variants.{Value}
-use Rattle.step_expressions.specs.Evaluated.{ofReading, termAt}
+use Rattle.step_operations.specs.Evaluated.{ofReading, answerOf}
+use Rattle.step_expressions.specs.Codes.{termAt}
+use Rattle.step_operations.proofs.Operating.{read-back, value-answer}
 use borrow.Author.Needs.{needs}
 use Rattle.step_expressions.proofs.evaluate.term_at.Statement.{statement}
 use Rattle.step_expressions.proofs.evaluate.term_at.Tie as tie
@@ -28,21 +29,31 @@ found-at-requires c κs =
 of-reading-requires : tie.Need-of-reading-requires
 of-reading-requires c κs = search needs
 
+number-of-requires : tie.Need-number-of-requires
+number-of-requires c κs = search needs
+
 returns : tie.Need-returns
 unfolding termAt
 returns c =
-    simp (eq-eqb _ 0 (c .before .before .before .before .if1 .taken))
-    (c .of-reading .ensures ∙ ap ofReading (c .before .found-at .ensures ∙ ap (foundAt _ _ _ _ _) (c .before .before .location-at .ensures)))
+    let r = c .before in
+    simp (eq-eqb _ 0 (r .before .before .before .before .if1 .taken))
+    (read-back _ (c .number-of .ok) ∙ c .number-of .ensures
+    ∙ r .of-reading .ensures ∙ ap ofReading (r .before .found-at .ensures ∙ ap (foundAt _ _ _ _ _) (r .before .before .location-at .ensures)))
 
-mul-t18 : tie.Need-mul-t18
-mul-t18 c = search needs
+mul-widen : tie.Need-mul-widen
+mul-widen c = search needs
 
-shared-slice-copy-out-t20 : tie.Need-shared-slice-copy-out-t20
-shared-slice-copy-out-t20 c = search needs
+shared-slice-copy-out-widen : tie.Need-shared-slice-copy-out-widen
+shared-slice-copy-out-widen c = search needs
+
+widen-requires : tie.Need-widen-requires
+widen-requires c κs = search needs
 
 returns-2 : tie.Need-returns-2
 unfolding termAt
-returns-2 c = simp (ne-eqb _ 0 (c .before .if1 .left)) (ap Value (kept _ (c .t20 .given)))
+returns-2 c =
+    simp (ne-eqb _ 0 (c .before .before .if1 .left))
+    (read-back _ (c .widen .ok) ∙ ap answerOf (c .widen .ensures ∙ kept _ (c .before .widen-arg .given)) ∙ value-answer _ (c .before .widen-arg .given))
 
 pub term-at-spec : {M : Type 1} → statement M
 term-at-spec =
@@ -53,7 +64,9 @@ term-at-spec =
     location-at-requires
     found-at-requires
     of-reading-requires
+    number-of-requires
     returns
-    mul-t18
-    shared-slice-copy-out-t20
+    mul-widen
+    shared-slice-copy-out-widen
+    widen-requires
     returns-2)

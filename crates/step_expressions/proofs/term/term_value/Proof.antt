@@ -5,8 +5,8 @@ use Rattle.integers.proofs.Complement.{kept}
 use Rattle.program.specs.Code.{treeIn}
 use Rattle.program.specs.Stored.{termIn}
 use Rattle.machine.specs.Value.{value, overflows}
-use Rattle.step_expressions.specs.declared.operation.Evaluated.the-variants.{Value}
-use Rattle.step_expressions.specs.Evaluated.{ofReading, evaluated}
+use Rattle.step_operations.specs.declared.operation.Evaluated.the-variants.{Value}
+use Rattle.step_operations.specs.Evaluated.{ofReading, evaluated}
 use borrow.Author.Needs.{needs}
 use Rattle.step_expressions.proofs.term.term_value.Statement.{statement}
 use Rattle.step_expressions.proofs.term.term_value.Tie as tie

@@ -4,8 +4,8 @@ use mathlib.Core.Path.{ap₂, _∙_}
 use Rattle.program.specs.Stored.{testIn}
 use Rattle.machine.specs.Value.{holds}
 use Rattle.machine.specs.Local.{testOverflows}
-use Rattle.step_expressions.specs.Tests.{answered, tested, compared}
-use Rattle.step_expressions.proofs.Testing.{test-compared}
+use Rattle.step_operations.specs.Tests.{answered, tested, compared}
+use Rattle.step_operations.proofs.Testing.{test-compared}
 use borrow.Author.Needs.{needs}
 use Rattle.step_expressions.proofs.term.test_at.Statement.{statement}
 use Rattle.step_expressions.proofs.term.test_at.Tie as tie

@@ -1,0 +1,31 @@
+-- `step_operations::operation::kind_of` meets its contract.
+-- Assumes nothing.
+use mathlib.Core.Path.{sym}
+use borrow.Author.Needs.{needs}
+use Rattle.program.specs.Code.{operatorOf}
+use Rattle.step_operations.proofs.operation.kind_of.Statement.{statement}
+use Rattle.step_operations.proofs.operation.kind_of.Tie as tie
+
+enum-told : tie.Need-enum-told
+enum-told c = search needs
+
+enum-told-2 : tie.Need-enum-told-2
+enum-told-2 c = search needs
+
+enum-told-3 : tie.Need-enum-told-3
+enum-told-3 c = search needs
+
+returns : tie.Need-returns
+unfolding operatorOf
+returns c = sym (c .enum-told .given .1)
+
+returns-2 : tie.Need-returns-2
+unfolding operatorOf
+returns-2 c = sym (c .enum-told2 .given .1)
+
+returns-3 : tie.Need-returns-3
+unfolding operatorOf
+returns-3 c = sym (c .enum-told3 .given .1)
+
+pub kind-of-spec : {M : Type 1} → statement M
+kind-of-spec = tie.close (tie.spec enum-told enum-told-2 enum-told-3 returns returns-2 returns-3)

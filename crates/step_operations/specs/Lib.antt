@@ -1,0 +1,3 @@
+-- What an expression and a test come to at one record.
+pub mod Evaluated
+pub mod Tests

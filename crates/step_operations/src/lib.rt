@@ -1,0 +1,3 @@
+// Answers of expressions, operations on them, and their comparisons.
+pub mod comparison;
+pub mod operation;

@@ -1,0 +1,2 @@
+-- Laws of plain rules.
+pub mod Doing

@@ -1,0 +1,2 @@
+-- What a plain rule stores and sends.
+pub mod Done

@@ -1,0 +1,3 @@
+-- Laws of plain terms, and of two readings.
+pub mod Plainly
+pub mod Sides

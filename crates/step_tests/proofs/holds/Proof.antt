@@ -1,0 +1,49 @@
+-- `step_tests::holds` meets its contract.
+-- Assumes nothing.
+use mathlib.Core.Path.{ap₂, _∙_}
+use Rattle.program.specs.Stored.{testIn}
+use Rattle.machine.specs.Value.{holds, compareReadings}
+use borrow.Author.Needs.{needs}
+use Rattle.step_tests.proofs.holds.Statement.{statement}
+use Rattle.step_tests.proofs.holds.Tie as tie
+
+enum-told : tie.Need-enum-told
+enum-told c = search needs
+
+enum-known-test : tie.Need-enum-known-test
+enum-known-test c = search needs
+
+term-value-requires : tie.Need-term-value-requires
+term-value-requires c κs =
+    let s = c .before .before .before .before .before .before in
+    (s .pre .0, s .pre .1, (rw (c .before .test .given .1) at (s .pre .2)) .0)
+
+term-value-requires-2 : tie.Need-term-value-requires-2
+term-value-requires-2 c κs =
+    let s = c .before .before .before .before .before .before .before in
+    (s .pre .0, s .pre .1, (rw (c .before .before .test .given .1) at (s .pre .2)) .1)
+
+compare-readings-requires : tie.Need-compare-readings-requires
+compare-readings-requires c κs = search needs
+
+returns : tie.Need-returns
+unfolding testIn holds
+returns c k = rw (c .enum-told .given .1)
+
+returns-2 : tie.Need-returns-2
+unfolding testIn holds
+returns-2 c k =
+    rw (c .before .before .before .before .test .given .1)
+    (c .compare-readings .ensures ∙ ap₂ (compareReadings _) (c .before .before .term-value .ensures k) (c .before .term-value2 .ensures k))
+
+pub holds-spec : {M : Type 1} → statement M
+holds-spec =
+    tie.close
+    (tie.spec
+    enum-told
+    enum-known-test
+    term-value-requires
+    term-value-requires-2
+    compare-readings-requires
+    returns
+    returns-2)

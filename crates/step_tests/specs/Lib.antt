@@ -1,0 +1,2 @@
+-- Plain rules and tests.
+pub mod Plain
