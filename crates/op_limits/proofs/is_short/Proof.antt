@@ -1,4 +1,4 @@
--- `op_check::scratch::is_short` meets its contract.
+-- `op_limits::is_short` meets its contract.
 -- Assumes nothing.
 use Prim.Native.Nat.{_+_}
 use native.Mathlib.Omega.{arith}
@@ -7,8 +7,8 @@ use borrow.Author.Needs.{needs}
 use borrow.Author.Tests.{lt-ltb, le-ltb}
 use Rattle.register.specs.File.{width}
 use Rattle.machine.specs.Run.{scratch, isShort}
-use Rattle.op_check.proofs.scratch.is_short.Statement.{statement}
-use Rattle.op_check.proofs.scratch.is_short.Tie as tie
+use Rattle.op_limits.proofs.is_short.Statement.{statement}
+use Rattle.op_limits.proofs.is_short.Tie as tie
 
 add-places : tie.Need-add-places
 add-places c = search needs

@@ -1,13 +1,13 @@
--- `op_run::copy` meets its contract. The loop's invariant: the bytes passed are copied.
+-- `op_ready::copy` meets its contract. The loop's invariant: the bytes passed are copied.
 -- Assumes nothing.
 use Prim.Native.Nat.{_-_}
 use mathlib.Core.Path.{_≡_, refl, sym, _∙_}
 use native.Mathlib.Omega.{arith}
 use denote.Ref.{now}
 use lib.ListN.{length, take, length-set}
-use Rattle.op_run.proofs.Copying.{copied-more, copied-all}
-use Rattle.op_run.proofs.copy.Statement.{statement}
-use Rattle.op_run.proofs.copy.Tie as tie
+use Rattle.op_ready.proofs.Copying.{copied-more, copied-all}
+use Rattle.op_ready.proofs.copy.Statement.{statement}
+use Rattle.op_ready.proofs.copy.Tie as tie
 
 abbrev Inv-loop : tie.InvT-loop
 Inv-loop from to₀ i₀ i-end to i = (length to ≡ length to₀) × (take i to ≡ take i from)
