@@ -7,23 +7,12 @@ use native.Mathlib.Omega.{arith}
 use borrow.Author.Tests.{ltb-false, lt-ltb, le-ltb}
 use lib.Dec.{ltb}
 use lib.ListN.{length}
-use Rattle.laws.specs.Outcome.{Outcome, done, refused, unless, after}
+use Rattle.laws.specs.Outcome.{Outcome, done, refused, after}
 use Rattle.register.specs.File.{sizesOf}
-use Rattle.register.specs.Load.{load, refusalNumber}
+use Rattle.register.specs.Load.{load}
 use Rattle.register.specs.declared.Sizes.{Sizes}
-use Rattle.register.specs.declared.Refusal.{Refusal}
-use Rattle.register.specs.declared.Refusal.the-variants.{Length, SizeLimit, Mark, MissingValue, Reference}
 use Rattle.register.proofs.Roundtrip.{Loads, loads}
 use Rattle.op_limits.specs.Admitted.{admitted}
-
--- the number of a refusal is not 0
-pub number-refuses : {A : Type 0} (r : Refusal) (o : Outcome A) → unless (refusalNumber r) 0 o ≡ refused (refusalNumber r) 0
-unfolding refusalNumber unless
-number-refuses Length o = refl
-number-refuses SizeLimit o = refl
-number-refuses Mark o = refl
-number-refuses MissingValue o = refl
-number-refuses Reference o = refl
 
 module _ (file text : List ℕ) where
   -- the register is refused

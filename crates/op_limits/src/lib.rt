@@ -8,15 +8,15 @@ ghost use Rattle.register.specs.File.{sizesOf};
 ghost use Rattle.register.specs.Shape.{Limits};
 ghost use Rattle.machine.specs.Run.{scratch, isShort};
 ghost use Rattle.op_limits.specs.Admitted.{admitted};
-use register::LoadAnswer;
 use register::Sizes;
+use register_load::LoadAnswer;
 
 // Why a text over a register is not read: the register's refusal, then 6 for a text of more than 8,192 bytes; 0 for neither.
 pub fn unread(file: &[u8], text: &[u8]) -> u32
     ensures { λ r. ⌜ unless r 0 (done (sizesOf (now (file .entry)))) ≡ admitted (now (file .entry)) (now (text .entry)) ⌝ }
 {
-    if let LoadAnswer::Refused(refusal) = register::load(file) {
-        return register::number_of(refusal);
+    if let LoadAnswer::Refused(refusal) = register_load::load(file) {
+        return register_load::number_of(refusal);
     }
     if 8192 < text.len() {
         return 6;

@@ -4,8 +4,11 @@ use mathlib.Core.Path.{_≡_, sym, ap, _∙_}
 use borrow.Author.Needs.{needs}
 use denote.Ref.{now}
 use Rattle.laws.specs.Outcome.{done, refused, unless}
-use Rattle.register.specs.Load.{load, refusalNumber, outcomeOf}
-use Rattle.op_limits.proofs.Admitting.{number-refuses, admit-refused, admit-long, admit-read}
+use Rattle.register.specs.Load.{load}
+use Rattle.register_check.specs.Number.{refusalNumber}
+use Rattle.register_load.specs.Answer.{outcomeOf}
+use Rattle.register_check.proofs.Numbers.{unless-refusal}
+use Rattle.op_limits.proofs.Admitting.{admit-refused, admit-long, admit-read}
 use Rattle.op_limits.proofs.unread.Statement.{statement}
 use Rattle.op_limits.proofs.unread.Tie as tie
 
@@ -28,7 +31,7 @@ number-of-requires : tie.Need-number-of-requires
 number-of-requires c κs = search needs
 
 returns : tie.Need-returns
-returns c = rw (c .number-of .ensures) (number-refuses _ _) ∙ sym (admit-refused _ _ (turned-back (c .before .before)))
+returns c = rw (c .number-of .ensures) (unless-refusal _ _) ∙ sym (admit-refused _ _ (turned-back (c .before .before)))
 
 enum-told : tie.Need-enum-told
 enum-told c = search needs
