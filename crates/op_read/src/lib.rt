@@ -8,8 +8,8 @@ ghost use Rattle.op_read.specs.Reading.{wordOfForm, readingLoaded, readi
 use chain::follow;
 use chain::reading::Reading;
 use chain_text::letters::Letters;
-use chain_text::text::Scanned;
 use chain_text::text;
+use chain_text::text::Scanned;
 use register::Sizes;
 use register::cells;
 use register_load::LoadAnswer;

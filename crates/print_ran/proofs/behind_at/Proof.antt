@@ -1,13 +1,13 @@
--- `print_run::behind_at` meets its contract: each way out of the match decides the tests of `behindAt`.
+-- `print_ran::behind_at` meets its contract: each way out of the match decides the tests of `behindAt`.
 -- Assumes nothing.
 use Prim.Native.Nat.{ℕ, _≤_, _<_}
 use mathlib.Core.Path.{_≡_}
 use mathlib.Core.Bool.{true, false}
 use native.Mathlib.Omega.{arith}
 use borrow.Author.Tests.{le-leb, lt-leb}
-use Rattle.print_run.specs.Behind.{among, behindAt}
-use Rattle.print_run.proofs.behind_at.Statement.{statement}
-use Rattle.print_run.proofs.behind_at.Tie as tie
+use Rattle.print_ran.specs.Behind.{among, behindAt}
+use Rattle.print_ran.proofs.behind_at.Statement.{statement}
+use Rattle.print_ran.proofs.behind_at.Tie as tie
 
 -- a number among a to b, below them, above them
 module _ (a b k : ℕ) where

@@ -1,4 +1,4 @@
--- `print_run::put_ran` meets its contract: the refusal decides what is printed.
+-- `print_ran::put_ran` meets its contract: the refusal decides what is printed.
 -- Assumes nothing.
 use mathlib.Core.Path.{_≡_}
 use borrow.Author.Needs.{needs}
@@ -6,10 +6,9 @@ use borrow.Author.Tests.{eq-eqb, ne-eqb}
 use denote.Ref.{now}
 use Rattle.register.specs.File.{sizesOf, cellsOfFile}
 use Rattle.print_listing.specs.Listing.{listing, refusedLine}
-use Rattle.print_run.specs.Page.{refusedPage}
-use Rattle.print_run.specs.RanBy.{ranPage}
-use Rattle.print_run.proofs.put_ran.Statement.{statement}
-use Rattle.print_run.proofs.put_ran.Tie as tie
+use Rattle.print_ran.specs.RanPage.{refusedPage, ranPage}
+use Rattle.print_ran.proofs.put_ran.Statement.{statement}
+use Rattle.print_ran.proofs.put_ran.Tie as tie
 
 refused : (c : tie.After-behind-at) → let a = c .before .before .before .before .before .before .args in
     ranPage (sizesOf (now (a .file))) (now (a .out)) (a .ran) ≡ refusedLine (a .ran .refusal) (c .behind-at .result)
