@@ -1,4 +1,4 @@
--- `gather_follow::hop` meets its contract: by its mark, the place is left or the cell that it leads to is copied.
+-- `gather_hops::hop` meets its contract: by its mark, the place is left or the cell that it leads to is copied.
 -- Assumes nothing.
 use Prim.Native.Nat.{ℕ, _<_}
 use mathlib.Core.Path.{_≡_, sym, ap, _∙_}
@@ -15,10 +15,10 @@ use Rattle.chain.proofs.Following.{named-index, named-below}
 use Rattle.scratch.specs.Places.{placeAt}
 use Rattle.scratch.proofs.Placed.{placeAt-value}
 use Rattle.scratch.proofs.Storing.{stored-as, stored-left, copied-room, copied-one}
-use Rattle.gather_follow.proofs.Leading.{referred-missing, referred-value}
+use Rattle.gather_hops.proofs.Leading.{referred-missing, referred-value}
 use borrow.Author.Needs.{needs}
-use Rattle.gather_follow.proofs.hop.Statement.{statement}
-use Rattle.gather_follow.proofs.hop.Tie as tie
+use Rattle.gather_hops.proofs.hop.Statement.{statement}
+use Rattle.gather_hops.proofs.hop.Tie as tie
 
 slice-read-if1 : tie.Need-slice-read-if1
 slice-read-if1 c = search needs

@@ -14,7 +14,7 @@ use Rattle.chain.specs.declared.reading.Reading.the-variants.{Missing, Value}
 use Rattle.chain.specs.Word.{column, readOf, readCell, hop}
 use Rattle.scratch.specs.Places.{placeAt}
 use Rattle.scratch.proofs.Placed.{placeAt-missing, placeAt-value}
-use Rattle.gather_follow.specs.Filled.{referred}
+use Rattle.gather_hops.specs.Hopped.{referred}
 
 -- a hop is to the column of its field
 pub hop-referred : (s : Sizes) (cells : List Cell) (f : ℕ) (x : Reading) → referred s cells (column s f) x ≡ hop s cells x f

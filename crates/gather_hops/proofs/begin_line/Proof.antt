@@ -1,4 +1,4 @@
--- `gather_follow::begin_line` meets its contract. The loop's invariant: what the records passed read by two hops is stored.
+-- `gather_hops::begin_line` meets its contract. The loop's invariant: what the records passed read by two hops is stored.
 -- Assumes nothing.
 use Prim.Native.Nat.{_+_, _-_, _≤_, _<_}
 use mathlib.Core.Path.{_≡_}
@@ -9,9 +9,9 @@ use Rattle.register.specs.Cells.{cellsOf}
 use Rattle.chain.specs.Word.{valueAtRecord}
 use Rattle.scratch.specs.Places.{StoredFrom}
 use Rattle.scratch.proofs.Storing.{stored-none, stored-more}
-use Rattle.gather_follow.proofs.Hopping.{reading-stored}
-use Rattle.gather_follow.proofs.begin_line.Statement.{statement}
-use Rattle.gather_follow.proofs.begin_line.Tie as tie
+use Rattle.gather_hops.proofs.Hopping.{reading-stored}
+use Rattle.gather_hops.proofs.begin_line.Statement.{statement}
+use Rattle.gather_hops.proofs.begin_line.Tie as tie
 
 abbrev Inv-loop : tie.InvT-loop
 Inv-loop cells filled values₀ marks₀ sizes first field next u₀ u-end values marks u =

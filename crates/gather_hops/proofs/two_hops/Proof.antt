@@ -1,4 +1,4 @@
--- `gather_follow::two_hops` meets its contract: what the first hop reads leads on to what is read.
+-- `gather_hops::two_hops` meets its contract: what the first hop reads leads on to what is read.
 -- Assumes nothing.
 use mathlib.Core.Path.{_≡_, refl, ap, _∙_}
 use mathlib.Core.Bool.{true}
@@ -12,9 +12,9 @@ use Rattle.integers.proofs.Complement.{kept}
 use Rattle.register.specs.Cells.{cellsOf}
 use Rattle.chain.specs.Word.{valueAtRecord, refersTo}
 use Rattle.chain.proofs.Following.{readable-field, readable-rest, named-index, named-below, hop-value, Underway, underway-next, underway-last, underway-missing}
-use Rattle.gather_follow.proofs.Hopping.{hop-first}
-use Rattle.gather_follow.proofs.two_hops.Statement.{statement}
-use Rattle.gather_follow.proofs.two_hops.Tie as tie
+use Rattle.gather_hops.proofs.Hopping.{hop-first}
+use Rattle.gather_hops.proofs.two_hops.Statement.{statement}
+use Rattle.gather_hops.proofs.two_hops.Tie as tie
 
 -- the entry, from where the first hop is taken
 abbrev start : tie.After-read-cell → tie.Start

@@ -1,4 +1,4 @@
--- `gather_follow::fill_line` meets its contract. The loop's invariant: the places are underway, with the rest of the chain to follow.
+-- `gather_hops::fill_line` meets its contract. The loop's invariant: the places are underway, with the rest of the chain to follow.
 -- Assumes nothing.
 use Prim.Native.Nat.{ℕ}
 use mathlib.Core.Path.{_≡_, refl, ap, _∙_}
@@ -11,9 +11,9 @@ use Rattle.chain.specs.Word.{unpack}
 use Rattle.chain.proofs.Packing.{unpack-none, packed-some, taken-apart}
 use Rattle.chain.proofs.Following.{readable-field}
 use Rattle.scratch.proofs.Storing.{stored-over}
-use Rattle.gather_follow.proofs.Hopping.{LineUnderway, readable-two, line-begun, line-referring, line-on, line-done}
-use Rattle.gather_follow.proofs.fill_line.Statement.{statement}
-use Rattle.gather_follow.proofs.fill_line.Tie as tie
+use Rattle.gather_hops.proofs.Hopping.{LineUnderway, readable-two, line-begun, line-referring, line-on, line-done}
+use Rattle.gather_hops.proofs.fill_line.Statement.{statement}
+use Rattle.gather_hops.proofs.fill_line.Tie as tie
 
 abbrev Inv-loop : tie.InvT-loop
 Inv-loop cells filled values₀ marks₀ sizes i chain first field behind second rest₀ values marks rest =

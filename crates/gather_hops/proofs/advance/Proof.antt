@@ -1,4 +1,4 @@
--- `gather_follow::advance` meets its contract. The loop's invariant: the places of the records passed are one hop on.
+-- `gather_hops::advance` meets its contract. The loop's invariant: the places of the records passed are one hop on.
 -- Assumes nothing.
 use Prim.Native.Nat.{_+_, _-_, _≤_}
 use mathlib.Core.Path.{_≡_, refl}
@@ -16,10 +16,10 @@ use Rattle.chain.proofs.Fields.{field-below}
 use Rattle.scratch.specs.Places.{placeAt, Kept}
 use Rattle.scratch.proofs.Placed.{placeAt-kept}
 use Rattle.scratch.proofs.Storing.{stored-none, stored-more}
-use Rattle.gather_follow.specs.Filled.{Hopped}
-use Rattle.gather_follow.proofs.Leading.{hop-referred}
-use Rattle.gather_follow.proofs.advance.Statement.{statement}
-use Rattle.gather_follow.proofs.advance.Tie as tie
+use Rattle.gather_hops.specs.Hopped.{Hopped}
+use Rattle.gather_hops.proofs.Leading.{hop-referred}
+use Rattle.gather_hops.proofs.advance.Statement.{statement}
+use Rattle.gather_hops.proofs.advance.Tie as tie
 
 abbrev Inv-loop : tie.InvT-loop
 Inv-loop cells filled values₀ marks₀ sizes first field column u₀ u-end values marks u =

@@ -20,7 +20,7 @@ use Rattle.chain.proofs.Packing.{first-some}
 use Rattle.chain.proofs.Following.{readable-field, readable-rest, Underway, underway-first, underway-next, underway-last}
 use Rattle.scratch.specs.Places.{readingMark, StoredFrom}
 use Rattle.scratch.proofs.Storing.{stored-still, stored-one, stored-as, stored-over}
-use Rattle.gather_follow.specs.Filled.{Referring, Hopped}
+use Rattle.gather_hops.specs.Hopped.{Referring, Hopped}
 
 -- a line whose places are underway, with a word still to follow
 pub record LineUnderway (s : Sizes) (cells : List Cell) (w : List ℕ) (first : ℕ) (rest : List ℕ)
