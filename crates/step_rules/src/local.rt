@@ -10,7 +10,7 @@ ghost use Rattle.program.specs.Code.{codesKept};
 ghost use Rattle.program.specs.Stored.{ruleIn};
 ghost use Rattle.register.specs.declared.cells.Cell.the-variants.{WorkedOut};
 ghost use Rattle.step_cells.specs.Work.{Room, Put};
-ghost use Rattle.step_expressions.specs.Plain.{plainSlot};
+ghost use Rattle.step_tests.specs.Plain.{plainSlot};
 ghost use Rattle.step_rules.specs.Ready.{RuleReady, PlainReady, LocalRule, WritesField, Performed, PlainLocal};
 use chain::follow;
 use program::location::Located;
