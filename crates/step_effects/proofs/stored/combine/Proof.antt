@@ -23,8 +23,8 @@ returns : tie.Need-returns
 returns c =
     let k = c .before in
     let b = k .before in
-    rw (← k .kind-of .ensures)
-    (c .join .ensures ∙ ap₂ (joined _) (b .before .term-value .ensures) (b .term-value2 .ensures) ∙ sym (operation-joined _ _ _ _))
+    (rw (k .kind-of .ensures) at (c .join .ensures))
+    ∙ ap₂ (joined _) (b .before .term-value .ensures) (b .term-value2 .ensures) ∙ sym (operation-joined _ _ _ _)
 
 pub combine-spec : {M : Type 1} → statement M
 combine-spec = tie.close (tie.spec term-value-requires term-value-requires-2 kind-of-requires join-requires returns)
