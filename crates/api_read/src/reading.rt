@@ -49,7 +49,7 @@ pub fn numbers(answer: ReadingAnswer) -> ReadNumbers
 {
     match answer {
         ReadingAnswer::Read(reading) => read(reading),
-        ReadingAnswer::Register(refusal) => refused(register::number_of(refusal), 0),
+        ReadingAnswer::Register(refusal) => refused(register_load::number_of(refusal), 0),
         ReadingAnswer::Chain(refusal) => refused(op_read::number_of(refusal), 1),
         ReadingAnswer::Record => refused(16, 0),
     }

@@ -1,16 +1,19 @@
 -- The ways out of a check and of the plan of a step.
 use Prim.Native.Nat.{ℕ, zero, suc, _-_, _≤_, _<_}
 use mathlib.Core.Path.{_≡_, refl, sym, ap, ap₂, _∙_}
+use mathlib.Core.Bool.{Bool, true, false, cond, _&&_}
 use mathlib.Core.List.{List, [], _∷_, map}
 use native.Mathlib.Omega.{arith}
-use borrow.Author.Tests.{lt-ltb, le-ltb}
+use borrow.Author.Tests.{le-leb, leb-false}
+use lib.Dec.{leb, ltb}
 use lib.ListN.{length, getD}
 use Rattle.laws.specs.Outcome.{Outcome, refused, unless, after}
 use Rattle.laws.specs.Outcome as O
-use Rattle.register.specs.Load.{load, refusalNumber}
+use Rattle.laws.proofs.Bools.{and-true}
+use Rattle.register.specs.File.{sizesOf}
+use Rattle.register.specs.Load.{load}
 use Rattle.register.specs.declared.Sizes.{Sizes}
-use Rattle.register.specs.declared.Refusal.{Refusal}
-use Rattle.register.specs.declared.Refusal.the-variants.{Length, SizeLimit, Mark, MissingValue, Reference}
+use Rattle.register.proofs.Roundtrip.{Loads}
 use Rattle.plan_theory.specs.Plan.{Fact, round, line, result}
 use Rattle.plan_lines.specs.Held.{HoldsLines}
 use Rattle.plan_lines.specs.declared.Plan.{Plan}
@@ -22,6 +25,8 @@ use Rattle.text_rules.specs.Text.{lines, start, readFrom, textProgram, check, r
 use Rattle.program.specs.Code.{Codes}
 use Rattle.program.specs.Kept.{programOf, Framed}
 use Rattle.text_reader.specs.Answers.{checkOutcome, Answers}
+use Rattle.op_limits.specs.Admitted.{admitted}
+use Rattle.op_limits.proofs.Admitting.{admitted-both}
 use Rattle.op_check.specs.StepPlan.{zip, linesOf, planOutcome, PlanAnswers, StepFound, RefusedPlan}
 use Rattle.program.specs.declared.frame.Frame.{Frame}
 use Rattle.text_reader.specs.declared.Checked.{Checked}
@@ -29,33 +34,33 @@ use Rattle.op_check.specs.declared.step.StepPlan.{StepPlan}
 use Rattle.program.proofs.Frames.{frame-at}
 use Rattle.text_reader.proofs.Reading.{refuse-none}
 
--- 6, and any other text
-module _ (s : Sizes) (t : List ℕ) where
-  pub text-long : 8192 < length t → textProgram s t ≡ refused 6 0
-  unfolding textProgram
-  text-long h = rw (lt-ltb 8192 (length t) h)
+-- the check by what is asked before the text is read
+asked-first : {A : Type 0} (o : Outcome Sizes) (b : Bool) (f : Sizes → Outcome A) → after o (λ s. cond b (refused 6 0) (f s)) ≡ after (after o (λ s. cond b (refused 6 0) (O.done s))) f
+unfolding after
+asked-first (O.done s) true f = refl
+asked-first (O.done s) false f = refl
+asked-first (refused n k) b f = refl
 
-  pub text-read : length t ≤ 8192 → textProgram s t ≡ readFrom s start 1 (lines t)
-  unfolding textProgram
-  text-read h = rw (le-ltb 8192 (length t) h)
-
--- the register first
 module _ (file t : List ℕ) where
-  pub check-loaded : {s : Sizes} → load file ≡ O.done s → check file t ≡ textProgram s t
-  unfolding check after
-  check-loaded h = rw h
+  check-admitted : check file t ≡ after (admitted file t) (λ s. readFrom s start 1 (lines t))
+  unfolding check textProgram admitted
+  check-admitted = asked-first (load file) (ltb 8192 (length t)) _
 
-  pub check-refused : {n k : ℕ} → load file ≡ refused n k → check file t ≡ refused n k
-  unfolding check after
-  check-refused h = rw h
+  module _ {r : ℕ} (a : unless r 0 (O.done (sizesOf file)) ≡ admitted file t) where
+    pub check-unread : (r ≡ 0 → ⊥) → check file t ≡ refused r 0
+    unfolding after
+    check-unread h = check-admitted ∙ rw (sym a ∙ refuse-none r 0 _ h)
 
-pub number-positive : (r : Refusal) → 1 ≤ refusalNumber r
-unfolding refusalNumber
-number-positive Length = omega arith
-number-positive SizeLimit = omega arith
-number-positive Mark = omega arith
-number-positive MissingValue = omega arith
-number-positive Reference = omega arith
+    admitted-sizes : r ≡ 0 → admitted file t ≡ O.done (sizesOf file)
+    unfolding unless
+    admitted-sizes h = sym a ∙ rw h
+
+    pub check-read : r ≡ 0 → check file t ≡ readFrom (sizesOf file) start 1 (lines t)
+    unfolding after
+    check-read h = check-admitted ∙ rw (admitted-sizes h)
+
+    pub read-both : r ≡ 0 → Loads (sizesOf file) file × (length t ≤ 8192)
+    read-both h = admitted-both file t (admitted-sizes h)
 
 -- an answer that is refused, and one that is not
 module _ {k : Codes} {places : List ℕ} {o : Outcome Program} {r : Checked} (a : Answers k places o r) where
@@ -79,6 +84,10 @@ past-step [] k h = refl
 past-step (x ∷ xs) zero h = absurd (omega arith)
 past-step (x ∷ xs) (suc zero) h = absurd (omega arith)
 past-step (x ∷ xs) (suc (suc k)) h = past-step xs (suc k) (omega arith)
+
+not-there : (xs : Program) (k : ℕ) → leb 1 k && leb k (length xs) ≡ false → rulesAt xs k ≡ refused 17 0
+not-there xs zero h = no-step xs
+not-there xs (suc k) h = past-step xs (suc k) (leb-false (suc k) (length xs) (and-true _ (le-leb 1 (suc k) (omega arith)) ∙ h))
 
 -- a step that is there
 rules-there : (xs : Program) (k : ℕ) (d : Step) → k < length xs → rulesAt xs (suc k) ≡ O.done (getD xs k d .rules)
@@ -127,11 +136,8 @@ module _ (file t : List ℕ) (k : ℕ) where
     unfolding planOfStep after
     missing-step h p = refused-plan (rw (e, h)) (λ z. omega arith) p
 
-    pub step-zero : {r : StepPlan} → k ≡ 0 → RefusedPlan 17 0 r → Answer r
-    step-zero h p = missing-step (ap (rulesAt xs) h ∙ no-step xs) p
-
-    pub step-past : {r : StepPlan} → length xs < k → RefusedPlan 17 0 r → Answer r
-    step-past h p = missing-step (past-step xs k h) p
+    pub step-missing : {r : StepPlan} → leb 1 k && leb k (length xs) ≡ false → RefusedPlan 17 0 r → Answer r
+    step-missing h p = missing-step (not-there xs k h) p
 
     pub step-there : (fs : List Frame) (d : Frame) {most : ℕ} → Framed fs xs → 1 ≤ k → k ≤ length xs → most ≡ mostLines xs
         → Answer (record { refusal = 0; line = 0; plan = getD fs (k - 1) d .plan; remote = getD fs (k - 1) d .remote; most = most })

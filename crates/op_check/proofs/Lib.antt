@@ -1,5 +1,4 @@
 -- Laws of the definitions of `specs/`, for the proofs here and in the crates above.
 pub mod Checks
 pub mod Passed
-pub mod Room
 pub mod Least

@@ -1,12 +1,12 @@
 // Document 01's check of a rules text: the register first, then the text.
 ghost use Prim.Native.Nat.{_≤_};
-ghost use Rattle.register.specs.Shape.{Limits};
 ghost use Rattle.laws.specs.Outcome.{refused as refusedWith};
 ghost use Rattle.program.specs.Code.{codesKept};
-ghost use Rattle.text_rules.specs.Text.{textProgram, check as checkOf};
+ghost use Rattle.text_rules.specs.Text.{check as checkOf};
 ghost use Rattle.text_reader.specs.Answers.{CodeArrays, Answers};
 ghost use Rattle.op_check.specs.Checked.{Checks};
-use register::LoadAnswer;
+use op_limits;
+use register;
 use register::Sizes;
 use text_reader::Checked;
 
@@ -32,25 +32,6 @@ fn refused(
     checked
 }
 
-// The program of a text, which has at most 8,192 bytes.
-fn read_text(
-    text: &[u8],
-    sizes: Sizes,
-    kinds: &mut [u8],
-    numbers: &mut [i32],
-    chains: &mut [u64],
-    places: &mut [u8],
-) -> Checked
-    requires { ⌜ Limits sizes × CodeArrays (now kinds) (now numbers) (now chains) (now places) ⌝ }
-    ensures { λ r. ⌜ Answers (codesKept (now (kinds .exit)) (now (numbers .exit)) (now (chains .exit))) (now (places .exit))
-        (textProgram sizes (now (text .entry))) r ⌝ }
-{
-    if 8192 < text.len() {
-        return refused(6, kinds, numbers, chains, places);
-    }
-    text_reader::read_lines(text, sizes, kinds, numbers, chains, places)
-}
-
 // The program of a text over a register, or why either is refused; the codes of its expressions are in the lent arrays.
 pub fn read(
     file: &[u8],
@@ -64,16 +45,12 @@ pub fn read(
     ensures { λ r. ⌜ Answers (codesKept (now (kinds .exit)) (now (numbers .exit)) (now (chains .exit))) (now (places .exit))
         (checkOf (now (file .entry)) (now (text .entry))) r ⌝ }
 {
-    match register::load(file) {
-        LoadAnswer::Loaded(sizes) => read_text(text, sizes, kinds, numbers, chains, places),
-        LoadAnswer::Refused(refusal) => refused(
-            register::number_of(refusal),
-            kinds,
-            numbers,
-            chains,
-            places,
-        ),
+    let refusal = op_limits::unread(file, text);
+    if refusal != 0 {
+        return refused(refusal, kinds, numbers, chains, places);
     }
+    let sizes = register::sizes_of(file);
+    text_reader::read_lines(text, sizes, kinds, numbers, chains, places)
 }
 
 // The same for who has no use for the codes.

@@ -1,4 +1,3 @@
-// Programs: check, which reads a rules text into one, the plan of a step, and whether the scratch buffers are long enough.
+// Programs: check, which reads a rules text into one, and the plan of a step.
 pub mod check;
-pub mod scratch;
 pub mod step;

@@ -3,6 +3,7 @@ ghost use mathlib.Core.Path.{_≡_};
 ghost use Rattle.text_rules.specs.Text.{planOfStep};
 ghost use Rattle.op_check.specs.StepPlan.{PlanAnswers, StepFound, RefusedPlan};
 use crate::check;
+use op_limits;
 use plan_lines::Plan;
 
 // Where the refusal is 0: the plan of a step, whether a remote exchange follows, and the most lines of any step of the text;
@@ -36,10 +37,7 @@ pub fn plan_step(file: &[u8], text: &[u8], step: u64) -> StepPlan
         return refused(checked.refusal, checked.line);
     }
     let program = checked.program;
-    if step == 0 {
-        return refused(17, 0);
-    }
-    if (program.steps as u64) < step {
+    if !op_limits::is_step(program.steps, step) {
         return refused(17, 0);
     }
     let frames = program.frames;

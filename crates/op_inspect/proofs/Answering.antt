@@ -13,7 +13,7 @@ use Rattle.plan_theory.specs.Plan.{Fact}
 use Rattle.program.specs.Program.{Rule, Program, mostLines, stepPlan}
 use Rattle.text_rules.specs.Text.{check, rulesAt, planOfStep}
 use Rattle.machine.specs.Run.{scratch, isShort}
-use Rattle.op_check.proofs.Room.{room}
+use Rattle.op_limits.proofs.Room.{room}
 use Rattle.op_inspect.specs.Inspection.{stepLines, inspection}
 use Rattle.op_inspect.specs.Answer.{inspectRefusal, StepAnswered, InspectAnswered}
 use Rattle.op_inspect.specs.declared.InspectAnswer.{InspectAnswer}

@@ -3,8 +3,8 @@ ghost use mathlib.Core.Path.{_≡_};
 ghost use lib.ListN.{length};
 ghost use Rattle.op_inspect.specs.Inspection.{inspection};
 ghost use Rattle.op_inspect.specs.Answer.{inspectRefusal, InspectAnswered};
-use op_check::scratch;
 use op_check::step;
+use op_limits;
 use op_show;
 use register;
 
@@ -42,7 +42,7 @@ pub fn inspect(
         return refused(planned.refusal, planned.line);
     }
     let sizes = register::sizes_of(file);
-    if scratch::is_short(sizes, planned.most, values.len(), marks.len()) {
+    if op_limits::is_short(sizes, planned.most, values.len(), marks.len()) {
         return refused(19, 0);
     }
     let plan = planned.plan;

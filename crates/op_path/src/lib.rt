@@ -6,9 +6,9 @@ ghost use Rattle.register.specs.Load.{load};
 ghost use Rattle.op_path.specs.Path.{pathLoaded, readingPath, PathAnswers};
 use chain_path::Path;
 use op_read::ChainAnswer;
-use register::LoadAnswer;
 use register::Sizes;
 use register::cells;
+use register_load::LoadAnswer;
 
 // A path, or why it is refused: document 01's number, 0 for none, and its line.
 pub struct PathAnswer {
@@ -53,8 +53,8 @@ fn path_loaded(file: &[u8], sizes: Sizes, text: &[u8], u: u64) -> PathAnswer
 pub fn reading_path(file: &[u8], text: &[u8], u: u64) -> PathAnswer
     ensures { λ r. ⌜ PathAnswers (readingPath (now (file .entry)) (now (text .entry)) u) r ⌝ }
 {
-    match register::load(file) {
+    match register_load::load(file) {
         LoadAnswer::Loaded(sizes) => path_loaded(file, sizes, text, u),
-        LoadAnswer::Refused(refusal) => refused(register::number_of(refusal), 0),
+        LoadAnswer::Refused(refusal) => refused(register_load::number_of(refusal), 0),
     }
 }

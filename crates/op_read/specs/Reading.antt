@@ -5,7 +5,8 @@ use mathlib.Core.List.{List, [], _∷_}
 use lib.Dec.{ltb}
 use Rattle.laws.specs.Outcome.{Outcome, done, refused, unless, after}
 use Rattle.register.specs.File.{cellsOfFile}
-use Rattle.register.specs.Load.{load, refusalNumber as register-number}
+use Rattle.register.specs.Load.{load}
+use Rattle.register_check.specs.Number.{refusalNumber as register-number}
 use Rattle.register.specs.declared.Sizes.{Sizes}
 use Rattle.register.specs.declared.cells.Cell.{Cell}
 use Rattle.chain.specs.declared.reading.Reading.{Reading}

@@ -10,9 +10,9 @@ use chain::reading::Reading;
 use chain_text::letters::Letters;
 use chain_text::text;
 use chain_text::text::Scanned;
-use register::LoadAnswer;
 use register::Sizes;
 use register::cells;
+use register_load::LoadAnswer;
 
 // Refusals 7, 9, 10 and 11 of document 01, in order.
 pub enum Refusal {
@@ -43,7 +43,7 @@ pub enum ChainAnswer {
 // A reading, or why it is refused: by the register, by the chain, or by the record number (refusal 16).
 pub enum ReadingAnswer {
     Read(Reading),
-    Register(register::Refusal),
+    Register(register_check::Refusal),
     Chain(Refusal),
     Record,
 }
@@ -100,7 +100,7 @@ fn read_loaded(file: &[u8], sizes: Sizes, text: &[u8], u: u64) -> ReadingAnswer
 pub fn reading(file: &[u8], text: &[u8], u: u64) -> ReadingAnswer
     ensures { λ r. ⌜ readingOutcome r ≡ readingOf (now (file .entry)) (now (text .entry)) u ⌝ }
 {
-    match register::load(file) {
+    match register_load::load(file) {
         LoadAnswer::Loaded(sizes) => read_loaded(file, sizes, text, u),
         LoadAnswer::Refused(refusal) => ReadingAnswer::Register(refusal),
     }

@@ -1,14 +1,13 @@
 -- The answer of a run: by the check, by the lengths of the buffers, and by how the run ends.
-use Prim.Native.Nat.{ℕ}
+use Prim.Native.Nat.{ℕ, _≤_}
 use mathlib.Core.Path.{_≡_, refl, sym, ap, subst, _∙_}
-use mathlib.Core.Logic.{_≢_}
-use mathlib.Core.Bool.{true, false}
+use mathlib.Core.Bool.{Bool, true, false, cond}
 use mathlib.Core.List.{List}
-use native.Mathlib.Omega.{arith}
-use borrow.Author.Tests.{eq-eqb, ne-eqb}
+use borrow.Author.Tests.{eq-eqb}
+use lib.Dec.{eqb}
 use lib.IntN.{ℤ}
 use lib.ListN.{length}
-use Rattle.laws.specs.Outcome.{Outcome, done, refused, after}
+use Rattle.laws.specs.Outcome.{Outcome, done, refused, unless, after}
 use Rattle.register.specs.File.{sizesOf, cellsOfFile}
 use Rattle.register.specs.Shape.{Register}
 use Rattle.register.specs.declared.Sizes.{Sizes}
@@ -17,12 +16,24 @@ use Rattle.register.proofs.Roundtrip.{Bytes, encode-decode, cells-valid}
 use Rattle.program.specs.Program.{Program, mostLines}
 use Rattle.text_rules.specs.Text.{check}
 use Rattle.machine.specs.Run.{Ending, complete, exhausted, offended, Run, direct, run, scratch, isShort}
+use Rattle.op_ready.specs.Ready.{lengthRefusal}
 use Rattle.op_check.proofs.Passed.{loaded}
 use Rattle.machine_messages.specs.declared.Machine.{Machine}
-use Rattle.run_steps.specs.Answer.{EndsBy, EndsAs, Ends}
+use Rattle.run_steps.specs.Answer.{Scratch, EndsBy, EndsAs, Ends}
 use Rattle.run_steps.specs.declared.RunAnswer.{RunAnswer}
 use Rattle.op_run.specs.Direct.{Lengths, runProgram, directRun}
-use Rattle.op_run.specs.Answer.{refusedWith, Ended, RunAnswered, Answered}
+use Rattle.op_run.specs.Answer.{Ended, RefusalAnswered, Answered}
+
+-- 18, 19, or the run
+by-length : (a b : Bool) (x : Run) → cond a (cond b (refused 19 0) (done x)) (refused 18 0) ≡ unless (cond a (cond b 19 0) 18) 0 (done x)
+unfolding unless
+by-length true true x = refl
+by-length true false x = refl
+by-length false b x = refl
+
+pub unless-zero : {A : Type 0} (n k : ℕ) (o : Outcome A) → n ≡ 0 → unless n k o ≡ o
+unfolding unless
+unless-zero n k o h = rw h
 
 module _ (file text : List ℕ) (budget : ℕ) (n : Lengths) where
   -- the check refuses
@@ -35,19 +46,16 @@ module _ (file text : List ℕ) (budget : ℕ) (n : Lengths) where
     unfolding directRun after
     program = rw e
 
-    pub run-18 : n .out ≢ length file → directRun file text budget n ≡ refused 18 0
+    -- by the lengths of the buffers
+    pub run-unless : {r : ℕ} → let s = sizesOf file in r ≡ lengthRefusal (scratch s (mostLines p)) (length file) (n .out) (n .values) (n .marks)
+        → directRun file text budget n ≡ unless r 0 (done (run s (direct s) p budget (cellsOfFile s file)))
+    unfolding runProgram lengthRefusal
+    run-unless h = rw h (program ∙ by-length (eqb (n .out) (length file)) (isShort (scratch (sizesOf file) (mostLines p)) (n .values) (n .marks)) _)
+
+    pub run-done : n .out ≡ length file → isShort (scratch (sizesOf file) (mostLines p)) (n .values) (n .marks) ≡ false
+        → directRun file text budget n ≡ done (run (sizesOf file) (direct (sizesOf file)) p budget (cellsOfFile (sizesOf file) file))
     unfolding runProgram
-    run-18 h = program ∙ simp (ne-eqb (n .out) (length file) h)
-
-    module _ (o : n .out ≡ length file) where
-      pub run-19 : isShort (scratch (sizesOf file) (mostLines p)) (n .values) (n .marks) ≡ true → directRun file text budget n ≡ refused 19 0
-      unfolding runProgram
-      run-19 h = program ∙ simp (eq-eqb (n .out) (length file) o, h)
-
-      pub run-done : isShort (scratch (sizesOf file) (mostLines p)) (n .values) (n .marks) ≡ false
-          → directRun file text budget n ≡ done (run (sizesOf file) (direct (sizesOf file)) p budget (cellsOfFile (sizesOf file) file))
-      unfolding runProgram
-      run-done h = program ∙ simp (eq-eqb (n .out) (length file) o, h)
+    run-done o h = program ∙ simp (eq-eqb (n .out) (length file) o, h)
 
 -- what is known of a register and a text that passed
 module _ (file text : List ℕ) {p : Program} (e : check file text ≡ done p) where
@@ -56,39 +64,38 @@ module _ (file text : List ℕ) {p : Program} (e : check file text ≡ done p) w
       let l = loaded file text e in
       record { valid = cells-valid (sizesOf file) file b l; file-is = sym (encode-decode (sizesOf file) file b l); whole = l .whole }
 
--- how the run ended
-module _ (s : Sizes) (cells : List Cell) (file out : List ℕ) (r : RunAnswer) where
-  ended-complete : (x : Ending) → EndsBy s x cells out r → r .refusal ≡ 0 → Ended s x cells file out r
-  ended-complete complete h z = h
-  ended-complete exhausted h z = absurd (omega (arith, ap (λ (x : RunAnswer). x .refusal) h))
-  ended-complete (offended o) h z = absurd (omega (arith, ap (λ (x : RunAnswer). x .refusal) h))
+-- how the run ended, the register being copied over a refusal
+module _ (s : Sizes) (cells : List Cell) (file out : List ℕ) {out′ : List ℕ} (r : RunAnswer) (o : out′ ≡ cond (eqb (r .refusal) 0) out file) where
+  left : (n : ℕ) → r .refusal ≡ n → out′ ≡ cond (eqb n 0) out file
+  left n e = rw e at o
 
-  ended-refused : (x : Ending) → EndsBy s x cells out r → r .refusal ≢ 0 → Ended s x cells file file r
-  ended-refused complete h z = absurd (z (ap (λ (x : RunAnswer). x .refusal) (h .0)))
-  ended-refused exhausted h z = (h, refl)
-  ended-refused (offended o) h z = (h, refl)
+  ended : (x : Ending) → EndsBy s x cells out r → Ended s x cells file out′ r
+  ended complete h = (h .0, left 0 (ap (λ (x : RunAnswer). x .refusal) (h .0)) ∙ h .1)
+  ended exhausted h = (h, left 20 (ap (λ (x : RunAnswer). x .refusal) h))
+  ended (offended x) h = (h, left 21 (ap (λ (x : RunAnswer). x .refusal) h))
+
+-- what a run needs, over a copy of the register and in buffers that are ready
+module _ {s s′ : Sizes} (e : s ≡ s′) where
+  pub copy-register : {copy file : List ℕ} → copy ≡ file → Register s′ file → Register s copy
+  copy-register f r = rw (e, f) r
+
+  pub scratch-ready : {lines most : ℕ} {values values′ : List ℤ} {marks marks′ : List ℕ} → lines ≡ most → values′ ≡ values → marks′ ≡ marks
+      → lines ≤ 64 → (scratch s′ most ≤ length values) × (scratch s′ most ≤ length marks) → Scratch s lines values′ marks′
+  scratch-ready l v m few enough =
+      record { lines≤ = few; values-room = rw (e, l, v) (enough .0); marks-room = rw (e, l, m) (enough .1) }
 
 -- a run over a copy of the register
 pub over-copy : {m : Machine} (p : Program) (budget : ℕ) {s s′ : Sizes} {copy file out : List ℕ} {r : RunAnswer} → s ≡ s′ → copy ≡ file
     → Ends m s p budget copy out r → Ends m s′ p budget file out r
 over-copy p budget e f h = rw (e, f) at h
 
--- a run, as the code tells it, and the register copied over a refusal
-module _ {m : Machine} {x : Run} {file out : List ℕ} {r : RunAnswer} {values values′ : List ℤ} {marks marks′ : List ℕ} (e : EndsAs m (sizesOf file) x out r)
-    (v : length values′ ≡ length values) (w : length marks′ ≡ length marks) where
-  pub complete-answered : r .refusal ≡ 0 → RunAnswered m x file out values marks values′ marks′ r
-  complete-answered z =
-      record { finished-is = e .finished-is; counts-are = e .counts-are; ended = ended-complete (sizesOf file) (x .cells) file out r (x .ending) (e .ends-by) z; values-length = v; marks-length = w }
-
-  pub refusal-answered : r .refusal ≢ 0 → RunAnswered m x file file values marks values′ marks′ r
-  refusal-answered z =
-      record { finished-is = e .finished-is; counts-are = e .counts-are; ended = ended-refused (sizesOf file) (x .cells) file out r (x .ending) (e .ends-by) z; values-length = v; marks-length = w }
-
 -- an answer by its outcome
-pub refused-answered : (m : Machine) (file out : List ℕ) (values : List ℤ) (marks : List ℕ) {o : Outcome Run} {n k : ℕ} {r : RunAnswer} → o ≡ refused n k → r ≡ refusedWith n k → Answered m o file out values marks out values marks r
-refused-answered m file out values marks {r = r} e h =
-    subst (λ (o : Outcome Run). Answered m o file out values marks out values marks r) (sym e) (record { answer-is = h; out-same = refl; values-same = refl; marks-same = refl })
+module _ (m : Machine) (file out : List ℕ) (values : List ℤ) (marks : List ℕ) {o : Outcome Run} {out′ : List ℕ} (values′ : List ℤ) (marks′ : List ℕ) {r : RunAnswer} where
+  pub refused-answered : {n k : ℕ} → o ≡ refused n k → RefusalAnswered n k out values marks out′ values′ marks′ r → Answered m o file out values marks out′ values′ marks′ r
+  refused-answered e h = subst (λ (o : Outcome Run). Answered m o file out values marks out′ values′ marks′ r) (sym e) h
 
-pub run-answered : (m : Machine) (file out : List ℕ) (values : List ℤ) (marks : List ℕ) {o : Outcome Run} {x : Run} {out′ marks′ : List ℕ} {values′ : List ℤ} {r : RunAnswer} → o ≡ done x → RunAnswered m x file out′ values marks values′ marks′ r
-    → Answered m o file out values marks out′ values′ marks′ r
-run-answered m file out values marks {out′ = out′} {marks′ = marks′} {values′ = values′} {r = r} e h = subst (λ (o : Outcome Run). Answered m o file out values marks out′ values′ marks′ r) (sym e) h
+  pub run-answered : {x : Run} {ran : List ℕ} → o ≡ done x → EndsAs m (sizesOf file) x ran r → out′ ≡ cond (eqb (r .refusal) 0) ran file
+      → length values′ ≡ length values → length marks′ ≡ length marks → Answered m o file out values marks out′ values′ marks′ r
+  run-answered {x = x} {ran = ran} e h l v w =
+      subst (λ (o : Outcome Run). Answered m o file out values marks out′ values′ marks′ r) (sym e)
+      (record { finished-is = h .finished-is; counts-are = h .counts-are; ended = ended (sizesOf file) (x .cells) file ran r l (x .ending) (h .ends-by); values-length = v; marks-length = w })

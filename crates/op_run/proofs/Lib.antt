@@ -1,5 +1,4 @@
 -- Laws for the proofs of the functions.
-pub mod Copying
 pub mod Answering
 pub mod Surviving
 pub mod Marks

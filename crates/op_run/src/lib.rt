@@ -1,13 +1,12 @@
 // Document 01's runs of a rules text over a register file, in buffers that the caller lends.
 ghost use mathlib.Core.Path.{_≡_};
-ghost use lib.ListN.{length};
 ghost use Rattle.machine_messages.specs.declared.Machine.the-variants.{Direct, Messages};
 ghost use Rattle.op_run.specs.Direct.{directRun};
 ghost use Rattle.op_run.specs.Answer.{lengths, refusedWith, Answered};
 use gather::counts;
 use machine_messages::Machine;
 use op_check::check;
-use op_check::scratch;
+use op_ready;
 use run_steps;
 use run_steps::RunAnswer;
 
@@ -22,15 +21,6 @@ fn refused(refusal: u32, line: usize) -> RunAnswer
         counts: counts::NONE,
         row: 0,
         column: 0,
-    }
-}
-
-fn copy(from: &[u8], to: &mut [u8])
-    requires { ⌜ length (now from) ≡ length (now to) ⌝ }
-    ensures { λ _. ⌜ now (to .exit) ≡ now (from .entry) ⌝ }
-{
-    for i in 0..from.len() {
-        to[i] = from[i];
     }
 }
 
@@ -62,15 +52,12 @@ fn run_text(
     if checked.refusal != 0 {
         return refused(checked.refusal, checked.line);
     }
-    if out.len() != file.len() {
-        return refused(18, 0);
-    }
     let sizes = register::sizes_of(file);
     let program = checked.program;
-    if scratch::is_short(sizes, program.lines, values.len(), marks.len()) {
-        return refused(19, 0);
+    let refusal = op_ready::ready(file, sizes, program.lines, out, values, marks);
+    if refusal != 0 {
+        return refused(refusal, 0);
     }
-    copy(file, out);
     let answer = run_steps::run_program(
         out,
         values,
@@ -84,9 +71,7 @@ fn run_text(
         machine,
         budget,
     );
-    if answer.refusal != 0 {
-        copy(file, out);
-    }
+    op_ready::restore(file, out, answer.refusal);
     answer
 }
 

@@ -36,9 +36,10 @@ use Rattle.print_listing.specs.Listing.{listing, tooLarge}
 use Rattle.print_listing.specs.Room.{pageRoom}
 use Rattle.print_listing.proofs.Lengths.{Short, listing-length, refused-length}
 use Rattle.print_listing.specs.declared.Ran.{Ran}
-use Rattle.print_run.specs.Behind.{among, behindAt}
-use Rattle.print_run.specs.RanBy.{RanBy, Whole, ranPage}
-use Rattle.print_run.specs.Page.{printedRun, refusedPage, endedPage, outcomePage, printedPage}
+use Rattle.print_ran.specs.Behind.{among, behindAt}
+use Rattle.print_run.specs.RanBy.{RanBy}
+use Rattle.print_ran.specs.RanPage.{Whole, ranPage, refusedPage}
+use Rattle.print_run.specs.Page.{printedRun, endedPage, outcomePage, printedPage}
 use Rattle.print_run.proofs.Positive.{refusal-positive}
 
 -- the page of an answer that is refused

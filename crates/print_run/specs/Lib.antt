@@ -1,4 +1,3 @@
 -- The page that is printed, and what the program has of the run.
-pub mod Behind
 pub mod Page
 pub mod RanBy

@@ -10,17 +10,13 @@ use Rattle.register.specs.declared.Sizes.{Sizes}
 use Rattle.text_rules.specs.Text.{check}
 use Rattle.machine.specs.Run.{Ending, complete, exhausted, offended, Run, direct, run}
 use Rattle.machine_messages.specs.Counts.{traceExchanges, traceMessages}
-use Rattle.print_listing.specs.Listing.{listing, refusedLine, tooLarge}
-use Rattle.print_run.specs.Behind.{behindAt}
+use Rattle.print_listing.specs.Listing.{listing, tooLarge}
+use Rattle.print_ran.specs.RanPage.{refusedPage}
 
 -- the run, "allowance 1,000": by letters it is the direct one (`Same.run-same`); no refusal 18 or 19, for no length of a
 -- buffer is in it
 unfoldable pub printedRun : List ℕ → List ℕ → Outcome Run
 printedRun file text = let s = sizesOf file in after (check file text) (λ p. done (run s (direct s) p 1000 (cellsOfFile s file)))
-
--- a refusal with its line and the finished steps: "A refusal prints only `refused N at K`"
-unfoldable pub refusedPage : ℕ → ℕ → ℕ → List ℕ
-refusedPage n line finished = refusedLine n (behindAt n line finished)
 
 -- how a run ended: the register at the end with the counts of the finished steps, or 20 or 21
 unfoldable pub endedPage : Sizes → Ending → Run → List ℕ

@@ -3,15 +3,12 @@ ghost use mathlib.Core.Path.{_≡_};
 ghost use Prim.Native.Nat.{_≤_};
 ghost use lib.ListN.{length, take};
 ghost use Rattle.io.specs.Counts.{Counts};
-ghost use Rattle.register.specs.File.{sizesOf};
-ghost use Rattle.print_page.specs.Put.{PageRoom, PagePut};
 ghost use Rattle.print_listing.specs.Room.{pageRoom};
-ghost use Rattle.print_run.specs.Behind.{behindAt};
-ghost use Rattle.print_run.specs.RanBy.{RanBy, Whole, ranPage};
+ghost use Rattle.print_run.specs.RanBy.{RanBy};
 ghost use Rattle.print_run.specs.Page.{printedPage};
-use print_listing;
 use print_listing::Ran;
 use print_page;
+use print_ran;
 
 // "allowance 1,000"
 const BUDGET: u16 = 1000;
@@ -34,29 +31,6 @@ fn run(file: &[u8], text: &[u8], out: &mut [u8]) -> Ran
     }
 }
 
-// The number behind `at` where a refusal is printed.
-fn behind_at(refusal: u32, line: usize, finished: u16) -> usize
-    ensures { λ r. ⌜ r ≡ behindAt refusal line finished ⌝ }
-{
-    match refusal {
-        6..=15 | 24 | 25 => line,
-        20 | 21 => finished as usize,
-        _ => 0,
-    }
-}
-
-// What is printed of a run over `file` that left the register `out`.
-fn put_ran(page: &mut [u8], file: &[u8], out: &[u8], ran: Ran) -> usize
-    requires { ⌜ PageRoom 0 (ranPage (sizesOf (now file)) (now out) ran) (now page) × (ran .refusal ≡ 0 → Whole (now file) (now out)) ⌝ }
-    ensures { λ r. ⌜ PagePut 0 (ranPage (sizesOf (now (file .entry))) (now (out .entry)) ran) (now (page .entry)) (now (page .exit)) r ⌝ }
-{
-    if ran.refusal != 0 {
-        let place = behind_at(ran.refusal, ran.line, ran.finished);
-        return print_listing::put_refused(page, ran.refusal, place);
-    }
-    print_listing::put_listing(page, out, register::sizes_of(file), ran)
-}
-
 // The page of a register file and a text, put at the start of `page`: its length.
 pub fn page_of(file: &[u8], text: &[u8], page: &mut [u8]) -> usize
     requires { ⌜ length (now page) ≡ pageRoom ⌝ }
@@ -70,5 +44,5 @@ pub fn page_of(file: &[u8], text: &[u8], page: &mut [u8]) -> usize
     let mut space = [0u8; 512];
     let out = &mut space[..length];
     let ran = run(file, text, out);
-    put_ran(page, file, out, ran)
+    print_ran::put_ran(page, file, out, ran)
 }

@@ -1,7 +1,7 @@
 -- The limits of the sizes, and where the cells of a record stand.
 use Prim.Native.Nat.{ℕ, zero, suc, _*_, _/_, _%_, _≤_, _<_}
 use mathlib.Core.Path.{_≡_}
-use mathlib.Core.Bool.{Bool, true, _&&_}
+use mathlib.Core.Bool.{true}
 use native.Mathlib.Omega.{arith}
 use native.Mathlib.Nat.{mul-le-mul-right, mul-le-mul-left, div-add-mod', div-lt-iff-lt-mul, mod-lt}
 use borrow.Author.Tests.{leb-true, le-leb}
@@ -10,9 +10,6 @@ use Rattle.register.specs.File.{width, cellCount, cellIndex}
 use Rattle.register.specs.Load.{withinLimits}
 use Rattle.register.specs.Shape.{Limits}
 use Rattle.register.specs.declared.Sizes.{Sizes}
-
-pub third : {a b : Bool} (c : Bool) → a ≡ true → b ≡ true → c ≡ a && b && c
-third c ha hb = simp (ha, hb)
 
 pub limits : (s : Sizes) → withinLimits s ≡ true → Limits s
 unfolding withinLimits

@@ -1,6 +1,6 @@
 -- Which files load: the ways out of `load`, and what a file that loads is like.
 use Prim.Native.Nat.{ℕ, _+_, _-_, _*_, _≤_, _<_}
-use mathlib.Core.Path.{_≡_, refl, ap, _∙_}
+use mathlib.Core.Path.{_≡_, ap, _∙_}
 use mathlib.Core.Logic.{_≢_}
 use mathlib.Core.Bool.{true, false}
 use mathlib.Core.List.{List}
@@ -8,22 +8,12 @@ use native.Mathlib.Omega.{arith}
 use borrow.Author.Tests.{lt-ltb, le-ltb, eq-eqb, ne-eqb}
 use lib.ListN.{length, take, drop, length-drop}
 use lib.Seq.{length-take-le}
-use Rattle.laws.specs.Outcome.{Outcome, done, refused, unless}
+use Rattle.laws.specs.Outcome.{done, refused, unless}
 use Rattle.register.specs.File.{cellCount, sizesOf, valuesPart, marksPart}
-use Rattle.register.specs.Load.{withinLimits, cellsRefusal, loadSized, load, refusalNumber}
+use Rattle.register.specs.Load.{withinLimits, cellsRefusal, loadSized, load}
 use Rattle.register.specs.Shape.{Limits, Parts}
-use Rattle.register.specs.declared.Refusal.{Refusal}
-use Rattle.register.specs.declared.Refusal.the-variants.{Length, SizeLimit, Mark, MissingValue, Reference}
 use Rattle.register.specs.declared.Sizes.{Sizes}
 use Rattle.register.proofs.Parts.{part-end}
-
-pub unless-refusal : {A : Type 0} (r : Refusal) (o : Outcome A) → unless (refusalNumber r) 0 o ≡ refused (refusalNumber r) 0
-unfolding unless refusalNumber
-unless-refusal Length o = refl
-unless-refusal SizeLimit o = refl
-unless-refusal Mark o = refl
-unless-refusal MissingValue o = refl
-unless-refusal Reference o = refl
 
 module _ (file : List ℕ) where
   pub load-short : length file < 12 → load file ≡ refused 1 0

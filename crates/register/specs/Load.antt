@@ -9,12 +9,6 @@ use Rattle.integers.specs.Bytes.{valueAt}
 use Rattle.integers.specs.Range.{eqZ, isIndex}
 use Rattle.laws.specs.Outcome.{Outcome, done, refused, unless, first}
 use Rattle.register.specs.declared.Sizes.{Sizes}
-use Rattle.register.specs.declared.Refusal.{Refusal}
-use Rattle.register.specs.declared.Refusal.the-variants.{Length, SizeLimit, Mark, MissingValue, Reference}
-use Rattle.register.specs.declared.LoadAnswer.{LoadAnswer}
-use Rattle.register.specs.declared.LoadAnswer.the-variants.{Loaded, Refused}
-use Rattle.register.specs.declared.check.Check.{Check}
-use Rattle.register.specs.declared.check.Check.the-variants.{Passed, Failed}
 use Rattle.register.specs.File.{width, cellCount, cellIndex, sizesOf, valuesPart, marksPart}
 
 -- "n (records, 0 to 4,096), r (reference fields, 0 to 8), m (measure fields, 0 to 8)"
@@ -55,19 +49,3 @@ unfoldable pub load : List ℕ → Outcome Sizes
 load file =
     cond (ltb (length file) 12) (refused 1 0)
     (cond (withinLimits (sizesOf file)) (loadSized (sizesOf file) file) (refused 2 0))
-
--- document 01's number for each refusal, and the outcome of each answer
-unfoldable pub refusalNumber : Refusal → ℕ
-refusalNumber Length = 1
-refusalNumber SizeLimit = 2
-refusalNumber Mark = 3
-refusalNumber MissingValue = 4
-refusalNumber Reference = 5
-
-unfoldable pub outcomeOf : LoadAnswer → Outcome Sizes
-outcomeOf (Loaded s) = done s
-outcomeOf (Refused r) = refused (refusalNumber r) 0
-
-unfoldable pub checkNumber : Check → ℕ
-checkNumber Passed = 0
-checkNumber (Failed r) = refusalNumber r

@@ -3,18 +3,15 @@ use Prim.Native.Nat.{ℕ, _+_, _*_, _≤_, _<_}
 use mathlib.Core.Path.{_≡_}
 use mathlib.Core.Bool.{Bool, true}
 use mathlib.Core.List.{List}
-use lib.Dec.{ltb}
 use lib.ListN.{length, getD}
 use mir.Syntax.{w32}
 use mir.Val.{SFits}
 use Rattle.integers.specs.Range.{isIndex}
-use Rattle.laws.specs.Outcome.{first}
 use Rattle.register.specs.Cells.{valueOf}
 use Rattle.register.specs.declared.Sizes.{Sizes}
 use Rattle.register.specs.declared.cells.Cell.{Cell}
 use Rattle.register.specs.declared.cells.Cell.the-variants.{Missing, Measured, WorkedOut}
-use Rattle.register.specs.File.{width, cellCount, cellIndex, fileOf, cellsOfFile}
-use Rattle.register.specs.Load.{refusalAt}
+use Rattle.register.specs.File.{cellCount, cellIndex, fileOf, cellsOfFile}
 
 -- the limits of the sizes, as bounds
 pub record Limits (s : Sizes) : Type 0 where
@@ -46,12 +43,3 @@ pub record Register (s : Sizes) (file : List ℕ) : Type 0 where
   pub valid : Valid s (cellsOfFile s file)
   pub file-is : file ≡ fileOf s (cellsOfFile s file)
   pub whole : length file ≡ 12 + 5 * cellCount s
-
--- the fields from a to b of record u are all references or all measures, and no field before them is refused
-pub record Fields (s : Sizes) (values marks : List ℕ) (u a b : ℕ) (reference : Bool) : Type 0 where
-  pub parts : Parts s values marks
-  pub row : u < s .records
-  pub start : a ≤ b
-  pub end : b ≤ width s
-  pub kind : (f : ℕ) → a ≤ f → f < b → ltb f (s .references) ≡ reference
-  pub before : first a (refusalAt s values marks u) ≡ 0

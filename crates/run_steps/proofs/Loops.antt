@@ -58,11 +58,6 @@ module _ {s : Sizes} {cells : List Cell} {base : ℕ} {codes : Codes} {rules : L
     rules-next a h fits e x rule q =
         record { done = record-more (a .done) x (omega arith) (rw e at rule) q; nowhere = e; k≤ = omega arith }
 
-    -- under the names that a later state has
-    pub rules-as : {k : ℕ} {stop′ : Stop} → RulesDone s cells base codes rules used u values marks values′ marks′ stop k → values″ ≡ values′ → marks″ ≡ marks′
-        → stop′ ≡ stop → RulesDone s cells base codes rules used u values marks values″ marks″ stop′ k
-    rules-as a v m q = rw (v, m, q) a
-
     -- one record more
     pub records-next : RecordsDone s cells base codes rules used values marks values′ marks′ stop u → u < s .records
         → {stop′ : Stop} {k : ℕ} → RulesDone s cells base codes rules used u values′ marks′ values″ marks″ stop′ k → used ≤ k

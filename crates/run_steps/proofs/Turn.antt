@@ -7,7 +7,7 @@ use native.Mathlib.Omega.{arith}
 use native.Mathlib.Nat.{mul-le-mul-right}
 use lib.IntN.{ℤ}
 use lib.ListN.{length, getD, take, set, length-set}
-use lib.Seq.{getD-set-same, take-suc-set}
+use lib.Seq.{take-suc-set}
 use Rattle.laws.proofs.Bools.{and-both}
 use Rattle.laws.proofs.Lists.{each-append}
 use Rattle.step_tests.specs.Plain.{plainSlot}
@@ -79,13 +79,12 @@ abbrev IsPlain : Located → Type 0
 IsPlain x = plainSlot (x .slot) ≡ true
 
 -- one plain rule more
-pub plain-more : {plain plain′ : Bool} (rules : List Located) (k : ℕ) (x y : Located) → k < length rules → plain′ ≡ plain && plainSlot (getD (set rules k x) k y .slot)
+pub plain-more : {plain plain′ : Bool} (rules : List Located) (k : ℕ) (x : Located) → k < length rules → plain′ ≡ plain && plainSlot (x .slot)
     → AllPlain plain (take k rules) → AllPlain plain′ (take (k + 1) (set rules k x))
-plain-more {plain} rules k x y h q a e =
+plain-more {plain} rules k x h q a e =
     let next : k + 1 ≡ suc k = omega arith in
-    let same = getD-set-same rules k x y h in
-    let (before, here) = and-both plain (plainSlot (getD (set rules k x) k y .slot)) (sym q ∙ e) in
-    rw (next, take-suc-set rules k x h) (each-append IsPlain (take k rules) (x ∷ []) (a before) (subst IsPlain same here, tt))
+    let (before, here) = and-both plain (plainSlot (x .slot)) (sym q ∙ e) in
+    rw (next, take-suc-set rules k x h) (each-append IsPlain (take k rules) (x ∷ []) (a before) (here, tt))
 
 -- The loop's turn for step `step` of the program p: the run stands before it, and the budget allows it.
 pub record Turn (m : Machine) (s : Sizes) (codes : Codes) (chained : List ℕ) (p : R.Program) (budget : ℕ) (file : List ℕ) (step first finished : ℕ) (counts : Counts)

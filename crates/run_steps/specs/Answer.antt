@@ -1,7 +1,7 @@
 -- How the code's answer tells a run.
 use mathlib.Core.Path.{_≡_}
 use mathlib.Core.List.{List}
-use Prim.Native.Nat.{ℕ, _≤_}
+use Prim.Native.Nat.{ℕ, _≤_, _<_}
 use lib.IntN.{ℤ}
 use lib.ListN.{length}
 use Rattle.register.specs.File.{fileOf, cellsOfFile}
@@ -11,6 +11,8 @@ use Rattle.program.specs.Program.{Step, Program}
 use Rattle.machine.specs.Run.{Ending, complete, exhausted, offended, Run, direct, run, scratch}
 use Rattle.machine_messages.specs.By.{exchangesBy, messagesBy}
 use Rattle.machine_messages.specs.declared.Machine.{Machine}
+use Rattle.step_cells.specs.declared.stop.Stop.{Stop}
+use Rattle.step_cells.specs.declared.stop.Stop.the-variants.{Nowhere, At}
 use Rattle.gather.specs.declared.counts.Counts.{Counts}
 use Rattle.run_steps.specs.declared.RunAnswer.{RunAnswer}
 
@@ -21,6 +23,11 @@ endedWith refusal finished counts = record { refusal = refusal; line = 0; finish
 -- an answer that names one
 abbrev pub stoppedAt : ℕ → Counts → ℕ → ℕ → RunAnswer
 stoppedAt finished counts row column = record { refusal = 21; line = 0; finished = finished; counts = counts; row = row; column = column }
+
+-- the answer of a run that has come before step `step`: it stops there, or a step is left, or none
+abbrev pub AnswerIs : Stop → ℕ → ℕ → ℕ → Counts → RunAnswer → Type 0
+AnswerIs Nowhere step steps finished counts r = (step < steps → r ≡ endedWith 20 finished counts) × (steps ≤ step → r ≡ endedWith 0 finished counts)
+AnswerIs (At row column) step steps finished counts r = r ≡ stoppedAt finished counts row column
 
 -- the buffers are long enough for plans of this many lines
 pub record Scratch (s : Sizes) (lines : ℕ) (values : List ℤ) (marks : List ℕ) : Type 0 where

@@ -7,7 +7,7 @@ ghost use Rattle.step_cells.specs.Work.{HoldsCells};
 ghost use Rattle.program.specs.Code.{codesKept};
 ghost use Rattle.program.specs.Passed.{ProgramPasses};
 ghost use Rattle.program.specs.Kept.{programOf, Complete};
-ghost use Rattle.run_steps.specs.Answer.{endedWith, stoppedAt, Scratch, Ends};
+ghost use Rattle.run_steps.specs.Answer.{AnswerIs, Scratch, Ends};
 use gather;
 use gather::counts;
 use gather::counts::Counts;
@@ -33,9 +33,24 @@ pub struct RunAnswer {
     pub column: usize,
 }
 
-fn ended(refusal: u32, finished: u16, counts: Counts) -> RunAnswer
-    ensures { λ r. ⌜ r ≡ endedWith refusal finished counts ⌝ }
+// What a run answers that stops before a step: at a sum or total, or where a step is left and the budget spent, or at its end.
+fn answer(stop: Stop, step: usize, steps: usize, finished: u16, counts: Counts) -> RunAnswer
+    ensures { λ r. ⌜ AnswerIs stop step steps finished counts r ⌝ }
 {
+    if let Stop::At(row, column) = stop {
+        return RunAnswer {
+            refusal: 21,
+            line: 0,
+            finished,
+            counts,
+            row,
+            column,
+        };
+    }
+    let mut refusal = 0;
+    if step < steps {
+        refusal = 20;
+    }
     RunAnswer {
         refusal,
         line: 0,
@@ -43,20 +58,6 @@ fn ended(refusal: u32, finished: u16, counts: Counts) -> RunAnswer
         counts,
         row: 0,
         column: 0,
-    }
-}
-
-// 21, at a record and a column.
-fn out_of_range(finished: u16, counts: Counts, row: usize, column: usize) -> RunAnswer
-    ensures { λ r. ⌜ r ≡ stoppedAt finished counts row column ⌝ }
-{
-    RunAnswer {
-        refusal: 21,
-        line: 0,
-        finished,
-        counts,
-        row,
-        column,
     }
 }
 
@@ -96,14 +97,15 @@ fn run_steps(
     let mut counts = counts::NONE;
     while step < steps {
         if finished == budget {
-            return ended(20, finished, counts);
+            break;
         }
         if taken != step {
             frame = frames[step];
             plain = true;
             for k in 0..frame.rules {
-                rules[k] = slots[32 * step + k];
-                plain = stay_plain(plain, rules[k]);
+                let rule = slots[32 * step + k];
+                rules[k] = rule;
+                plain = stay_plain(plain, rule);
             }
             taken = step;
         }
@@ -126,30 +128,27 @@ fn run_steps(
         let mut stop = Stop::Nowhere;
         'records: for u in 0..sizes.records {
             for k in 0..used {
-                if plain {
-                    stop = local::apply_plain(out, values, marks, sizes, base, u, rules[k]);
-                } else {
-                    stop = local::apply_rule(
-                        out,
-                        values,
-                        marks,
-                        sizes,
-                        base,
-                        u,
-                        kinds,
-                        numbers,
-                        chains,
-                        places,
-                        rules[k],
-                    );
-                }
+                stop = local::apply(
+                    out,
+                    values,
+                    marks,
+                    sizes,
+                    base,
+                    u,
+                    kinds,
+                    numbers,
+                    chains,
+                    places,
+                    rules[k],
+                    plain,
+                );
                 if let Stop::At(_, _) = stop {
                     break 'records;
                 }
             }
         }
-        if let Stop::At(row, column) = stop {
-            return out_of_range(finished, counts, row, column);
+        if let Stop::At(_, _) = stop {
+            return answer(stop, step, steps, finished, counts);
         }
         let mut sent = 0;
         if frame.remote {
@@ -170,14 +169,14 @@ fn run_steps(
         }
         let fields = frame.fields;
         let total = step_commit::commit(out, values, marks, sizes, base, fields);
-        if let Stop::At(row, column) = total {
-            return out_of_range(finished, counts, row, column);
+        if let Stop::At(_, _) = total {
+            return answer(total, step, steps, finished, counts);
         }
         counts = counts::count(machine, counts, gathered, frame.remote, sent);
         finished += 1;
         step = run_loop::next(out, values, marks, sizes, at, setting, step, first);
     }
-    ended(0, finished, counts)
+    answer(Stop::Nowhere, step, steps, finished, counts)
 }
 
 // The program over the register in `out`.

@@ -1,12 +1,12 @@
 -- Rules that were read to the end of the line.
 use Prim.Native.Nat.{ℕ}
 use mathlib.Core.Path.{_≡_, sym, ap, _∙_}
-use mathlib.Core.Bool.{true, false, _&&_}
+use mathlib.Core.Bool.{Bool, true, false}
 use mathlib.Core.List.{List, _∷_}
 use native.Mathlib.Omega.{arith}
 use Rattle.register.specs.Shape.{Limits}
 use Rattle.register.specs.declared.Sizes.{Sizes}
-use Rattle.chain_text.specs.Text.{names, letterField, isReferenceLetter}
+use Rattle.chain_text.specs.Text.{names, letterField}
 use Rattle.program.specs.declared.rule.Rule.{Rule}
 use Rattle.program.specs.declared.rule.Rule.the-variants.{Remote}
 use Rattle.program.specs.declared.rule.Sort.{Sort}
@@ -16,22 +16,22 @@ use Rattle.text_syntax.specs.Token.{letter, write}
 use Rattle.text_syntax.specs.Form.{Form}
 use Rattle.text_syntax.specs.Written.{Action, chain, set, remote}
 use Rattle.text_syntax.specs.Grammar.{localForm, sentForm}
-use Rattle.text_syntax.specs.Parts.{sameKind}
 use Rattle.text_rules.specs.declared.line.Checks.{Checks}
 use Rattle.text_rules.specs.LineRead.{allPass}
-use Rattle.text_expressions.specs.declared.summary.Summary.{Summary}
-use Rattle.text_terms.specs.declared.term.TermParts.{TermParts}
-use Rattle.text_terms.specs.Place.{tokensFrom, Behind, Passing}
-use Rattle.text_terms.specs.Term.{partsOf}
-use Rattle.text_expressions.specs.Codes.{Roomy}
-use Rattle.text_expressions.specs.Reading.{ExpressionFormed}
-use Rattle.text_sides.specs.Word.{isEmpty, Assigned}
-use Rattle.text_sides.specs.Checks.{summaryChecks, termChecks, bothChecks, withKinds, sentKinds}
+use Rattle.text_codes.specs.declared.summary.Summary.{Summary}
+use Rattle.text_codes.specs.declared.code.TermParts.{TermParts}
+use Rattle.text_places.specs.Place.{tokensFrom, Behind, Passing}
+use Rattle.text_codes.specs.Coded.{partsOf}
+use Rattle.text_codes.specs.Codes.{Roomy}
+use Rattle.text_sides.specs.Expression.{ExpressionFormed}
+use Rattle.text_places.specs.Word.{isEmpty, Assigned}
+use Rattle.text_checks.specs.Checks.{summaryChecks, termChecks, bothChecks}
+use Rattle.text_demands.specs.Demands.{localChecks, remoteChecks}
 use Rattle.text_sides.specs.Side.{ruleHeld, codesLeft, SideFormed}
 use Rattle.text_actions.specs.Action.{ActionFormed, ActionAt}
 use Rattle.text_actions.specs.declared.action.ActionRead.{ActionRead}
 use Rattle.text_actions.specs.declared.action.ActionRead.the-variants.{Action as ActionParts, NoForm}
-use Rattle.text_sides.proofs.Passing.{both-pass, kinds-pass, set-checks, remote-checks}
+use Rattle.text_checks.proofs.Passing.{both-pass, kinds-pass, set-checks, remote-checks}
 use Rattle.text_sides.proofs.Sides.{left-least, left-most}
 use Rattle.text_sides.proofs.Expressions.{passed-codes, passed-kept}
 use Rattle.text_actions.proofs.Rules.{rule-held, remote-held}
@@ -43,11 +43,12 @@ roomy-later v r = record { kinds = omega arith; numbers = omega arith; chains = 
 
 module _ {s : Sizes} {line : List ℕ} {a b : Codes} {count : ℕ} (lim : Limits s) where
   -- `F[u] := X`
-  pub local-read : {at start end to : ℕ} {g : Summary} (f : ℕ) {x : ℕ} {r : Rule} {k : Checks} {n : ℕ} → Assigned line at start
+  pub local-read : {at start end to : ℕ} {g : Summary} (f : ℕ) {x : ℕ} {r : Rule} {named : Bool} {k : Checks} {n : ℕ} → Assigned line at start
       → ExpressionFormed s line start a b count g end to → isEmpty (tokensFrom false line end) ≡ true → x ≡ letterField f → r ≡ ruleHeld b x count to
-      → k ≡ withKinds (summaryChecks g) (names s f) (sameKind (isReferenceLetter f) (g .reference)) → n ≡ codesLeft count (codesLeft count to 1) 3
+      → named ≡ names s f → k ≡ localChecks f named g → n ≡ codesLeft count (codesLeft count to 1) 3
       → ActionFormed s line at (localForm (letter f ∷ tokensFrom false line at)) a b count r k n
-  local-read {to = to} {g = g} f v w h i p q c =
+  local-read {to = to} {g = g} f v w h i p o e c =
+      let q = e ∙ ap (λ (x : Bool). localChecks f x g) o in
       let l = w .more-codes in
       let one = left-least count to 1 l in
       let least = left-least count (codesLeft count to 1) 3 one in
@@ -64,21 +65,23 @@ module _ {s : Sizes} {line : List ℕ} {a b : Codes} {count : ℕ} (lim : Limits
       }
 
   -- `remote F[C] <?= X`, `remote F[C] += X`
-  pub sent-read : {at start end to : ℕ} {g : Summary} {x : Term} (f : ℕ) {y : ℕ} (c : List ℕ) {p : TermParts} (k : Sort) {m : Checks} → p ≡ partsOf s (chain c)
+  pub sent-read : {at start end to : ℕ} {g : Summary} {x : Term} (f : ℕ) {y : ℕ} (c : List ℕ) {p : TermParts} (k : Sort) {named : Bool} {m : Checks} → p ≡ partsOf s (chain c)
       → Passing false true (write k) line at start → SideFormed s line start a b count g x end to → isEmpty (tokensFrom false line end) ≡ true
       → y ≡ letterField f
-      → m ≡ withKinds (bothChecks (termChecks p) (summaryChecks g)) (names s f) (p .reference && sentKinds k (isReferenceLetter f) (g .reference))
+      → named ≡ names s f → m ≡ remoteChecks k f named p g
       → ActionFormed s line at (sentForm (f ∷ c) (tokensFrom false line at)) a b count (Remote k y (p .packed) x) m to
-  sent-read {g = g} f c {p} k e v w h i q = record {
-    written = remote k f c (w .written);
-    form-is = whole-end _ (sent-formed f c v (w .form-is)) h;
-    checks-are = q ∙ remote-checks s k f c (w .written) e (w .summary-is);
-    held = λ pass.
-        let ok = both-pass (termChecks p) (summaryChecks g) (kinds-pass (bothChecks (termChecks p) (summaryChecks g)) _ _ (sym (ap allPass q) ∙ pass)) in
-        rw i (remote-held k f c lim e (ok .0) (w .holds (ok .1)) (w .kept (ok .1)));
-    more-codes = w .more-codes;
-    few-codes = omega (arith, w .few-codes, w .inside, v .behind .onward);
-  }
+  sent-read {g = g} f c {p} k e v w h i o d =
+      let q = d ∙ ap (λ (x : Bool). remoteChecks k f x p g) o in
+      record {
+        written = remote k f c (w .written);
+        form-is = whole-end _ (sent-formed f c v (w .form-is)) h;
+        checks-are = q ∙ remote-checks s k f c (w .written) e (w .summary-is);
+        held = λ pass.
+            let ok = both-pass (termChecks p) (summaryChecks g) (kinds-pass (bothChecks (termChecks p) (summaryChecks g)) _ _ (sym (ap allPass q) ∙ pass)) in
+            rw i (remote-held k f c lim e (ok .0) (w .holds (ok .1)) (w .kept (ok .1)));
+        more-codes = w .more-codes;
+        few-codes = omega (arith, w .few-codes, w .inside, v .behind .onward);
+      }
 
 -- what was read behind the first token, from before it
 pub action-from : (s : Sizes) (line : List ℕ) {at i : ℕ} {f g : Form Action} (a b : Codes) (count : ℕ) → Behind line at i → g ≡ f → (r : ActionRead)

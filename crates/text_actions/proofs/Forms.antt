@@ -15,11 +15,11 @@ use Rattle.text_syntax.specs.Grammar.{linked, chainForm, expression, localForm,
 use Rattle.text_syntax.proofs.Readers.{or-none}
 use Rattle.text_syntax.proofs.Lines.{local-first}
 use Rattle.text_syntax.proofs.Chains.{chain-letter}
-use Rattle.text_terms.specs.Place.{tokensFrom, begins, Passing, Absent}
+use Rattle.text_places.specs.Place.{tokensFrom, begins, Passing, Absent}
 use Rattle.text_expressions.specs.Reading.{Unread}
 use Rattle.text_terms.specs.Chain.{NoChain}
-use Rattle.text_terms.proofs.Places.{past-absent}
-use Rattle.text_sides.specs.Word.{isEmpty, NoWrite, NoLetter, Assigned}
+use Rattle.text_places.proofs.Places.{past-absent}
+use Rattle.text_places.specs.Word.{isEmpty, NoWrite, NoLetter, Assigned}
 use Rattle.text_actions.specs.Action.{actionForm, NoAction, NoTarget}
 
 -- a form uses up the line exactly where no token stands behind it

@@ -27,13 +27,13 @@ use Rattle.text_syntax.specs.Written.{Expression, chain, set, remote}
 use Rattle.text_syntax.specs.Parts.{termNamed, termKinded, termShort}
 use Rattle.text_syntax.specs.Tree.{treeOf, targetOf, sourceOf}
 use Rattle.text_rules.specs.LineRead.{allPass}
-use Rattle.text_terms.specs.declared.term.TermParts.{TermParts}
-use Rattle.text_expressions.specs.Codes.{codeIn}
-use Rattle.text_terms.specs.Term.{packedOf, partsOf}
-use Rattle.text_sides.specs.Checks.{termChecks}
+use Rattle.text_codes.specs.declared.code.TermParts.{TermParts}
+use Rattle.text_codes.specs.Codes.{codeIn}
+use Rattle.text_codes.specs.Coded.{packedOf, partsOf}
+use Rattle.text_checks.specs.Checks.{termChecks}
 use Rattle.text_sides.specs.Side.{singleIn, termHeld, ruleHeld, codesLeft, Holds}
 use Rattle.text_actions.specs.Action.{ActionHeld}
-use Rattle.text_sides.proofs.Passing.{all-passed}
+use Rattle.text_checks.proofs.Passing.{all-passed}
 use Rattle.text_sides.proofs.Sides.{left-same, left-more}
 use Rattle.text_sides.proofs.Held.{three-codes, single-is, single-plain, operator-is, term-holds}
 

@@ -18,10 +18,10 @@ use Rattle.text_syntax.specs.Grammar.{chainForm, localForm, sentForm, remoteFor
 use Rattle.text_syntax.specs.Tree.{targetOf, sourceOf}
 use Rattle.text_rules.specs.declared.line.Checks.{Checks}
 use Rattle.text_rules.specs.LineRead.{allPass}
-use Rattle.text_terms.specs.declared.term.TermParts.{TermParts}
-use Rattle.text_terms.specs.Place.{tokensFrom, Behind}
-use Rattle.text_terms.specs.Term.{partsOf}
-use Rattle.text_sides.specs.Checks.{actionChecks}
+use Rattle.text_codes.specs.declared.code.TermParts.{TermParts}
+use Rattle.text_places.specs.Place.{tokensFrom, Behind}
+use Rattle.text_codes.specs.Coded.{partsOf}
+use Rattle.text_checks.specs.Checks.{actionChecks}
 use Rattle.text_actions.specs.declared.action.ActionRead.{ActionRead}
 use Rattle.text_actions.specs.declared.action.ActionRead.the-variants.{Action as ActionParts, NoForm}
 use Rattle.text_actions.specs.declared.action.TargetRead.{TargetRead}

@@ -9,28 +9,28 @@ ghost use Rattle.chain_text.specs.Text.{isCapital};
 ghost use Rattle.program.specs.Code.{codesKept};
 ghost use Rattle.text_syntax.specs.Token as T;
 ghost use Rattle.text_syntax.specs.Grammar.{localForm};
-ghost use Rattle.text_terms.specs.Place.{tokensFrom};
-ghost use Rattle.text_expressions.specs.Codes.{Roomy};
+ghost use Rattle.text_places.specs.Place.{tokensFrom};
+ghost use Rattle.text_codes.specs.Codes.{Roomy};
 ghost use Rattle.text_actions.specs.Action.{TargetAt, SentBehind, actionForm, ActionAt};
 use chain_text::letters;
 use program::rule::Rule;
 use register::Sizes;
-use text_expressions::expression;
-use text_expressions::expression::ExpressionRead;
+use text_codes::code::TermParts;
+use text_demands::rule;
 use text_lexer::lexer;
-use text_lexer::token::Token;
+use text_places::place;
+use text_places::word;
+use text_places::word::LetterRead;
+use text_places::word::WriteRead;
 use text_rules::line::Checks;
-use text_sides::checks;
+use text_sides::expression;
+use text_sides::expression::ExpressionRead;
 use text_sides::side;
 use text_sides::side::SideRead;
-use text_sides::word;
-use text_sides::word::LetterRead;
-use text_sides::word::WriteRead;
-use text_terms::place;
 use text_terms::term;
-use text_terms::term::TermParts;
 use text_terms::term::TermRead;
 use text_words::token::Place;
+use text_words::token::Token;
 
 // A rule, what is asked of it and the number of codes then; or no rule stands there to the end of the line.
 pub enum ActionRead {
@@ -74,11 +74,9 @@ fn read_local(
         return ActionRead::NoForm;
     }
     let field = letters::field_of(letter);
-    let rule = side::set_in(kinds, numbers, chains, field, count, to);
-    let named = letters::names_field(sizes, letter);
-    let kinded = checks::same(letter < b'M', seen.reference);
-    let asked = checks::with_kinds(checks::of_expression(seen), named, kinded);
-    ActionRead::Action(rule, asked, side::codes_behind_set(count, to))
+    let held = side::set_in(kinds, numbers, chains, field, count, to);
+    let asked = rule::local(letter, letters::names_field(sizes, letter), seen);
+    ActionRead::Action(held, asked, side::codes_behind_set(count, to))
 }
 
 // F and C of a remote target `F[C]`, and the place behind it; or none stands there.
@@ -95,13 +93,13 @@ fn read_target(line: &[u8], at: usize, sizes: Sizes) -> TargetRead
     let LetterRead::Letter(letter, open) = word::letter(line, at) else {
         return TargetRead::NoForm;
     };
-    let Place::At(inner) = place::open_square(line, open) else {
+    let Place::At(inner) = place::mark(line, open, false, place::OPEN_SQUARE) else {
         return TargetRead::NoForm;
     };
     let TermRead::Parts(parts, close) = term::read_chain(line, inner, false, sizes) else {
         return TargetRead::NoForm;
     };
-    let Place::At(end) = place::close_square(line, close) else {
+    let Place::At(end) = place::mark(line, close, false, place::CLOSE_SQUARE) else {
         return TargetRead::NoForm;
     };
     TargetRead::Target(letter, parts, end)
@@ -143,11 +141,9 @@ fn read_sent(
     if !word::ends(line, end) {
         return ActionRead::NoForm;
     }
-    let rule = Rule::Remote(sort, letters::field_of(letter), parts.packed, term);
+    let held = Rule::Remote(sort, letters::field_of(letter), parts.packed, term);
     let named = letters::names_field(sizes, letter);
-    let kinded = parts.reference & checks::sent_kinds(sort, letter < b'M', seen.reference);
-    let terms = checks::both(checks::of_target(parts), checks::of_expression(seen));
-    ActionRead::Action(rule, checks::with_kinds(terms, named, kinded), codes)
+    ActionRead::Action(held, rule::remote(sort, letter, named, parts, seen), codes)
 }
 
 // The rule at `at`, by its first token.

@@ -14,8 +14,8 @@ use Rattle.program.specs.Code.{Code, operatorOf, Codes, codesKept}
 use Rattle.program.specs.declared.rule.Operator.{Operator}
 use Rattle.program.specs.declared.rule.Operator.the-variants.{Plus, Minus, Smaller}
 use Rattle.text_syntax.specs.Token.{operator, openRound, closeRound}
-use Rattle.text_syntax.specs.Kind.{kind, operatorIn, fixedIn, same, is}
-use Rattle.text_syntax.specs.Form.{Form, formed, unformed, held, oneOf, past, then}
+use Rattle.text_syntax.specs.Kind.{kind, fixedIn, same, is}
+use Rattle.text_syntax.specs.Form.{Form, formed, unformed, past, then}
 use Rattle.text_syntax.specs.Written.{Expression, term, group, operation}
 use Rattle.text_syntax.specs.Grammar.{groupForm, isSum, isSmaller, operatorForm, expression, operand, minimum, minimumFrom, expressionFrom}
 use Rattle.text_syntax.specs.Parts.{depth}
@@ -25,35 +25,23 @@ use Rattle.text_syntax.proofs.Readers.{All, all-map, behind-all}
 use Rattle.text_syntax.proofs.Turns.{minimum-joined, minimum-more, minimum-end, expression-joined, expression-more, expression-end, operand-term, operand-group, operand-other}
 use Rattle.text_syntax.proofs.Depths.{Grows, minimum-grows, expression-grows, Deep, group-deep, group-deep-first}
 use Rattle.text_syntax.proofs.Scans.{merged-operation, merged-group}
-use Rattle.text_terms.specs.declared.term.TermParts.{TermParts}
-use Rattle.text_expressions.specs.declared.summary.Summary.{Summary}
-use Rattle.text_expressions.specs.declared.join.Reading.{Reading}
-use Rattle.text_expressions.specs.declared.join.Reading.the-variants.{Read, NoForm, Deep as TooDeepRead}
-use Rattle.text_expressions.specs.declared.join.Pending.{Pending}
-use Rattle.text_expressions.specs.declared.join.Joining.{Joining}
-use Rattle.text_expressions.specs.declared.join.Joining.the-variants.{Next, Done}
-use Rattle.text_terms.specs.Place.{tokensFrom, Passing, Absent, NoOperator}
-use Rattle.text_terms.specs.Term.{partsOf, TermFormed, NoTerm}
-use Rattle.text_expressions.specs.Summary.{summaryOf, termSummary}
-use Rattle.text_expressions.specs.Reading.{Unranked, AllDeep, ReadAs, Unread, TooDeep, ReadingAt, EndInside, GroupedBy}
-use Rattle.text_expressions.specs.Join.{Continues, ReadyFor, PutNext, JoinedBy}
-use Rattle.text_terms.proofs.Places.{past-absent}
-use Rattle.text_terms.proofs.ChainForms.{behind-behind}
-use Rattle.text_expressions.specs.Codes.{termCode, writtenCodes, signKind, signCodes, signSize, Wrote, WroteSign, Roomy}
-use Rattle.text_expressions.proofs.Coding.{wrote-none, wrote-then}
-use Rattle.text_expressions.proofs.Turning.{term-summary, term-few, operator-few}
-
--- operators by their rank
-pub ranked-none : (rank : Operator → Bool) {line : List ℕ} {at : ℕ} → NoOperator line at → Unranked rank line at
-unfolding operatorForm then
-ranked-none rank w = record { none = rw (w .none) }
-
-pub ranked-other : (rank : Operator → Bool) {o : Operator} {line : List ℕ} {at end : ℕ} → Passing false true (operator o) line at end → rank o ≡ false → Unranked
-    rank line at
-unfolding operatorForm then oneOf held operatorIn kind
-ranked-other rank {o} {line} {at} {end} w h = record {
-  none = ap (operatorForm rank) (w .text) ∙ ap (λ (b : Bool). cond b (formed o (tokensFrom true line end)) unformed) h;
-}
+use Rattle.text_codes.specs.declared.code.TermParts.{TermParts}
+use Rattle.text_codes.specs.declared.summary.Summary.{Summary}
+use Rattle.text_joins.specs.declared.Reading.{Reading}
+use Rattle.text_joins.specs.declared.Reading.the-variants.{Read, NoForm, Deep as TooDeepRead}
+use Rattle.text_joins.specs.declared.Pending.{Pending}
+use Rattle.text_joins.specs.declared.Joining.{Joining}
+use Rattle.text_joins.specs.declared.Joining.the-variants.{Next, Done}
+use Rattle.text_places.specs.Place.{tokensFrom, Passing, Absent}
+use Rattle.text_codes.specs.Coded.{partsOf}
+use Rattle.text_terms.specs.Term.{TermFormed, NoTerm}
+use Rattle.text_codes.specs.Summary.{summaryOf, termSummary}
+use Rattle.text_joins.specs.Join.{Unranked, EndInside, GroupedBy, Continues, ReadyFor, PutNext, JoinedBy}
+use Rattle.text_expressions.specs.Reading.{AllDeep, ReadAs, Unread, TooDeep, ReadingAt}
+use Rattle.text_places.proofs.Places.{past-absent, behind-behind}
+use Rattle.text_codes.specs.Codes.{termCode, writtenCodes, signKind, signCodes, signSize, Wrote, WroteSign, Roomy}
+use Rattle.text_codes.proofs.Coding.{wrote-none, wrote-then}
+use Rattle.text_codes.proofs.Summaries.{term-summary, term-few, operator-few}
 
 -- the kinds of operators
 sign-codes : (o : Operator) {k : ℕ} → k ≡ signKind o → signCodes k ≡ P.operator o ∷ []

@@ -5,17 +5,16 @@ ghost use Rattle.register.specs.Shape.{Limits};
 ghost use Rattle.program.specs.Code.{codesKept};
 ghost use Rattle.text_syntax.specs.Grammar.{expression, minimum, operand};
 ghost use Rattle.text_terms.specs.Term.{NoTerm};
-ghost use Rattle.text_expressions.specs.Codes.{Roomy};
-ghost use Rattle.text_expressions.specs.Reading.{ReadingAt, EndInside, GroupedBy};
-use crate::code;
-use crate::join;
-use crate::join::Joining;
-use crate::join::Pending;
-use crate::join::Reading;
-use crate::summary;
-use crate::summary::Summary;
+ghost use Rattle.text_codes.specs.Codes.{Roomy};
+ghost use Rattle.text_expressions.specs.Reading.{ReadingAt};
 use register::Sizes;
-use text_terms::place;
+use text_codes::code;
+use text_codes::summary;
+use text_codes::summary::Summary;
+use text_joins::Joining;
+use text_joins::Pending;
+use text_joins::Reading;
+use text_places::place;
 use text_terms::term;
 use text_terms::term::TermRead;
 use text_words::token::Place;
@@ -50,7 +49,7 @@ pub fn read_expression(
         let i = next.at;
         let codes = next.codes;
         let read = read_minimum(line, i, sizes, room, seen, kinds, numbers, chains, codes);
-        match join::joined(line, kinds, read, next.kind, true) {
+        match text_joins::joined(line, kinds, read, next.kind, true) {
             Joining::Next(more) => next = more,
             Joining::Done(done) => return done,
         }
@@ -87,7 +86,7 @@ fn read_minimum(
         let i = next.at;
         let codes = next.codes;
         let read = read_operand(line, i, sizes, room, seen, kinds, numbers, chains, codes);
-        match join::joined(line, kinds, read, next.kind, false) {
+        match text_joins::joined(line, kinds, read, next.kind, false) {
             Joining::Next(more) => next = more,
             Joining::Done(done) => return done,
         }
@@ -139,7 +138,7 @@ fn read_group(
         (codesKept (now (kinds .entry)) (now (numbers .entry)) (now (chains .entry)))
         (codesKept (now (kinds .exit)) (now (numbers .exit)) (now (chains .exit))) count r ⌝ }
 {
-    let Place::At(inner) = place::open_round(line, at) else {
+    let Place::At(inner) = place::mark(line, at, true, place::OPEN_ROUND) else {
         return Reading::NoForm;
     };
     if room == 0 {
@@ -156,20 +155,5 @@ fn read_group(
         chains,
         count,
     );
-    close_group(line, read)
-}
-
-// A group whose expression is read: `)` must stand behind it.
-fn close_group(line: &[u8], inner: Reading) -> Reading
-    requires { ⌜ EndInside (now line) inner ⌝ }
-    ensures { λ r. ⌜ GroupedBy (now (line .entry)) inner r ⌝ }
-{
-    match inner {
-        Reading::Read(seen, at, count) => match place::close_round(line, at) {
-            Place::At(end) => Reading::Read(seen, end, count),
-            Place::Nothing => Reading::NoForm,
-        },
-        Reading::NoForm => Reading::NoForm,
-        Reading::Deep => Reading::Deep,
-    }
+    text_joins::close_group(line, read)
 }

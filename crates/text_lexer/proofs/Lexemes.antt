@@ -14,11 +14,12 @@ use Rattle.text_syntax.specs.Token.{stepWord, endWord, doneWord, loopWord, ifWo
 use Rattle.text_syntax.specs.Lexing.{spelled, First, first, none, firstToken, operandBehind, skipped, tokensAt}
 use Rattle.text_syntax.specs.Spelling.{Known, spaces}
 use Rattle.text_syntax.proofs.Lexing.{first-began, first-known, skipped-text, tokens-first, tokens-none, tokens-empty}
-use Rattle.text_lexer.specs.Lexeme.{tokenCode, sizedFirst, nextPlace, placed, lexeme, firstCode, Reads, Lexed}
-use Rattle.text_lexer.specs.declared.token.Token.{Token}
-use Rattle.text_lexer.specs.declared.token.Token.the-variants.{Unknown, LineEnd}
-use Rattle.text_lexer.specs.declared.token.SizedToken.{SizedToken}
-use Rattle.text_lexer.specs.declared.token.Lexeme.{Lexeme}
+use Rattle.text_words.specs.Tokens.{tokenCode, sizedFirst}
+use Rattle.text_lexer.specs.Lexeme.{nextPlace, placed, lexeme, firstCode, Reads, Lexed}
+use Rattle.text_words.specs.declared.token.Token.{Token}
+use Rattle.text_words.specs.declared.token.Token.the-variants.{Unknown, LineEnd}
+use Rattle.text_words.specs.declared.token.SizedToken.{SizedToken}
+use Rattle.text_lexer.specs.declared.lexer.Lexeme.{Lexeme}
 
 -- a text that is not at its end
 lexeme-some : (operand : Bool) (at : ℕ) (t : List ℕ) → 0 < length t → lexeme operand at t ≡ placed at t (firstToken operand t)

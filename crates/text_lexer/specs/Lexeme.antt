@@ -9,44 +9,11 @@ use lib.ListN.{length, drop}
 use Rattle.text_numerals.specs.Numeral.{Numeral, cappedValue}
 use Rattle.text_syntax.specs.Token as S
 use Rattle.text_syntax.specs.Token.{stepWord, endWord, doneWord, loopWord, ifWord, remoteWord, own, letter, number, becomes, colon, write, operator, comparison, openSquare, closeSquare, openRound, closeRound, unknown}
+use Rattle.text_words.specs.Tokens.{tokenCode}
 use Rattle.text_syntax.specs.Lexing.{spelled, First, first, none, firstToken, skipped, tokensAt}
-use Rattle.text_lexer.specs.declared.token.Token.{Token}
-use Rattle.text_lexer.specs.declared.token.Token.the-variants.{Step, End, Done, Loop, If, Remote, Own, Letter, Number, Becomes, Colon, Write, Operator, Compared, OpenSquare, CloseSquare, OpenRound, CloseRound, Unknown, LineEnd}
-use Rattle.text_lexer.specs.declared.token.SizedToken.{SizedToken}
-use Rattle.text_lexer.specs.declared.token.Lexeme.{Lexeme}
-
--- a token as the code has it
-unfoldable pub tokenCode : S.Token → Token
-tokenCode stepWord = Step
-tokenCode endWord = End
-tokenCode doneWord = Done
-tokenCode loopWord = Loop
-tokenCode ifWord = If
-tokenCode remoteWord = Remote
-tokenCode own = Own
-tokenCode (letter l) = Letter l
-tokenCode (number negative x) = Number (cappedValue negative x)
-tokenCode becomes = Becomes
-tokenCode colon = Colon
-tokenCode (write k) = Write k
-tokenCode (operator s) = Operator s
-tokenCode (comparison c) = Compared c
-tokenCode openSquare = OpenSquare
-tokenCode closeSquare = CloseSquare
-tokenCode openRound = OpenRound
-tokenCode closeRound = CloseRound
-tokenCode unknown = Unknown
-
--- a token and the number of its bytes
-abbrev pub sizedToken : Token → ℕ → SizedToken
-sizedToken k n = record { token = k; size = n }
-
-abbrev pub noToken : SizedToken
-noToken = sizedToken Unknown 0
-
-unfoldable pub sizedFirst : First → SizedToken
-sizedFirst none = noToken
-sizedFirst (first k r) = sizedToken (tokenCode k) (length (spelled k))
+use Rattle.text_words.specs.declared.token.Token.{Token}
+use Rattle.text_words.specs.declared.token.Token.the-variants.{Step, End, Done, Loop, If, Remote, Own, Letter, Number, Becomes, Colon, Write, Operator, Compared, OpenSquare, CloseSquare, OpenRound, CloseRound, Unknown, LineEnd}
+use Rattle.text_lexer.specs.declared.lexer.Lexeme.{Lexeme}
 
 -- the place of the next token in a text that stands at `at`, behind a token
 unfoldable pub nextPlace : ℕ → List ℕ → ℕ

@@ -4,25 +4,30 @@ ghost use Prim.Native.Nat.{_≤_, _<_};
 ghost use lib.ListN.{length, drop};
 ghost use Rattle.text_numerals.specs.Numeral.{numberForm};
 ghost use Rattle.text_syntax.specs.Lexing.{firstToken, numberToken};
-ghost use Rattle.text_lexer.specs.Lexeme.{sizedFirst, nextPlace, lexeme};
-use crate::sign;
-use crate::token::Lexeme;
-use crate::token::SizedToken;
-use crate::token::Token;
+ghost use Rattle.text_words.specs.Tokens.{sizedFirst};
+ghost use Rattle.text_lexer.specs.Lexeme.{nextPlace, lexeme};
 use chain_text::letters;
 use chain_text::text;
-use text_words::numeral;
-use text_words::numeral::NumberRead;
+use text_numbers::NumberRead;
+use text_words::token::SizedToken;
+use text_words::token::Token;
+use text_words::word;
+
+// A token and the place of the next one.
+pub struct Lexeme {
+    pub token: Token,
+    pub end: usize,
+}
 
 // The number at `at`, if one stands there.
 fn number_at(line: &[u8], at: usize) -> SizedToken
     requires { ⌜ at ≤ length (now line) ⌝ }
     ensures { λ r. ⌜ r ≡ sizedFirst (numberToken (numberForm (drop at (now (line .entry))))) ⌝ }
 {
-    let NumberRead::Number(value, end) = numeral::read_number(line, at) else {
-        return sign::sized(Token::Unknown, 0);
+    let NumberRead::Number(value, end) = text_numbers::read_number(line, at) else {
+        return word::sized(Token::Unknown, 0);
     };
-    sign::sized(Token::Number(value), end - at)
+    word::sized(Token::Number(value), end - at)
 }
 
 // The token at `at`, if one stands there: where an operand must begin, a minus belongs to a number.
@@ -32,13 +37,13 @@ fn first_token(line: &[u8], at: usize, operand: bool) -> SizedToken
 {
     let b = line[at];
     if letters::is_capital(b) {
-        return sign::sized(Token::Letter(b), 1);
+        return word::sized(Token::Letter(b), 1);
     }
     let digit = (b'0' <= b) & (b <= b'9');
     if digit | ((b == b'-') & operand) {
         return number_at(line, at);
     }
-    sign::sign_at(line, at)
+    text_signs::sign_at(line, at)
 }
 
 // The place of the next token, `at` being behind one: spaces that end the line are not free.

@@ -31,19 +31,20 @@ use Rattle.text_rules.specs.declared.line.Checks.{Checks}
 use Rattle.text_rules.specs.declared.line.LineRead.{LineRead}
 use Rattle.text_rules.specs.declared.line.LineRead.the-variants.{Loop, NoForm, Rule as RuleLine}
 use Rattle.text_rules.specs.LineRead.{lineChecks, allPass, RuleRead, Reads, no-form, loop-line, rule-line}
-use Rattle.text_expressions.specs.declared.summary.Summary.{Summary}
-use Rattle.text_terms.specs.Place.{tokensFrom, begins, Passing, Absent}
+use Rattle.text_codes.specs.declared.summary.Summary.{Summary}
+use Rattle.text_places.specs.Place.{tokensFrom, begins, Passing, Absent}
 use Rattle.text_expressions.specs.Reading.{Unread}
-use Rattle.text_terms.proofs.Places.{past-absent}
-use Rattle.text_sides.specs.Word.{isEmpty, NoComparison}
-use Rattle.text_sides.specs.Checks.{summaryChecks, bothChecks, conditionChecks}
+use Rattle.text_places.proofs.Places.{past-absent}
+use Rattle.text_places.specs.Word.{isEmpty, NoComparison}
+use Rattle.text_checks.specs.Checks.{summaryChecks, bothChecks, conditionChecks}
 use Rattle.text_sides.specs.Side.{Holds, SideFormed}
 use Rattle.text_actions.specs.Action.{actionForm, ActionHeld, ActionFormed, NoAction}
-use Rattle.text_lines.specs.Line.{noParts, wordRead, loopField, loopRead, whenParts, alwaysParts, TestHeld, Leaves, LineAt, RuledBehind, ComparedBehind, testedBehind}
+use Rattle.text_lines.specs.Line.{noParts, wordRead, loopField, loopRead, TestHeld, Leaves, LineAt, RuledBehind, ComparedBehind, testedBehind}
+use Rattle.text_demands.specs.Demands.{whenParts, alwaysParts}
 use Rattle.text_lines.specs.declared.line.LineParts.{LineParts}
-use Rattle.text_lines.specs.declared.line.TestParts.{TestParts}
-use Rattle.text_lines.specs.declared.line.FirstSide.{FirstSide}
-use Rattle.text_sides.proofs.Passing.{both-pass, both-same}
+use Rattle.text_demands.specs.declared.test.TestParts.{TestParts}
+use Rattle.text_demands.specs.declared.test.FirstSide.{FirstSide}
+use Rattle.text_checks.proofs.Passing.{both-pass, both-same}
 use Rattle.text_lines.proofs.Tests.{when-pass, when-checks, line-checks}
 
 -- what stands below n is the same in arrays that agree there

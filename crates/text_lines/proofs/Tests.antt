@@ -12,10 +12,10 @@ use Rattle.text_syntax.specs.Parts.{conditionExpressions, actionExpressions, ex
 use Rattle.text_syntax.specs.Flat as F
 use Rattle.text_rules.specs.declared.line.Checks.{Checks}
 use Rattle.text_rules.specs.LineRead.{lineChecks, allPass}
-use Rattle.text_expressions.specs.declared.summary.Summary.{Summary}
-use Rattle.text_expressions.specs.Summary.{summaryOf}
-use Rattle.text_sides.specs.Checks.{summaryChecks, bothChecks, withKinds, sentKinds, expressionChecks, conditionChecks, actionChecks}
-use Rattle.text_sides.proofs.Passing.{both-pass, kinds-pass, with-same, both-same, summary-checks, summary-reference}
+use Rattle.text_codes.specs.declared.summary.Summary.{Summary}
+use Rattle.text_codes.specs.Summary.{summaryOf}
+use Rattle.text_checks.specs.Checks.{summaryChecks, bothChecks, withKinds, sentKinds, expressionChecks, conditionChecks, actionChecks}
+use Rattle.text_checks.proofs.Passing.{both-pass, kinds-pass, with-same, both-same, summary-checks, summary-reference}
 
 and-left : (a b c : Bool) → a && (b && c) ≡ b && (a && c)
 and-left true b c = refl

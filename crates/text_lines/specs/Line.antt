@@ -6,9 +6,7 @@ use mathlib.Core.List.{List}
 use lib.ListN.{length}
 use Rattle.register.specs.declared.Sizes.{Sizes}
 use Rattle.chain_text.specs.Text.{names, letterField}
-use Rattle.program.specs.declared.term.Term.{Term}
 use Rattle.program.specs.declared.rule.Test.{Test}
-use Rattle.program.specs.declared.rule.Test.the-variants.{Always, When}
 use Rattle.program.specs.Stored.{testIn}
 use Rattle.program.specs.Terms.{TestTerms, SlotTerms, TermFormed, TermFrom, TermInside}
 use Rattle.program.specs.Code.{Codes, SameBelow}
@@ -17,21 +15,19 @@ use Rattle.text_syntax.specs.Kind.{letterIn, comparisonIn}
 use Rattle.text_syntax.specs.Form.{Form, formed, unformed, oneOf, then, whole}
 use Rattle.text_syntax.specs.Written.{Expression, Condition, Line}
 use Rattle.text_syntax.specs.Grammar.{expression, ruleForm, comparedForm}
-use Rattle.text_syntax.specs.Parts.{sameKind}
 use Rattle.text_syntax.specs.Tree.{testOf}
 use Rattle.text_syntax.specs.Flat as F
 use Rattle.text_rules.specs.declared.line.LineRead.{LineRead}
 use Rattle.text_rules.specs.declared.line.LineRead.the-variants.{Step, End, Done, Loop, Rule, NoForm}
 use Rattle.text_rules.specs.LineRead.{allPass, Reads}
-use Rattle.text_expressions.specs.declared.summary.Summary.{Summary}
-use Rattle.text_terms.specs.Place.{tokensFrom}
-use Rattle.text_expressions.specs.Summary.{summaryOf}
-use Rattle.text_sides.specs.Word.{isEmpty}
-use Rattle.text_sides.specs.Checks.{allTrue, summaryChecks, bothChecks, withKinds, conditionChecks}
+use Rattle.text_places.specs.Place.{tokensFrom}
+use Rattle.text_codes.specs.Summary.{summaryOf}
+use Rattle.text_places.specs.Word.{isEmpty}
+use Rattle.text_checks.specs.Checks.{summaryChecks, conditionChecks}
 use Rattle.text_sides.specs.Side.{Holds}
 use Rattle.text_lines.specs.declared.line.LineParts.{LineParts}
-use Rattle.text_lines.specs.declared.line.TestParts.{TestParts}
-use Rattle.text_lines.specs.declared.line.FirstSide.{FirstSide}
+use Rattle.text_demands.specs.declared.test.TestParts.{TestParts}
+use Rattle.text_demands.specs.declared.test.FirstSide.{FirstSide}
 
 -- no line of document 01
 abbrev pub noParts : ℕ → LineParts
@@ -47,16 +43,6 @@ loopField s (formed f r) = wordRead (Loop (letterField f) (names s f)) r
 
 unfoldable pub loopRead : Sizes → List Token → LineRead
 loopRead s ts = loopField s (oneOf letterIn ts)
-
--- a test of two sides, and none
-abbrev pub whenParts : FirstSide → Summary → Term → TestParts
-whenParts x g y = record {
-  test = When (x .term) (x .comparison) y;
-  checks = withKinds (bothChecks (summaryChecks (x .seen)) (summaryChecks g)) true (sameKind (x .seen .reference) (g .reference));
-}
-
-abbrev pub alwaysParts : TestParts
-alwaysParts = record { test = Always; checks = allTrue }
 
 -- a test in the array is the written one; the codes of its terms stand from..to
 pub record TestHeld (b : Codes) (from to : ℕ) (c : Condition) (t : Test) : Type 0 where

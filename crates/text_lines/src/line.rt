@@ -7,47 +7,32 @@ ghost use Rattle.register.specs.Shape.{Limits};
 ghost use Rattle.program.specs.Code.{codesKept};
 ghost use Rattle.text_syntax.specs.Lexing.{tokens};
 ghost use Rattle.text_syntax.specs.Grammar.{anyForm};
-ghost use Rattle.text_terms.specs.Place.{tokensFrom};
-ghost use Rattle.text_expressions.specs.Codes.{Roomy};
-ghost use Rattle.text_lines.specs.Line.{noParts, whenParts, alwaysParts, wordRead, loopRead, RuledBehind, ComparedBehind, testedBehind, LineAt};
+ghost use Rattle.text_places.specs.Place.{tokensFrom};
+ghost use Rattle.text_codes.specs.Codes.{Roomy};
+ghost use Rattle.text_lines.specs.Line.{noParts, wordRead, loopRead, RuledBehind, ComparedBehind, testedBehind, LineAt};
 use chain_text::letters;
-use program::rule::Comparison;
 use program::rule::Slot;
-use program::rule::Test;
-use program::term::Term;
 use register::Sizes;
 use text_actions::action;
 use text_actions::action::ActionRead;
-use text_expressions::summary::Summary;
+use text_demands::test;
+use text_demands::test::FirstSide;
+use text_demands::test::TestParts;
 use text_lexer::lexer;
-use text_lexer::token::Token;
-use text_rules::line::Checks;
+use text_places::place;
+use text_places::word;
+use text_places::word::ComparisonRead;
+use text_places::word::LetterRead;
 use text_rules::line::LineRead;
-use text_sides::checks;
 use text_sides::side;
 use text_sides::side::SideRead;
-use text_sides::word;
-use text_sides::word::ComparisonRead;
-use text_sides::word::LetterRead;
 use text_words::token::Place;
+use text_words::token::Token;
 
 // A line and the number of codes behind it.
 pub struct LineParts {
     pub line: LineRead,
     pub codes: usize,
-}
-
-// A test and what is asked of it.
-pub struct TestParts {
-    pub test: Test,
-    pub checks: Checks,
-}
-
-// The first side of a test.
-pub struct FirstSide {
-    pub seen: Summary,
-    pub term: Term,
-    pub comparison: Comparison,
 }
 
 fn no_form(count: usize) -> LineParts
@@ -119,22 +104,8 @@ fn read_ruled(
     let slot = Slot { test: own, rule };
     let before = test.checks;
     LineParts {
-        line: LineRead::Rule(slot, checks::both(before, asked)),
+        line: LineRead::Rule(slot, text_checks::both(before, asked)),
         codes,
-    }
-}
-
-fn when(first: FirstSide, seen: Summary, second: Term) -> TestParts
-    ensures { λ r. ⌜ r ≡ whenParts first seen second ⌝ }
-{
-    let other = first.seen;
-    let x = first.term;
-    let comparison = first.comparison;
-    let sides = checks::both(checks::of_expression(other), checks::of_expression(seen));
-    let kinded = checks::same(other.reference, seen.reference);
-    TestParts {
-        test: Test::When(x, comparison, second),
-        checks: checks::with_kinds(sides, true, kinded),
     }
 }
 
@@ -167,10 +138,10 @@ fn read_compared(
     ) else {
         return no_form(count);
     };
-    let Place::At(start) = word::colon(line, end) else {
+    let Place::At(start) = place::mark(line, end, false, place::COLON) else {
         return no_form(count);
     };
-    let test = when(first, seen, term);
+    let test = test::when(first, seen, term);
     read_ruled(line, start, test, sizes, kinds, numbers, chains, codes)
 }
 
@@ -213,16 +184,6 @@ fn read_tested(
     read_compared(line, start, first, sizes, kinds, numbers, chains, codes)
 }
 
-// No test.
-fn always() -> TestParts
-    ensures { λ r. ⌜ r ≡ alwaysParts ⌝ }
-{
-    TestParts {
-        test: Test::Always,
-        checks: checks::nothing(),
-    }
-}
-
 // A line without its byte 10, the codes of its expressions written from `count` on.
 pub fn read_line(
     line: &[u8],
@@ -250,7 +211,16 @@ pub fn read_line(
             return read_tested(line, end, sizes, kinds, numbers, chains, count);
         }
         _ => {
-            return read_ruled(line, 0, always(), sizes, kinds, numbers, chains, count);
+            return read_ruled(
+                line,
+                0,
+                test::always(),
+                sizes,
+                kinds,
+                numbers,
+                chains,
+                count,
+            );
         }
     };
     LineParts {

@@ -17,7 +17,7 @@ use Rattle.text_syntax.specs.Grammar.{anyForm, lineForm}
 use Rattle.text_rules.specs.Text.{isWithin, Piece, ended, cut, pieceForm, lines}
 use Rattle.text_rules.specs.LineRead.{no-form}
 use Rattle.text_rules.proofs.Pieces.{lines-ended, lines-cut}
-use Rattle.text_expressions.specs.Codes.{Roomy}
+use Rattle.text_codes.specs.Codes.{Roomy}
 use Rattle.text_lines.specs.Line.{LineAt, noParts}
 use Rattle.text_lines.specs.declared.line.LineParts.{LineParts}
 use Rattle.text_next.specs.Front.{lineBytes, firstForm, CodeRoom, LineNext}

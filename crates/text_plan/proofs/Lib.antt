@@ -1,5 +1,3 @@
 -- Laws of the definitions of `specs/`, for the proofs here and in the crates above.
-pub mod Listing
-pub mod Marking
+pub mod Finding
 pub mod Placing
-pub mod Plans

@@ -21,10 +21,10 @@ use Rattle.program.specs.Code.{Codes, Arrays}
 use Rattle.program.specs.Location.{locationOf, WordLocated, TermLocated, TestLocated, RuleLocated, LocatedAmong}
 use Rattle.program.proofs.Codes.{chain-listed}
 use Rattle.program.specs.Terms.{TestTerms, RuleTerms, SlotTerms, TermInside, TermFormed, TermPlaced, TestPlaced, RulePlaced, SlotPlaced}
-use Rattle.text_plan.specs.Readings.{termWords, testWords, ruleWords, slotWords}
-use Rattle.text_plan.specs.Listed.{isListed, Marked, WordFound}
-use Rattle.text_plan.proofs.Listing.{had-listed, listed-le, listed-stays}
-use Rattle.text_plan.proofs.Marking.{wants-more}
+use Rattle.text_growth.specs.Growth.{termWords, testWords, ruleWords, slotWords}
+use Rattle.text_locations.specs.Listed.{isListed, Marked, WordFound}
+use Rattle.text_locations.proofs.Listing.{had-listed, listed-le, listed-stays}
+use Rattle.text_locations.proofs.Marking.{wants-more}
 
 -- what holds of the place of each chain of a rule, from what held of it
 module _ (P Q : Location → List ℕ → Type 0) (kinds chains places : List ℕ) where

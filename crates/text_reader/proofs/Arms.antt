@@ -38,7 +38,7 @@ use Rattle.text_rules.proofs.Loops.{openLoop}
 use Rattle.text_rules.proofs.Passing.{Reached}
 use Rattle.program.specs.Stored.{ruleIn, rulesIn}
 use Rattle.program.specs.Kept.{stepsIn, FrameOf, Framed}
-use Rattle.text_plan.specs.Listed.{RulePlanned}
+use Rattle.text_plan.specs.Planned.{RulePlanned}
 use Rattle.text_state.specs.State.{noRules, moreRules, withRemote, withRule, frameOf, lastFrame, standing, advanceOf}
 use Rattle.text_state.specs.declared.tally.Tally.{Tally}
 use Rattle.program.specs.declared.frame.Frame.{Frame}

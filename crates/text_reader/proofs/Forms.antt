@@ -23,7 +23,7 @@ use Rattle.text_rules.specs.Check.{State}
 use Rattle.text_rules.proofs.Checked.{Clean}
 use Rattle.text_state.proofs.Standing.{clean-passes}
 use Rattle.text_lines.specs.Line.{Leaves}
-use Rattle.text_plan.specs.Readings.{Short}
+use Rattle.text_readings.specs.Readings.{Short}
 
 -- the readings of a rule that has passed are of at most 16 hops
 module _ (s : Sizes) where

@@ -19,9 +19,9 @@ use Rattle.program.specs.Program.{Rule, ruleReadings, readings, stepPlan}
 use Rattle.program.specs.Code.{Codes}
 use Rattle.program.specs.Stored.{ruleIn}
 use Rattle.program.specs.Terms.{SlotTerms, TermFormed, SlotPlaced}
-use Rattle.text_plan.specs.Readings.{slotWords, Sound}
-use Rattle.text_plan.specs.Listed.{RulePlanned}
-use Rattle.text_plan.proofs.Plans.{slot-words}
+use Rattle.text_growth.specs.Growth.{slotWords, Sound}
+use Rattle.text_plan.specs.Planned.{RulePlanned}
+use Rattle.text_growth.proofs.Rules.{slot-words}
 use Rattle.text_plan.proofs.Placing.{WordPlaced, placed-old, placed-new}
 use Rattle.text_reader.proofs.Lists.{each-map}
 use Rattle.text_reader.proofs.Agreeing.{SlotKept, Agree, each-placed}

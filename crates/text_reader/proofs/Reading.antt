@@ -38,9 +38,10 @@ use Rattle.program.specs.declared.location.Locations.{Locations}
 use Rattle.program.specs.Code.{Codes}
 use Rattle.program.specs.Code as K
 use Rattle.program.specs.Terms.{SlotTerms, TermInside}
-use Rattle.text_plan.specs.Readings.{slotWords, Short, addedOf}
-use Rattle.text_plan.specs.Listed.{RulePlanned}
-use Rattle.text_plan.proofs.Plans.{slot-words}
+use Rattle.text_growth.specs.Growth.{slotWords, addedOf}
+use Rattle.text_readings.specs.Readings.{Short}
+use Rattle.text_plan.specs.Planned.{RulePlanned}
+use Rattle.text_growth.proofs.Rules.{slot-words}
 use Rattle.text_state.specs.State.{noRules, startState, frameOf, lastFrame, advanceOf}
 use Rattle.text_refusals.specs.Refusal.{refusalOf, lastRefusal}
 use Rattle.program.specs.declared.Program as C

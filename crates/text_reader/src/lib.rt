@@ -24,7 +24,8 @@ use program::rule::Test;
 use program::setting::Setting;
 use program::term::Term;
 use register::Sizes;
-use text_plan::locate::plan_rule;
+use text_judge::next_line;
+use text_plan::plan_rule;
 use text_rules::line::LineRead;
 use text_state::state;
 use text_state::state::State;
@@ -128,13 +129,12 @@ fn read_program(
     let mut codes = 0;
     let mut at = 0;
     while at < text.len() {
-        let end = text_next::line_end(text, at);
-        let first = text_next::read_first(text, at, end, sizes, kinds, numbers, chains, codes);
-        let read = first.line;
-        *refusal = text_refusals::refusal(state, *full, read);
+        let next = next_line(text, at, sizes, state, kinds, numbers, chains, codes, *full);
+        *refusal = next.refusal;
         if *refusal != 0 {
             break;
         }
+        let read = next.line;
         let steps = state.steps;
         let lines = *count;
         match read {
@@ -165,8 +165,8 @@ fn read_program(
             LineRead::NoForm => {}
         }
         state = state::advance(state, lines, read);
-        codes = first.codes;
-        at = end + 1;
+        codes = next.codes;
+        at = next.end + 1;
         *line += 1;
     }
     *refusal = text_refusals::refusal_or_last(*refusal, state);

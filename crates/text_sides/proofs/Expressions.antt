@@ -16,12 +16,12 @@ use Rattle.text_syntax.specs.Tree.{treeOf}
 use Rattle.text_syntax.specs.Flat as F
 use Rattle.text_syntax.specs.Flat.{summary}
 use Rattle.text_rules.specs.LineRead.{allPass}
-use Rattle.text_expressions.specs.declared.summary.Summary.{Summary}
-use Rattle.text_expressions.specs.Reading.{ExpressionFormed}
-use Rattle.text_expressions.proofs.Whole.{whole-postfix}
-use Rattle.text_sides.specs.Checks.{summaryChecks}
+use Rattle.text_codes.specs.declared.summary.Summary.{Summary}
+use Rattle.text_sides.specs.Expression.{ExpressionFormed}
+use Rattle.text_sides.proofs.Whole.{whole-postfix}
+use Rattle.text_checks.specs.Checks.{summaryChecks}
 use Rattle.text_sides.specs.Side.{InArrays, termHeld, codesLeft, SideFormed}
-use Rattle.text_sides.proofs.Passing.{all-passed}
+use Rattle.text_checks.proofs.Passing.{all-passed}
 use Rattle.text_sides.proofs.Sides.{left-least, left-most}
 use Rattle.text_sides.proofs.Held.{term-holds}
 

@@ -22,7 +22,7 @@ use Rattle.program.specs.Terms.{TermFormed, TermFrom, TermInside}
 use Rattle.program.proofs.Codes.{decoded-postfix, postfix-formed, codes-none}
 use Rattle.text_syntax.specs.Written.{Expression}
 use Rattle.text_syntax.specs.Tree.{treeOf}
-use Rattle.text_expressions.specs.Codes.{codeIn}
+use Rattle.text_codes.specs.Codes.{codeIn}
 use Rattle.text_sides.specs.Side.{singleIn, termHeld, codesLeft, Holds}
 
 -- an expression has codes

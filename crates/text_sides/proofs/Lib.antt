@@ -1,6 +1,5 @@
--- Laws of the readers of words and sides, for the crates above.
-pub mod Words
+-- Laws of the readers of expressions as terms, for the crates above.
 pub mod Sides
-pub mod Passing
 pub mod Held
+pub mod Whole
 pub mod Expressions

@@ -1,4 +1,3 @@
--- What the readers of words and sides answer.
-pub mod Word
-pub mod Checks
+-- What the readers of whole expressions and of sides answer.
+pub mod Expression
 pub mod Side

@@ -20,12 +20,12 @@ use Rattle.text_syntax.specs.Grammar.{expression}
 use Rattle.text_syntax.specs.Tree.{treeOf}
 use Rattle.text_syntax.specs.Flat as F
 use Rattle.text_rules.specs.LineRead.{allPass}
-use Rattle.text_expressions.specs.declared.summary.Summary.{Summary}
-use Rattle.text_terms.specs.Place.{tokensFrom}
-use Rattle.text_expressions.specs.Summary.{summaryOf}
-use Rattle.text_expressions.specs.Codes.{Roomy}
+use Rattle.text_codes.specs.declared.summary.Summary.{Summary}
+use Rattle.text_places.specs.Place.{tokensFrom}
+use Rattle.text_codes.specs.Summary.{summaryOf}
+use Rattle.text_codes.specs.Codes.{Roomy}
 use Rattle.text_expressions.specs.Reading.{Unread}
-use Rattle.text_sides.specs.Checks.{summaryChecks}
+use Rattle.text_checks.specs.Checks.{summaryChecks}
 use Rattle.text_sides.specs.declared.side.SideRead.{SideRead}
 use Rattle.text_sides.specs.declared.side.SideRead.the-variants.{Side, NoForm}
 

@@ -1,4 +1,5 @@
-// The words of a line, its expressions as the terms of a rule, and what is asked of them.
-pub mod checks;
+// The expressions of a line as the terms of a rule. Promised to the reader of lines: `expression::read` answers by lists of
+// tokens alone (specs/Expression, `ExpressionAt`), and the codes of an expression that passes are those of its tree
+// (proofs/Whole, `whole-postfix`).
+pub mod expression;
 pub mod side;
-pub mod word;

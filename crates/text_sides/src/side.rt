@@ -4,15 +4,15 @@ ghost use Prim.Native.Nat.{_+_, _≤_, _<_};
 ghost use lib.ListN.{length, getD};
 ghost use Rattle.register.specs.Shape.{Limits};
 ghost use Rattle.program.specs.Code.{operatorOf, codesKept};
-ghost use Rattle.text_expressions.specs.Codes.{Roomy};
+ghost use Rattle.text_codes.specs.Codes.{Roomy};
 ghost use Rattle.text_sides.specs.Side.{InArrays, singleIn, termHeld, ruleHeld, codesLeft, SideAt};
+use crate::expression;
+use crate::expression::ExpressionRead;
 use program::rule::Operator;
 use program::rule::Rule;
 use program::term::Term;
 use register::Sizes;
-use text_expressions::expression;
-use text_expressions::expression::ExpressionRead;
-use text_expressions::summary::Summary;
+use text_codes::summary::Summary;
 
 // The term whose one code stands at `at`.
 pub fn single(kinds: &[u8], numbers: &[i32], chains: &[u64], at: usize) -> Term

@@ -19,16 +19,14 @@ use Rattle.text_syntax.specs.Flat.{closedChain, chainFrom}
 use Rattle.text_syntax.proofs.TokenKinds.{letter-token}
 use Rattle.text_syntax.proofs.Chains.{chain-own, chain-letter, chain-none}
 use Rattle.text_syntax.proofs.Scans.{chain-start, chain-opens, chain-within}
-use Rattle.text_lexer.specs.Lexeme.{tokenCode, Lexed}
-use Rattle.text_lexer.specs.declared.token.Lexeme.{Lexeme}
+use Rattle.text_words.specs.Tokens.{tokenCode}
+use Rattle.text_lexer.specs.Lexeme.{Lexed}
+use Rattle.text_lexer.specs.declared.lexer.Lexeme.{Lexeme}
 use Rattle.text_terms.specs.declared.chains.ChainRead.{ChainRead}
 use Rattle.text_terms.specs.declared.chains.ChainRead.the-variants.{Chain, NoForm}
-use Rattle.text_terms.specs.Place.{tokensFrom, Behind, begins, Passing, Absent}
+use Rattle.text_places.specs.Place.{tokensFrom, Behind, begins, Passing, Absent}
 use Rattle.text_terms.specs.Chain.{Opens, NoChain, Closes, Unclosed, ChainFormed, ChainAt, ClosedBy, EndsInside}
-use Rattle.text_terms.proofs.Places.{absent, none-of, past-absent, letter-capital}
-
-pub behind-behind : {line : List ℕ} {at i end : ℕ} → Behind line at i → Behind line i end → Behind line at end
-behind-behind v w = record { onward = omega (arith, v .onward, w .onward); inside = w .inside }
+use Rattle.text_places.proofs.Places.{behind-behind, absent, none-of, past-absent, letter-capital}
 
 -- what a chain begins with: a letter and `[`, a letter alone, and neither a letter nor `u`
 module _ (due : Bool) (line : List ℕ) (at i : ℕ) {l : ℕ} (text : tokensFrom due line at ≡ letter l ∷ tokensFrom false line i) where

@@ -1,4 +1,3 @@
 -- Laws of the readers of chains and terms, for the crates above.
-pub mod Places
 pub mod ChainForms
 pub mod Terms

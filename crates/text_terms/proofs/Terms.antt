@@ -16,7 +16,7 @@ use Rattle.chain_text.specs.Scan.{summary, steps}
 use Rattle.chain_text.specs.declared.letters.Letters.{Letters}
 use Rattle.chain_text.proofs.Steps.{start, steps-summary}
 use Rattle.text_numerals.specs.Numeral.{Numeral, numberValue, cappedValue}
-use Rattle.text_words.proofs.Numbers.{capped-range}
+use Rattle.text_numbers.proofs.Numbers.{capped-range}
 use Rattle.text_syntax.specs.Token as S
 use Rattle.text_syntax.specs.Kind as K
 use Rattle.text_syntax.specs.Kind.{Kind, kind}
@@ -28,15 +28,17 @@ use Rattle.text_syntax.specs.Printed.{printedChain}
 use Rattle.text_syntax.proofs.TokenKinds.{tokenOf, token-kind}
 use Rattle.text_syntax.proofs.Readers.{all-formed}
 use Rattle.text_syntax.proofs.Chains.{ChainSpelled, chain-all, chain-own}
-use Rattle.text_lexer.specs.Lexeme.{tokenCode, firstCode, NumberFirst, Lexed}
-use Rattle.text_lexer.specs.declared.token.Lexeme.{Lexeme}
-use Rattle.text_lexer.specs.declared.token.Token.the-variants.{Number}
-use Rattle.text_terms.specs.declared.term.TermParts.{TermParts}
+use Rattle.text_words.specs.Tokens.{tokenCode}
+use Rattle.text_lexer.specs.Lexeme.{firstCode, NumberFirst, Lexed}
+use Rattle.text_lexer.specs.declared.lexer.Lexeme.{Lexeme}
+use Rattle.text_words.specs.declared.token.Token.the-variants.{Number}
+use Rattle.text_codes.specs.declared.code.TermParts.{TermParts}
 use Rattle.text_terms.specs.declared.chains.ChainRead.{ChainRead}
 use Rattle.text_terms.specs.declared.chains.ChainRead.the-variants.{Chain, NoForm}
-use Rattle.text_terms.specs.Place.{tokensFrom, Behind, Passing}
+use Rattle.text_places.specs.Place.{tokensFrom, Behind, Passing}
 use Rattle.text_terms.specs.Chain.{Opens, NoChain, ChainFormed, ChainAt}
-use Rattle.text_terms.specs.Term.{chainParts, numberParts, chainTerm, kindOf, numberOf, packedOf, partsOf, ChainTerm, ChainPartsAt, TermFormed, NoTerm}
+use Rattle.text_terms.specs.Term.{chainParts, numberParts, chainTerm, ChainTerm, ChainPartsAt, TermFormed, NoTerm}
+use Rattle.text_codes.specs.Coded.{kindOf, numberOf, packedOf, partsOf}
 
 -- the parts of a chain and of a number
 chain-parts : (s : Sizes) (ls : List ℕ) (b : Bool) → b ≡ isReferenceTerm (chain ls) → chainParts (summary s ls) b ≡ partsOf s (chain ls)

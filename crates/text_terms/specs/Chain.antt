@@ -18,7 +18,7 @@ use Rattle.text_terms.specs.declared.chains.Link.{Link}
 use Rattle.text_terms.specs.declared.chains.Link.the-variants.{Own, Letter, Nothing as NoLink}
 use Rattle.text_terms.specs.declared.chains.ChainRead.{ChainRead}
 use Rattle.text_terms.specs.declared.chains.ChainRead.the-variants.{Chain, NoForm}
-use Rattle.text_terms.specs.Place.{tokensFrom, Behind, Passing, Absent}
+use Rattle.text_places.specs.Place.{tokensFrom, Behind, Passing, Absent}
 
 -- a letter and `[`
 pub record Opens (due : Bool) (line : List ℕ) (at l end : ℕ) : Type 0 where

@@ -1,4 +1,3 @@
 -- What the readers of chains and terms answer.
-pub mod Place
 pub mod Chain
 pub mod Term

@@ -4,25 +4,20 @@ use mathlib.Core.Path.{_≡_}
 use mathlib.Core.Bool.{Bool, true, false, not}
 use mathlib.Core.List.{List}
 use lib.IntN.{ℤ, pos}
-use lib.ListN.{take}
 use Rattle.register.specs.declared.Sizes.{Sizes}
-use Rattle.integers.specs.Range.{sumOf}
 use Rattle.integers.specs.declared.Sum.{Sum}
 use Rattle.integers.specs.declared.Sum.the-variants.{InRange, OutOfRange}
-use Rattle.chain.specs.Word.{pack}
-use Rattle.chain_text.specs.Text.{wordOf}
 use Rattle.chain_text.specs.declared.letters.Letters.{Letters}
-use Rattle.text_numerals.specs.Numeral.{numberValue}
 use Rattle.text_syntax.specs.Form.{formed, unformed}
 use Rattle.text_syntax.specs.Written.{Term, chain, number}
 use Rattle.text_syntax.specs.Grammar.{chainForm, termForm}
-use Rattle.text_syntax.specs.Parts.{termNamed, termKinded, isReferenceTerm, termShort, termInRange}
 use Rattle.text_terms.specs.declared.chains.ChainRead.{ChainRead}
 use Rattle.text_terms.specs.declared.chains.ChainRead.the-variants.{Chain, NoForm}
-use Rattle.text_terms.specs.declared.term.TermParts.{TermParts}
+use Rattle.text_codes.specs.declared.code.TermParts.{TermParts}
+use Rattle.text_codes.specs.Coded.{partsOf}
 use Rattle.text_terms.specs.declared.term.TermRead.{TermRead}
 use Rattle.text_terms.specs.declared.term.TermRead.the-variants.{Parts, NoForm as NoTermRead}
-use Rattle.text_terms.specs.Place.{tokensFrom, Behind}
+use Rattle.text_places.specs.Place.{tokensFrom, Behind}
 use Rattle.text_terms.specs.Chain.{NoChain}
 
 -- a chain's code by what is known of its letters, and whether it is a reference
@@ -50,36 +45,6 @@ numberParts OutOfRange = plainParts (pos 0) false
 abbrev pub chainTerm : ChainRead → Bool → TermRead
 chainTerm NoForm reference = NoTermRead
 chainTerm (Chain x end) reference = Parts (chainParts x reference) end
-
--- the code of a term: of a chain with more than 16 hops the first 16, and 0 for a number that is out of range
-unfoldable pub kindOf : Term → ℕ
-kindOf (chain ls) = 0
-kindOf (number negative x) = 1
-
-abbrev pub heldNumber : Sum → ℤ
-heldNumber (InRange z) = z
-heldNumber OutOfRange = pos 0
-
-unfoldable pub numberOf : Term → ℤ
-numberOf (chain ls) = pos 0
-numberOf (number negative x) = heldNumber (sumOf (numberValue negative x))
-
-unfoldable pub packedOf : Term → ℕ
-packedOf (chain ls) = pack (wordOf (take 16 ls))
-packedOf (number negative x) = 0
-
--- and what 9 to 12 ask of it
-unfoldable pub partsOf : Sizes → Term → TermParts
-partsOf s x = record {
-  kind = kindOf x;
-  number = numberOf x;
-  packed = packedOf x;
-  named = termNamed s x;
-  kinded = termKinded x;
-  reference = isReferenceTerm x;
-  short = termShort x;
-  ranged = termInRange x;
-}
 
 -- a chain stands at a place where an operand is due or not, or none
 pub record ChainTerm (s : Sizes) (due : Bool) (line : List ℕ) (at : ℕ) (p : TermParts) (end : ℕ) : Type 0 where

@@ -4,13 +4,13 @@ ghost use Prim.Native.Nat.{_+_, _-_, _*_, _^_, _≤_};
 ghost use lib.ListN.{length};
 ghost use Rattle.register.specs.Shape.{Limits};
 ghost use Rattle.text_terms.specs.Chain.{LinkAt, ChainAt, ClosesAt, EndsInside, ClosedBy};
-use crate::place;
 use chain_text::letters;
 use chain_text::letters::Letters;
 use register::Sizes;
 use text_lexer::lexer;
-use text_lexer::token::Token;
+use text_places::place;
 use text_words::token::Place;
+use text_words::token::Token;
 
 // What a chain begins with: `u`, or a letter and `[`, and the place behind; or no chain stands there.
 pub enum Link {
@@ -27,7 +27,7 @@ pub fn first_link(line: &[u8], at: usize, due: bool) -> Link
     let token = read.token;
     match token {
         Token::Own => Link::Own(read.end),
-        Token::Letter(letter) => match place::open_square(line, read.end) {
+        Token::Letter(letter) => match place::mark(line, read.end, false, place::OPEN_SQUARE) {
             Place::At(end) => Link::Letter(letter, end),
             Place::Nothing => Link::Nothing,
         },
@@ -49,7 +49,7 @@ fn closes(line: &[u8], at: usize, n: usize) -> Place
     let mut i = at;
     let mut left = n;
     while left != 0 {
-        let Place::At(end) = place::close_square(line, i) else {
+        let Place::At(end) = place::mark(line, i, false, place::CLOSE_SQUARE) else {
             return Place::Nothing;
         };
         i = end;
@@ -94,7 +94,7 @@ pub fn closed(line: &[u8], inner: ChainRead) -> ChainRead
     let ChainRead::Chain(letters, at) = inner else {
         return ChainRead::NoForm;
     };
-    match place::close_square(line, at) {
+    match place::mark(line, at, false, place::CLOSE_SQUARE) {
         Place::At(end) => ChainRead::Chain(letters, end),
         Place::Nothing => ChainRead::NoForm,
     }

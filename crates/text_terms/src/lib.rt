@@ -1,4 +1,3 @@
 // The chains and numbers of a line, read token by token.
 pub mod chains;
-pub mod place;
 pub mod term;

@@ -14,21 +14,9 @@ use chain_text::letters;
 use chain_text::letters::Letters;
 use integers::Sum;
 use register::Sizes;
+use text_codes::code::TermParts;
 use text_lexer::lexer;
-use text_lexer::token::Token;
-
-// A term as a code of its kind (0 a chain, packed; 1 a number), and what 9 to 12 ask of it: that capitals name fields, that
-// the chain goes over references, whether it is one, that it has at most 16 hops, that the number is in range.
-pub struct TermParts {
-    pub kind: u8,
-    pub number: i32,
-    pub packed: u64,
-    pub named: bool,
-    pub kinded: bool,
-    pub reference: bool,
-    pub short: bool,
-    pub ranged: bool,
-}
+use text_words::token::Token;
 
 // A term and the place behind it; or no term stands there.
 pub enum TermRead {

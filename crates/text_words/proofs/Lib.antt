@@ -1,3 +1,3 @@
--- Laws of words and numbers, for the proofs here and in the crates above.
+-- Laws of words, for the proofs here and in the crates above.
 pub mod Words
-pub mod Numbers
+pub mod Tables

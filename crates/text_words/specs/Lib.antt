@@ -1,2 +1,2 @@
--- What the readers of words and numbers answer.
+-- What the readers of words answer.
 pub mod Tokens

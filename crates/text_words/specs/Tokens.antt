@@ -1,39 +1,52 @@
--- What the readers of words and numbers answer for the text from a place on.
+-- Tokens as the code has them, and what the readers of words answer for the text from a place on.
 use Prim.Native.Nat.{ℕ, _+_}
-use mathlib.Core.Path.{_≡_}
 use mathlib.Core.Bool.{cond}
 use mathlib.Core.List.{List}
 use lib.ListN.{length}
-use Rattle.text_numerals.specs.Numeral.{digits, decimal, printedNumeral, centimetres, numeral, capped, NumberForm, number, unformed, printedNumber, cappedValue}
+use Rattle.text_numerals.specs.Numeral.{cappedValue}
 use Rattle.text_numerals.specs.Word.{opensWith}
 use Rattle.text_words.specs.declared.token.Place.{Place}
 use Rattle.text_words.specs.declared.token.Place.the-variants.{At, Nothing}
-use Rattle.text_words.specs.declared.numeral.Digits.{Digits}
-use Rattle.text_words.specs.declared.numeral.Figures.{Figures}
-use Rattle.text_words.specs.declared.numeral.NumberRead.{NumberRead}
-use Rattle.text_words.specs.declared.numeral.NumberRead.the-variants.{Number, NoForm}
+use Rattle.text_syntax.specs.Token as S
+use Rattle.text_syntax.specs.Token.{stepWord, endWord, doneWord, loopWord, ifWord, remoteWord, own, letter, number, becomes, colon, write, operator, comparison, openSquare, closeSquare, openRound, closeRound, unknown}
+use Rattle.text_syntax.specs.Lexing.{spelled, First, first, none}
+use Rattle.text_words.specs.declared.token.Token.{Token}
+use Rattle.text_words.specs.declared.token.Token.the-variants.{Step, End, Done, Loop, If, Remote, Own, Letter, Number, Becomes, Colon, Write, Operator, Compared, OpenSquare, CloseSquare, OpenRound, CloseRound, Unknown}
+use Rattle.text_words.specs.declared.token.SizedToken.{SizedToken}
 
 -- the place behind a word that stands at `at`
 unfoldable pub literalRead : ℕ → List ℕ → List ℕ → Place
 literalRead at w t = cond (opensWith w t) (At (at + length w)) Nothing
 
--- the digits that a text t begins with, read from `at` on behind a number n
-pub record ReadsDigits (at n : ℕ) (t : List ℕ) (d : Digits) : Type 0 where
-  pub value-is : d .value ≡ capped (decimal n (digits t))
-  pub end-is : d .end ≡ at + length (digits t)
+-- a token as the code has it
+unfoldable pub tokenCode : S.Token → Token
+tokenCode stepWord = Step
+tokenCode endWord = End
+tokenCode doneWord = Done
+tokenCode loopWord = Loop
+tokenCode ifWord = If
+tokenCode remoteWord = Remote
+tokenCode own = Own
+tokenCode (letter l) = Letter l
+tokenCode (number negative x) = Number (cappedValue negative x)
+tokenCode becomes = Becomes
+tokenCode colon = Colon
+tokenCode (write k) = Write k
+tokenCode (operator s) = Operator s
+tokenCode (comparison c) = Compared c
+tokenCode openSquare = OpenSquare
+tokenCode closeSquare = CloseSquare
+tokenCode openRound = OpenRound
+tokenCode closeRound = CloseRound
+tokenCode unknown = Unknown
 
--- the numeral that a text t begins with, read from `at` on
-pub record ReadsNumeral (at : ℕ) (t : List ℕ) (d : Figures) : Type 0 where
-  pub value-is : d .value ≡ capped (centimetres (numeral t))
-  pub point-is : d .point ≡ at + length (digits t)
-  pub end-is : d .end ≡ at + length (printedNumeral (numeral t))
+-- a token and the number of its bytes
+abbrev pub sizedToken : Token → ℕ → SizedToken
+sizedToken k n = record { token = k; size = n }
 
--- the answer for a number whose digits stand from `at` on
-unfoldable pub digitsRead : ℕ → NumberForm → NumberRead
-digitsRead at unformed = NoForm
-digitsRead at (number negative x rest) = Number (cappedValue negative x) (at + length (printedNumeral x))
+abbrev pub noToken : SizedToken
+noToken = sizedToken Unknown 0
 
--- the answer for a number whose text stands from `at` on
-unfoldable pub numberRead : ℕ → NumberForm → NumberRead
-numberRead at unformed = NoForm
-numberRead at (number negative x rest) = Number (cappedValue negative x) (at + length (printedNumber negative x))
+unfoldable pub sizedFirst : First → SizedToken
+sizedFirst none = noToken
+sizedFirst (first k r) = sizedToken (tokenCode k) (length (spelled k))

@@ -1,3 +1,3 @@
-// The words and numbers of a line, read from a place of it on.
-pub mod numeral;
+// Tokens, and the words of a line, read from a place of it on.
 pub mod token;
+pub mod word;

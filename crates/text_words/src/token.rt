@@ -1,9 +1,43 @@
-// Words of a line, which stand exactly as document 01 shows them.
+// Tokens as the readers answer them, and words, which stand exactly as document 01 shows them.
 ghost use mathlib.Core.Path.{_≡_};
 ghost use Prim.Native.Nat.{_≤_};
 ghost use lib.ListN.{length, drop};
 ghost use Rattle.text_words.specs.Tokens.{literalRead};
 use chain_text::text;
+use program::rule::Comparison;
+use program::rule::Operator;
+use program::rule::Sort;
+
+// A word; `u`; a capital; a number, capped as its digits are; `:=`, `:`; `<?=` or `+=`; an operator; `<`, `==` or `!=`;
+// brackets; what is no token; and the end of the line.
+pub enum Token {
+    Step,
+    End,
+    Done,
+    Loop,
+    If,
+    Remote,
+    Own,
+    Letter(u8),
+    Number(i64),
+    Becomes,
+    Colon,
+    Write(Sort),
+    Operator(Operator),
+    Compared(Comparison),
+    OpenSquare,
+    CloseSquare,
+    OpenRound,
+    CloseRound,
+    Unknown,
+    LineEnd,
+}
+
+// A token and the number of its bytes, 0 where none stands.
+pub struct SizedToken {
+    pub token: Token,
+    pub size: usize,
+}
 
 // The place behind a word; or the word does not stand there.
 pub enum Place {

@@ -6,8 +6,8 @@ use mathlib.Core.List.{[]}
 use borrow.Author.Needs.{needs}
 use denote.Ref.{now}
 use Rattle.laws.specs.Outcome.{done, unless}
-use Rattle.register.specs.Load.{outcomeOf}
-use Rattle.register.proofs.Loading.{unless-refusal}
+use Rattle.register_load.specs.Answer.{outcomeOf}
+use Rattle.register_check.proofs.Numbers.{unless-refusal}
 use Rattle.op_path.proofs.Outcomes.{answers-same, path-refused, path-loaded}
 use Rattle.op_path.proofs.reading_path.Statement.{statement}
 use Rattle.op_path.proofs.reading_path.Tie as tie

@@ -3,7 +3,7 @@
 use mathlib.Core.Path.{sym, ap, _∙_}
 use borrow.Author.Needs.{needs}
 use denote.Ref.{now}
-use Rattle.register.specs.Load.{outcomeOf}
+use Rattle.register_load.specs.Answer.{outcomeOf}
 use Rattle.op_read.specs.Reading.{readingOutcome}
 use Rattle.op_read.proofs.Outcomes.{reading-refused, reading-loaded}
 use Rattle.op_read.proofs.reading.Statement.{statement}

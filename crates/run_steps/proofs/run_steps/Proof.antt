@@ -19,9 +19,9 @@ use Rattle.step_cells.specs.declared.stop.Stop.{Stop}
 use Rattle.step_cells.specs.declared.stop.Stop.the-variants.{Nowhere}
 use Rattle.step_cells.proofs.Working.{same-then}
 use Rattle.step_rules.specs.Ready.{AllPlain}
-use Rattle.step_rules.proofs.Locals.{plain-ready, plain-at}
+use Rattle.step_rules.proofs.Locals.{plain-at}
 use Rattle.run_steps.proofs.Loops.{nearer, Taken, RulesDone, RecordsDone, rules-first, rules-next, records-first, records-next, left-behind}
-use Rattle.run_steps.proofs.Loops.{rules-as, left-within}
+use Rattle.run_steps.proofs.Loops.{left-within}
 use Rattle.run_steps.proofs.Standing.{lines-end, scratch-behind, Stands, stands-start, stands-complete, stands-exhausted}
 use Rattle.run_steps.proofs.Arrays.{noFrame}
 use Rattle.run_steps.proofs.Turn.{Held, held-anew, held-still, plain-more, Turn, base, limits, out-whole, out-length, at-step, few-steps, few-rules, setting-passes}
@@ -93,9 +93,6 @@ Top = Of tie.At-loop
 abbrev entryOfTop : Top → Entry
 entryOfTop c = entry (c .before .before .before .before)
 
-abbrev spent : Of tie.After-ended → Top
-spent c = c .before .before .before
-
 -- a turn of it: the budget is not spent
 abbrev Turning : Type 0
 Turning = Of tie.Else1
@@ -147,21 +144,18 @@ records c = c .before .before .before
 abbrev holdingOfRuling : Ruling → Holding
 holdingOfRuling c = holdingOfGathered (gathered (records c))
 
-abbrev plainRuling : Of tie.After-apply-plain-arg3 → Ruling
-plainRuling c = c .before .before .before .before
+abbrev ruling : Of tie.After-apply-arg3 → Ruling
+ruling c = c .before .before .before
 
-abbrev ruling : Of tie.After-apply-rule-arg3 → Ruling
-ruling c = c .before .before .before .before
-
--- it is done
+-- it is done, and its sum is in range
 abbrev Ruled : Type 0
-Ruled = Of tie.Joined3
+Ruled = Of tie.After-enum-told2
 
-abbrev ruled : Of tie.After-enum-told2 → Ruled
-ruled c = c .before .before
+abbrev ruled : Ruled → Of tie.After-apply
+ruled c = c .before .before .before .before .before
 
-abbrev rulingOfRuled : Of tie.After-enum-told2 → Ruling
-rulingOfRuled c = ruled c .before
+abbrev rulingOfRuled : Ruled → Ruling
+rulingOfRuled c = ruling (ruled c .before .before)
 
 -- the loops over records and rules are left
 abbrev Left : Type 0
@@ -173,22 +167,22 @@ gatheredOfLeft c = gathered (c .before)
 abbrev holdingOfLeft : Left → Holding
 holdingOfLeft c = holdingOfGathered (gatheredOfLeft c)
 
-abbrev left : Of tie.After-out-of-range → Left
-left c = c .before .before .before .before
+abbrev left : Of tie.After-answer → Left
+left c = c .before .before .before
 
 -- no local sum is out of range
 abbrev Local : Type 0
-Local = Of tie.After-enum-told3
+Local = Of tie.After-enum-told4
 
 abbrev leftOfLocal : Local → Left
 leftOfLocal c = c .before .before
 
-abbrev local : Of tie.After-apply-arg3 → Local
+abbrev local : Of tie.After-apply-arg7 → Local
 local c = c .before .before .before .before
 
 -- the remote writes are done, where there are any
 abbrev Joined : Type 0
-Joined = Of tie.Joined4
+Joined = Of tie.Joined3
 
 abbrev gatheredOfJoined : Joined → Gathered
 gatheredOfJoined c = gatheredOfLeft (leftOfLocal (c .before))
@@ -199,12 +193,12 @@ holdingOfJoined c = holdingOfLeft (leftOfLocal (c .before))
 abbrev joined : Of tie.After-commit-arg3 → Joined
 joined c = c .before .before .before .before
 
-abbrev stopped : Of tie.After-out-of-range2 → Of tie.After-commit
-stopped c = c .before .before .before .before .before .before
+abbrev stopped : Of tie.After-answer2 → Of tie.After-commit
+stopped c = c .before .before .before .before .before
 
 -- no total is out of range
 abbrev Through : Type 0
-Through = Of tie.After-enum-told4
+Through = Of tie.After-enum-told6
 
 abbrev committed : Through → Of tie.After-commit
 committed c = c .before .before .before .before
@@ -243,27 +237,6 @@ unfolding programOf
 loop-holds c =
     let e = entry (c .before .before .before) in
     (stands-start (e .pre .0) (e .pre .4) (scratch-behind (e .pre .1)) (e .pre .3) (e .pre .2 .steps-are), refl, refl, refl, λ h. absurd (omega arith))
-
--- The budget is spent.
-
-ended-requires : Of tie.Need-ended-requires
-ended-requires c κs = tt
-
-same-length : Of tie.Need-same-length
-same-length c = let t = spent c in t .loop .inv .0 .register .whole ∙ sym (entryOfTop t .pre .0 .whole)
-
-same-length-2 : Of tie.Need-same-length-2
-same-length-2 c = spent c .loop .inv .2
-
-same-length-3 : Of tie.Need-same-length-3
-same-length-3 c = spent c .loop .inv .3
-
-returns : Of tie.Need-returns
-unfolding programOf
-returns c =
-    let more = c .before .before in
-    let t = spent c in
-    rw (c .ended .ensures) (stands-exhausted (t .loop .inv .0) (omega (arith, more .loop-test .taken, entryOfTop t .pre .2 .steps-are)) (c .before .if1 .taken))
 
 -- A turn of the loop: the frame of the step.
 
@@ -311,36 +284,30 @@ array-copy-out-frame-2 c = omega (arith, few-steps (anew (c .before)))
 loop2-holds : Of tie.Need-loop2-holds
 loop2-holds c = let s = c .before .before in (taken-first (anew s) _ (top s .loop .inv .1), λ e. tt)
 
+mul-rule : Of tie.Need-mul-rule
+mul-rule c = record { fits = omega (arith, few-steps (anew (turning (c .before)))) }
+
+add-rule : Of tie.Need-add-rule
+add-rule c = let t = anew (turning (c .before)) in record { fits = omega (arith, few-steps t, few-rules t, c .loop2-test .taken) }
+
+mul-rule-2 : Of tie.Need-mul-rule-2
+mul-rule-2 c = let t = anew (turning (c .before)) in record { fits = omega (arith, few-steps t, few-rules t, c .loop2-test .taken) }
+
+array-copy-out-rule : Of tie.Need-array-copy-out-rule
+array-copy-out-rule c = let t = anew (turning (c .before)) in omega (arith, few-steps t, few-rules t, c .loop2-test .taken)
+
 mul-rules : Of tie.Need-mul-rules
-mul-rules c = record { fits = omega (arith, few-steps (anew (turning (c .before)))) }
-
-add-rules : Of tie.Need-add-rules
-add-rules c = let t = anew (turning (c .before)) in record { fits = omega (arith, few-steps t, few-rules t, c .loop2-test .taken) }
-
-mul-rules-2 : Of tie.Need-mul-rules-2
-mul-rules-2 c = let t = anew (turning (c .before)) in record { fits = omega (arith, few-steps t, few-rules t, c .loop2-test .taken) }
-
-array-copy-out-rules-2 : Of tie.Need-array-copy-out-rules-2
-array-copy-out-rules-2 c = let t = anew (turning (c .before)) in omega (arith, few-steps t, few-rules t, c .loop2-test .taken)
-
-mul-rules-3 : Of tie.Need-mul-rules-3
-mul-rules-3 c = let t = anew (turning (c .before .before)) in record { fits = omega (arith, few-rules t, c .before .loop2-test .taken) }
+mul-rules c = let t = anew (turning (c .before .before)) in record { fits = omega (arith, few-rules t, c .before .loop2-test .taken) }
 
 array-set-from-rules : Of tie.Need-array-set-from-rules
 array-set-from-rules c = let t = anew (turning (c .before .before)) in omega (arith, few-rules t, c .before .loop2-test .taken)
-
-mul-stay-plain : Of tie.Need-mul-stay-plain
-mul-stay-plain c = let t = anew (turning (c .before .before)) in record { fits = omega (arith, few-rules t, c .before .loop2-test .taken) }
-
-array-copy-out-stay-plain : Of tie.Need-array-copy-out-stay-plain
-array-copy-out-stay-plain c = let t = anew (turning (c .before .before)) in omega (arith, few-rules t, c .before .loop2-test .taken)
 
 stay-plain-requires : Of tie.Need-stay-plain-requires
 stay-plain-requires c κs = search needs
 
 -- a rule is being taken out
 abbrev takingOut : Of tie.After-stay-plain → Of tie.In-loop2
-takingOut c = c .before .before .before
+takingOut c = c .before .before
 
 add-k : Of tie.Need-add-k
 add-k c =
@@ -356,7 +323,7 @@ loop2-again c =
     let l = i .before in
     let t = anew (turning l) in
     let inside : l .loop2 .k < length (l .loop2 .rules) = omega (arith, few-rules t, l .loop2 .inv .0 .length-is, i .loop2-test .taken) in
-    (taken-more t (l .loop2 .inv .0) (i .loop2-test .taken) _, plain-more _ _ _ _ inside (c .stay-plain .ensures) (l .loop2 .inv .1))
+    (taken-more t (l .loop2 .inv .0) (i .loop2-test .taken) _, plain-more _ _ _ inside (c .stay-plain .ensures) (l .loop2 .inv .1))
 
 -- What is held is of this step: it was taken anew, or is held from the step before, which was the same.
 module _ (c : Holding) where
@@ -422,38 +389,23 @@ loop3-holds c = rules-first (c .before .records .inv .nowhere)
 at-hand : (r : Ruling) → r .before .loop3 .k < 32
 at-hand r = omega (arith, few-rules (turn (holdingOfRuling r)), r .loop3-test .taken)
 
-mul-apply-plain : Of tie.Need-mul-apply-plain
-mul-apply-plain c = record { fits = omega (arith, at-hand (plainRuling c)) }
+mul-apply : Of tie.Need-mul-apply
+mul-apply c = record { fits = omega (arith, at-hand (ruling c)) }
 
-array-copy-out-apply-plain : Of tie.Need-array-copy-out-apply-plain
-array-copy-out-apply-plain c = omega (arith, at-hand (plainRuling c))
+array-copy-out-apply : Of tie.Need-array-copy-out-apply
+array-copy-out-apply c = omega (arith, at-hand (ruling c))
 
-apply-plain-requires : Of tie.Need-apply-plain-requires
-apply-plain-requires c κs =
-    let t = c .before .before .before .before in
-    let r = t .before in
-    let g = gathered (records r) in
-    let h = holdingOfRuling r in
-    let same = same-then (records r .records .inv .same) (r .before .loop3 .inv .done .same) in
-    let inside : r .before .loop3 .k < length (h .if2 .rules) = omega (arith, at-hand r, held h .rules-are .length-is) in
-    let plain = plain-at (codesKept [] [] []) _ _ _ inside (r .loop3-test .taken) (held h .plain-are) (t .if3 .taken) in (
-      (limits (turn h), out-whole (turn h), r .before .before .records-test .taken, room-still (prepared g) same),
-      plain-ready plain (rule-ready (prepared g) same _ _ (r .loop3-test .taken)),
-    )
-
-mul-apply-rule : Of tie.Need-mul-apply-rule
-mul-apply-rule c = record { fits = omega (arith, at-hand (ruling c)) }
-
-array-copy-out-apply-rule : Of tie.Need-array-copy-out-apply-rule
-array-copy-out-apply-rule c = omega (arith, at-hand (ruling c))
-
-apply-rule-requires : Of tie.Need-apply-rule-requires
-apply-rule-requires c κs =
+apply-requires : Of tie.Need-apply-requires
+apply-requires c κs =
     let r = ruling (c .before) in
     let g = gathered (records r) in
-    let t = turn (holdingOfRuling r) in
+    let h = holdingOfRuling r in
+    let t = turn h in
     let same = same-then (records r .records .inv .same) (r .before .loop3 .inv .done .same) in
-    ((limits t, out-whole t, r .before .before .records-test .taken, room-still (prepared g) same), rule-ready (prepared g) same _ _ (r .loop3-test .taken))
+    let inside : r .before .loop3 .k < length (h .if2 .rules) = omega (arith, at-hand r, held h .rules-are .length-is) in (
+      (limits t, out-whole t, r .before .before .records-test .taken, room-still (prepared g) same),
+      (rule-ready (prepared g) same _ _ (r .loop3-test .taken), plain-at (codesKept [] [] []) _ _ _ inside (r .loop3-test .taken) (held h .plain-are)),
+    )
 
 enum-told : Of tie.Need-enum-told
 enum-told c = search needs
@@ -472,14 +424,8 @@ loop3-less c = nearer (rulingOfRuled c .loop3-test .taken)
 loop3-again : Of tie.Need-loop3-again
 loop3-again c =
     let r = rulingOfRuled c in
-    let inv = r .before .loop3 .inv in
-    let more = r .loop3-test .taken in
-    let fit = rules-fit (prepared (gathered (records r))) in
-    let nowhere = c .enum-told2 .given .1 in
-    ⊎-elim
-    (λ w. rules-as (rules-next inv more fit (sym (w .11) ∙ nowhere) _ (w .5 .ensures _) (omega arith)) (w .9) (w .10) (w .11))
-    (λ w. rules-as (rules-next inv more fit (sym (w .11) ∙ nowhere) _ (w .5 .ensures) (omega arith)) (w .9) (w .10) (w .11))
-    (ruled c .if3 .came)
+    rules-next (r .before .loop3 .inv) (r .loop3-test .taken) (rules-fit (prepared (gathered (records r)))) (c .enum-told2 .given .1) _
+    (ruled c .apply .ensures) (omega arith)
 
 add-u : Of tie.Need-add-u
 add-u c =
@@ -503,60 +449,55 @@ applied c stop =
     ⊎-elim
     (λ w. left-behind i stop (w .0 .left) (w .1) (w .2) (w .3))
     (λ w.
-    ⊎-elim
-    (λ v.
-    left-within i stop (w .0 .taken) (w .1 .inv) (w .2 .taken) (rules-fit b) (sym (v .11) ∙ w .5 .given .1) (w .6 ∙ v .9) (w .7 ∙ v .10) (w .8 ∙ v .11) _
-    (v .5 .ensures _))
-    (λ v.
-    left-within i stop (w .0 .taken) (w .1 .inv) (w .2 .taken) (rules-fit b) (sym (v .11) ∙ w .5 .given .1) (w .6 ∙ v .9) (w .7 ∙ v .10) (w .8 ∙ v .11) _
-    (v .5 .ensures))
-    (w .3 .came))
+    left-within i stop (w .0 .taken) (w .1 .inv) (w .2 .taken) (rules-fit b) (w .12 .given .1) (w .13) (w .14) (w .15) _ (w .7 .ensures))
     (c .records-test .came)
-
-enum-known-stop : Of tie.Need-enum-known-stop
-enum-known-stop c = search needs
-
--- A local sum is out of range.
-
-out-of-range-requires : Of tie.Need-out-of-range-requires
-out-of-range-requires c κs = tt
-
-same-length-4 : Of tie.Need-same-length-4
-same-length-4 c = out-length (turn (holdingOfLeft (left c)))
-
-same-length-5 : Of tie.Need-same-length-5
-same-length-5 c = values-still (gatheredOfLeft (left c)) (applied (left c) (c .before .before .stop .given .1) .0)
-
-same-length-6 : Of tie.Need-same-length-6
-same-length-6 c = marks-still (gatheredOfLeft (left c)) (applied (left c) (c .before .before .stop .given .1) .0)
-
-returns-2 : Of tie.Need-returns-2
-returns-2 c = rw (c .out-of-range .ensures) (ends-local (prepared (gatheredOfLeft (left c))) (applied (left c) (c .before .before .stop .given .1)))
 
 enum-told-3 : Of tie.Need-enum-told-3
 enum-told-3 c = search needs
+
+-- A local sum is out of range.
+
+answer-requires : Of tie.Need-answer-requires
+answer-requires c κs = tt
+
+same-length : Of tie.Need-same-length
+same-length c = out-length (turn (holdingOfLeft (left c)))
+
+same-length-2 : Of tie.Need-same-length-2
+same-length-2 c = values-still (gatheredOfLeft (left c)) (applied (left c) (c .before .enum-told3 .given .1) .0)
+
+same-length-3 : Of tie.Need-same-length-3
+same-length-3 c = marks-still (gatheredOfLeft (left c)) (applied (left c) (c .before .enum-told3 .given .1) .0)
+
+returns : Of tie.Need-returns
+returns c =
+    let stop = c .before .enum-told3 .given .1 in
+    rw (rw stop at (c .answer .ensures)) (ends-local (prepared (gatheredOfLeft (left c))) (applied (left c) stop))
+
+enum-told-4 : Of tie.Need-enum-told-4
+enum-told-4 c = search needs
 
 -- The remote writes, where there are any.
 
 -- the local ones are done
 locals : (c : Local) → Applied (prepared (gatheredOfLeft (leftOfLocal c))) (leftOfLocal c .records-test .values) (leftOfLocal c .records-test .marks) Nowhere
-locals c = applied (leftOfLocal c) (c .enum-told3 .given .1)
+locals c = applied (leftOfLocal c) (c .enum-told4 .given .1)
 
-apply-requires : Of tie.Need-apply-requires
-apply-requires c κs =
+apply-requires-2 : Of tie.Need-apply-requires-2
+apply-requires-2 c κs =
     let t = turn (holdingOfLeft (leftOfLocal (local c))) in
     let b = prepared (gatheredOfLeft (leftOfLocal (local c))) in
     let l = locals (local c) in
     ((limits t, out-whole t, room-still b (l .0), few-rules t, b .taken .length-is), ((ready-still b (l .0), l .1 .in-range), (small-still b (l .0) (l .1), held (holdingOfLeft (leftOfLocal (local c))) .plain-are)))
 
 -- all rules are done, remote ones too: `w` has what is known behind the call, or that there are none
-done : (c : Joined) → Done (prepared (gatheredOfJoined c)) (c .if4 .values) (c .if4 .marks) (c .if4 .sent)
+done : (c : Joined) → Done (prepared (gatheredOfJoined c)) (c .if3 .values) (c .if3 .marks) (c .if3 .sent)
 done c =
     let l = locals (c .before) in
     ⊎-elim
     (λ w. done-remote l (w .4 .ensures) (w .8) (w .9) (w .10))
     (λ w. done-local l (w .0 .left) (w .1) (w .2) (w .3))
-    (c .if4 .came)
+    (c .if3 .came)
 
 -- The cells are committed to the file.
 
@@ -566,36 +507,37 @@ commit-requires c κs =
     let t = turn (holdingOfJoined j) in
     (limits t, out-whole t, room-still (prepared (gatheredOfJoined j)) (done j .same), after-proper (done j))
 
-enum-known-total : Of tie.Need-enum-known-total
-enum-known-total c = search needs
+enum-told-5 : Of tie.Need-enum-told-5
+enum-told-5 c = search needs
 
 -- A total is out of range.
 
-out-of-range-requires-2 : Of tie.Need-out-of-range-requires-2
-out-of-range-requires-2 c κs = tt
+answer-requires-2 : Of tie.Need-answer-requires-2
+answer-requires-2 c κs = tt
 
-same-length-7 : Of tie.Need-same-length-7
-same-length-7 c = stopped c .commit .kept .0 ∙ out-length (turn (holdingOfJoined (joined (stopped c .before))))
+same-length-4 : Of tie.Need-same-length-4
+same-length-4 c = stopped c .commit .kept .0 ∙ out-length (turn (holdingOfJoined (joined (stopped c .before))))
 
-same-length-8 : Of tie.Need-same-length-8
-same-length-8 c = let j = joined (stopped c .before) in values-still (gatheredOfJoined j) (done j .same)
+same-length-5 : Of tie.Need-same-length-5
+same-length-5 c = let j = joined (stopped c .before) in values-still (gatheredOfJoined j) (done j .same)
 
-same-length-9 : Of tie.Need-same-length-9
-same-length-9 c = let j = joined (stopped c .before) in marks-still (gatheredOfJoined j) (done j .same)
+same-length-6 : Of tie.Need-same-length-6
+same-length-6 c = let j = joined (stopped c .before) in marks-still (gatheredOfJoined j) (done j .same)
 
-returns-3 : Of tie.Need-returns-3
-returns-3 c =
-    rw (c .out-of-range2 .ensures) (ends-total (done (joined (stopped c .before))) (stopped c .commit .ensures) (c .before .before .total .given .1))
+returns-2 : Of tie.Need-returns-2
+returns-2 c =
+    let stop = c .before .enum-told5 .given .1 in
+    rw (rw stop at (c .answer2 .ensures)) (ends-total (done (joined (stopped c .before))) (stopped c .commit .ensures) stop)
 
-enum-told-4 : Of tie.Need-enum-told-4
-enum-told-4 c = search needs
+enum-told-6 : Of tie.Need-enum-told-6
+enum-told-6 c = search needs
 
 -- The step went through: it is counted, and the next one found.
 
 -- the file holds the cells behind the step
 stepped : (c : Through) → Went (prepared (gatheredOfJoined (joinedOfThrough c))) (committed c .commit .last .0)
-    (joinedOfThrough c .if4 .values) (joinedOfThrough c .if4 .marks) (joinedOfThrough c .if4 .sent)
-stepped c = went (done (joinedOfThrough c)) (committed c .commit .ensures) (c .enum-told4 .given .1) (committed c .commit .kept .0)
+    (joinedOfThrough c .if3 .values) (joinedOfThrough c .if3 .marks) (joinedOfThrough c .if3 .sent)
+stepped c = went (done (joinedOfThrough c)) (committed c .commit .ensures) (c .enum-told6 .given .1) (committed c .commit .kept .0)
 
 count-requires : Of tie.Need-count-requires
 count-requires c κs = counts-small (stepped c) (entryHere (holdingOfThrough c) .fits .budget .fits)
@@ -628,36 +570,40 @@ loop-again c =
       λ l. rw (held-step h) (held h),
     )
 
--- No step is left.
+-- No step is left, or the budget is spent.
 
-ended-requires-2 : Of tie.Need-ended-requires-2
-ended-requires-2 c κs = tt
+answer-requires-3 : Of tie.Need-answer-requires-3
+answer-requires-3 c κs = tt
 
-same-length-10 : Of tie.Need-same-length-10
-same-length-10 c = let t = c .before .before in t .loop .inv .0 .register .whole ∙ sym (entryOfTop t .pre .0 .whole)
+abbrev ended : Of tie.After-answer3 → Top
+ended c = c .before .before
 
-same-length-11 : Of tie.Need-same-length-11
-same-length-11 c = c .before .before .loop .inv .2
+same-length-7 : Of tie.Need-same-length-7
+same-length-7 c = let t = ended c in t .loop .inv .0 .register .whole ∙ sym (entryOfTop t .pre .0 .whole)
 
-same-length-12 : Of tie.Need-same-length-12
-same-length-12 c = c .before .before .loop .inv .3
+same-length-8 : Of tie.Need-same-length-8
+same-length-8 c = ended c .loop .inv .2
 
-returns-4 : Of tie.Need-returns-4
+same-length-9 : Of tie.Need-same-length-9
+same-length-9 c = ended c .loop .inv .3
+
+returns-3 : Of tie.Need-returns-3
 unfolding programOf
-returns-4 c =
-    let t = c .before .before in
-    rw (c .ended2 .ensures) (stands-complete (t .loop .inv .0) (omega (arith, c .before .loop-test .left, entryOfTop t .pre .2 .steps-are)))
+returns-3 c =
+    let t = ended c in
+    let steps = entryOfTop t .pre .2 .steps-are in
+    ⊎-elim
+    (λ w. rw (c .answer3 .ensures .1 (w .left)) (stands-complete (t .loop .inv .0) (omega (arith, w .left, steps))))
+    (λ w. rw (c .answer3 .ensures .0 (w .0 .taken)) (stands-exhausted (t .loop .inv .0) (omega (arith, w .0 .taken, steps)) (w .1 .taken)))
+    (c .before .loop-test .came)
 
 pub run-steps-spec : {M : Type 1} → statement M
 run-steps-spec =
     tie.close
     (tie.spec
     Inv-loop2 μ-loop2 Inv-loop3 μ-loop3 Inv-records μ-records Inv-loop μ-loop mul-at add-base array-copy-out-rules array-copy-out-frame loop-holds
-    ended-requires same-length same-length-2 same-length-3 returns mul-frame array-copy-out-frame-2 loop2-holds mul-rules add-rules
-    mul-rules-2 array-copy-out-rules-2 mul-rules-3 array-set-from-rules mul-stay-plain array-copy-out-stay-plain stay-plain-requires add-k loop2-less loop2-again enter-requires
-    gather-requires records-holds loop3-holds mul-apply-plain array-copy-out-apply-plain
-    apply-plain-requires mul-apply-rule array-copy-out-apply-rule apply-rule-requires enum-told enum-told-2
-    add-k-2 loop3-less loop3-again add-u records-less records-again enum-known-stop out-of-range-requires same-length-4
-    same-length-5 same-length-6 returns-2 enum-told-3 apply-requires commit-requires enum-known-total out-of-range-requires-2
-    same-length-7 same-length-8 same-length-9 returns-3 enum-told-4 count-requires add-finished next-requires loop-less loop-again
-    ended-requires-2 same-length-10 same-length-11 same-length-12 returns-4)
+    mul-frame array-copy-out-frame-2 loop2-holds mul-rule add-rule mul-rule-2 array-copy-out-rule mul-rules array-set-from-rules stay-plain-requires
+    add-k loop2-less loop2-again enter-requires gather-requires records-holds loop3-holds mul-apply array-copy-out-apply apply-requires enum-told
+    enum-told-2 add-k-2 loop3-less loop3-again add-u records-less records-again enum-told-3 answer-requires same-length same-length-2 same-length-3
+    returns enum-told-4 apply-requires-2 commit-requires enum-told-5 answer-requires-2 same-length-4 same-length-5 same-length-6 returns-2 enum-told-6
+    count-requires add-finished next-requires loop-less loop-again answer-requires-3 same-length-7 same-length-8 same-length-9 returns-3)

@@ -11,8 +11,9 @@ use Rattle.register.specs.declared.Sizes.{Sizes}
 use Rattle.laws.specs.Outcome.{refused}
 use Rattle.program.specs.Code.{Codes, codesKept}
 use Rattle.text_rules.specs.Text.{advance}
-use Rattle.text_plan.specs.Readings.{addedOf}
+use Rattle.text_growth.specs.Growth.{addedOf}
 use Rattle.text_state.specs.State.{advanceOf}
+use Rattle.text_judge.specs.Judged.{partsOf}
 use Rattle.text_reader.specs.Answers.{CodeArrays}
 use Rattle.text_reader.proofs.Arms.{Behind}
 use Rattle.text_reader.proofs.Reading.{Read, Passes, passes, stopped, small, room, again, arm-step, arm-loop, arm-none, arm-end-steps, arm-end, arm-done-steps, arm-done, arm-steps, arm-rules, arm-short, arm-inside, arm-rule, answer-refused, answer-read, begun}
@@ -29,18 +30,15 @@ abbrev μ-loop : tie.MeasureT-loop
 μ-loop text sizes keys₀ rounds₀ backs₀ reads₀ count₀ full₀ wanted₀ kinds₀ numbers₀ chains₀ places₀ refusal₀ line₀ slots₀ frames₀ state₀ codes₀ at₀ keys rounds backs reads count full wanted kinds numbers chains places refusal line slots frames state codes at =
     length text - at
 
--- a line that has passed: the loop's state, the entry, where its end is found and where it is read
+-- a line that has passed: the loop's state, the entry, and where it is read and judged
 abbrev so-far : (c : tie.Else1 Inv-loop μ-loop) → tie.At-loop Inv-loop μ-loop
-so-far c = c .before .before .before .before .before .before .before .before .before .before .before .before .before .before
+so-far c = c .before .before .before .before .before .before .before .before .before .before .before .before
 
 abbrev entry : (c : tie.Else1 Inv-loop μ-loop) → tie.Start Inv-loop μ-loop
 entry c = so-far c .before .before .before .before .before .before .before .before
 
-abbrev line-at : (c : tie.Else1 Inv-loop μ-loop) → tie.After-line-end Inv-loop μ-loop
-line-at c = c .before .before .before .before .before .before .before .before .before .before .before .before
-
-abbrev read-at : (c : tie.Else1 Inv-loop μ-loop) → tie.After-read-first Inv-loop μ-loop
-read-at c = c .before .before .before .before .before .before .before .before
+abbrev read-at : (c : tie.Else1 Inv-loop μ-loop) → tie.After-next-line Inv-loop μ-loop
+read-at c = c .before .before .before .before .before .before .before
 
 abbrev sizes : (c : tie.Else1 Inv-loop μ-loop) → Sizes
 sizes c = entry c .args .sizes
@@ -49,13 +47,15 @@ limits : (c : tie.Else1 Inv-loop μ-loop) → Limits (sizes c)
 limits c = entry c .pre .0
 
 -- the arrays behind it
-abbrev behind : (c : tie.After-read-first Inv-loop μ-loop) → Codes
-behind c = let l = c .read-first .last in codesKept (l .1 .1 .1 .1 .0) (l .1 .1 .1 .1 .1 .0) (l .1 .1 .1 .1 .1 .1 .0)
+abbrev behind : (c : tie.After-next-line Inv-loop μ-loop) → Codes
+behind c = let l = c .next-line .last in codesKept (l .1 .1 .1 .1 .0) (l .1 .1 .1 .1 .1 .0) (l .1 .1 .1 .1 .1 .1 .0)
 
-passed : (c : tie.Else1 Inv-loop μ-loop) → Passes (sizes c) (so-far c .loop .inv .0) (behind (read-at c)) (read-at c .read-first .result)
+passed : (c : tie.Else1 Inv-loop μ-loop) → Passes (sizes c) (so-far c .loop .inv .0) (behind (read-at c)) (partsOf (read-at c .next-line .result))
 passed c =
-    passes (sizes c) (so-far c .loop .inv .0) (read-at c .read-first .result) (line-at c .line-end .ensures)
-    (line-at c .before .loop-test .taken) (read-at c .read-first .ensures) (sym (c .before .before .refusal .ensures) ∙ c .if1 .left)
+    let r = read-at c in
+    let n = r .next-line in
+    passes (sizes c) (so-far c .loop .inv .0) (partsOf (n .result)) (n .ensures .end-is) (r .before .before .before .before .loop-test .taken) (n .ensures .read)
+    (sym (n .ensures .refusal-is) ∙ c .if1 .left)
 
 -- a rule's line, from where its readings are planned
 abbrev rule-line : (c : tie.After-plan-rule-arg10 Inv-loop μ-loop) → tie.After-read Inv-loop μ-loop
@@ -86,7 +86,7 @@ done-below c = small (so-far (c .before .before .before) .loop .inv .0) .0
 joined : (c : tie.At-match-came Inv-loop μ-loop)
     → let d = c .before .before in
     let m = c .match in
-    let r = read-at d .read-first .result in
+    let r = read-at d .next-line .result in
     Behind (behind (read-at d)) (m .places) (r .codes) (m .slots) (m .frames)
     (addedOf (m .keys) (m .rounds) (m .backs) (m .reads) (m .count) (m .full)) (m .wanted)
     (advanceOf (so-far d .loop .state) (so-far d .loop .count) (r .line)) (advance (so-far d .loop .inv .0 .state) (passed d .form))
@@ -104,18 +104,18 @@ joined c =
     (c .match .came)
 
 -- and the line is still what was read
-read-same : (c : tie.At-match-came Inv-loop μ-loop) → c .match .read ≡ read-at (c .before .before) .read-first .result .line
+read-same : (c : tie.At-match-came Inv-loop μ-loop) → c .match .read ≡ read-at (c .before .before) .next-line .result .line
 read-same c =
     ⊎-elim (λ w. w .27 ∙ sym (w .1 .given .1))
     (⊎-elim (λ w. w .19) (⊎-elim (λ w. w .14) (⊎-elim (λ w. w .12) (⊎-elim (λ w. w .12) (λ w. w .12)))))
     (c .match .came)
 
 -- the lent arrays are as long as they were, behind the line and where the arms meet
-lent-read : (c : tie.After-read-first Inv-loop μ-loop) → let b = behind c in
-    CodeArrays (b .kinds) (b .numbers) (b .chains) (c .before .before .before .before .before .before .loop .places)
+lent-read : (c : tie.After-next-line Inv-loop μ-loop) → let b = behind c in
+    CodeArrays (b .kinds) (b .numbers) (b .chains) (c .before .before .before .before .before .loop .places)
 lent-read c =
-    let l = c .before .before .before .before .before .before .loop .inv .0 .lent in
-    let e = c .read-first .kept in
+    let l = c .before .before .before .before .before .loop .inv .0 .lent in
+    let e = c .next-line .kept in
     record {
       kinds-length = e .1 .1 .1 .1 .0 ∙ l .kinds-length;
       numbers-length = e .1 .1 .1 .1 .1 .0 ∙ l .numbers-length;
@@ -147,10 +147,10 @@ lent-left c =
       chains-length = ap length (w .3) ∙ l .chains-length;
       places-length = l .places-length;
     })
-    (λ w. let e = w .5 .kept in record {
-      kinds-length = ap length (w .14) ∙ e .1 .1 .1 .1 .0 ∙ l .kinds-length;
-      numbers-length = ap length (w .15) ∙ e .1 .1 .1 .1 .1 .0 ∙ l .numbers-length;
-      chains-length = ap length (w .16) ∙ e .1 .1 .1 .1 .1 .1 .0 ∙ l .chains-length;
+    (λ w. let e = w .4 .kept in record {
+      kinds-length = ap length (w .12) ∙ e .1 .1 .1 .1 .0 ∙ l .kinds-length;
+      numbers-length = ap length (w .13) ∙ e .1 .1 .1 .1 .1 .0 ∙ l .numbers-length;
+      chains-length = ap length (w .14) ∙ e .1 .1 .1 .1 .1 .1 .0 ∙ l .chains-length;
       places-length = l .places-length;
     })
     (c .loop-test .came)
@@ -169,17 +169,12 @@ loop-holds c =
     let p = c .before .before .before .before .before .before .before .pre in
     (rw (p .7) (begun _ _ (p .3, p .2) (p .4) (p .5) (c .before .before .empty-slot .ensures) refl (c .start .ensures)), p .6)
 
-line-end-requires : tie.Need-line-end-requires Inv-loop μ-loop
-line-end-requires c κs = c .before .loop .inv .0 .within
-
-read-first-requires : tie.Need-read-first-requires Inv-loop μ-loop
-read-first-requires c κs =
-    let p = c .before .before .before .before .before .before .before .before .before .before .before .before .before .pre in
-    let q = c .before .before .before .before .before .loop .inv .0 in
-    (p .0, c .before .before .before .before .loop-test .taken, c .before .before .before .line-end .ensures, q .few-codes, room q (p .1))
-
-refusal-requires : tie.Need-refusal-requires Inv-loop μ-loop
-refusal-requires c κs = tt
+next-line-requires : tie.Need-next-line-requires Inv-loop μ-loop
+next-line-requires c κs =
+    let i = c .before .before .before in
+    let q = i .before .loop .inv .0 in
+    let p = i .before .before .before .before .before .before .before .before .before .pre in
+    (p .0, i .loop-test .taken, q .few-codes, room q (p .1))
 
 enum-known-read : tie.Need-enum-known-read Inv-loop μ-loop
 enum-known-read c = search needs
@@ -257,20 +252,21 @@ advance-requires : tie.Need-advance-requires Inv-loop μ-loop
 advance-requires c κs = small (so-far (c .before .before) .loop .inv .0)
 
 add-at : tie.Need-add-at Inv-loop μ-loop
-add-at c = let d = c .before .before .before in record { fits = omega (arith, passed d .inside, line-at d .line-end .ensures, entry d .pre .1) }
+add-at c = let d = c .before .before .before .before in record { fits = omega (arith, passed d .inside, read-at d .next-line .ensures .end-is, entry d .pre .1) }
 
 add-line : tie.Need-add-line Inv-loop μ-loop
-add-line c = let d = c .before .before .before .before in let q = so-far d .loop .inv .0 in record { fits = omega (arith, q .few, q .within, entry d .pre .1) }
+add-line c = let d = c .before .before .before .before .before in let q = so-far d .loop .inv .0 in record { fits = omega (arith, q .few, q .within, entry d .pre .1) }
 
 loop-less : tie.Need-loop-less Inv-loop μ-loop
-loop-less c = let d = c .before .before .before .before in omega (arith, passed d .inside, line-at d .line-end .ensures)
+loop-less c = let d = c .before .before .before .before .before in omega (arith, passed d .inside, read-at d .next-line .ensures .end-is)
 
 loop-again : tie.Need-loop-again Inv-loop μ-loop
 loop-again c =
-    let m = c .before .before in
+    let a = c .before .before in
+    let m = a .before in
     let d = m .before .before in
-    let state = c .before .advance .ensures ∙ ap (advanceOf (so-far d .loop .state) (so-far d .loop .count)) (read-same m) in
-    (again (limits d) (passed d) state (line-at d .line-end .ensures) (lent-joined m) (joined m), d .if1 .left)
+    let state = a .advance .ensures ∙ ap (advanceOf (so-far d .loop .state) (so-far d .loop .count)) (read-same m) in
+    (again (limits d) (passed d) state (read-at d .next-line .ensures .end-is) (lent-joined m) (joined m), d .if1 .left)
 
 refusal-or-last-requires : tie.Need-refusal-or-last-requires Inv-loop μ-loop
 refusal-or-last-requires c κs = tt
@@ -299,10 +295,11 @@ returns c =
     (λ w.
     rw (c .refusal-or-last .ensures, w .1, w .2, w .3, w .4, l .loop .inv .1, or-none 0 _ refl) (answer-read (l .loop .inv .0) (s .pre .1) (w .0 .left)))
     (λ w.
-    let stop = stopped (s .args .sizes) (l .loop .inv .0) (w .5 .result) (w .1 .ensures) (w .0 .taken) (w .5 .ensures)
-    (λ z. w .13 .taken (w .11 .ensures ∙ z)) in
-    rw (c .refusal-or-last .ensures, w .17, or-first _ _ (w .13 .taken))
-    (answer-refused (w .11 .result) _ _ (w .13 .taken) (stop ∙ ap (λ (n : ℕ). refused n _) (sym (w .11 .ensures)))))
+    let n = w .4 in
+    let stop = stopped (s .args .sizes) (l .loop .inv .0) (partsOf (n .result)) (n .ensures .end-is) (w .0 .taken) (n .ensures .read)
+    (λ z. w .11 .taken (n .ensures .refusal-is ∙ z)) in
+    rw (c .refusal-or-last .ensures, w .15, or-first _ _ (w .11 .taken))
+    (answer-refused (n .result .refusal) _ _ (w .11 .taken) (stop ∙ ap (λ (m : ℕ). refused m _) (sym (n .ensures .refusal-is)))))
     (c .before .before .loop-test .came)
 
 pub read-program-spec : {M : Type 1} → statement M
@@ -315,9 +312,7 @@ read-program-spec =
     empty-frame-requires
     start-requires
     loop-holds
-    line-end-requires
-    read-first-requires
-    refusal-requires
+    next-line-requires
     enum-known-read
     plan-rule-requires
     place-requires

@@ -45,8 +45,9 @@ fn proving(folder: &Folder, says: &str) -> Said {
     for name in ["scripts", "bin"] {
         let _ = fs::create_dir(folder.at(name));
     }
-    let script = fs::read(root().join("scripts/proving")).expect("it is there");
-    folder.write("scripts/proving", script);
+    for name in ["scripts/proving", "scripts/temporary"] {
+        folder.write(name, fs::read(root().join(name)).expect("it is there"));
+    }
     folder.write("crates.txt", "# room\none:\ntwo: one io\nother: two\n");
     folder.write("bin/rt", format!("#!/bin/sh\n{says}\n"));
     fs::set_permissions(folder.at("bin/rt"), PermissionsExt::from_mode(0o755)).expect("it is ours");

@@ -1,15 +1,19 @@
 -- `op_check::step::plan_step` meets its contract.
 -- Assumes nothing.
 use Prim.Native.Nat.{_≤_}
-use mathlib.Core.Path.{_≡_}
+use mathlib.Core.Path.{_≡_, sym, _∙_}
 use native.Mathlib.Omega.{arith}
+use borrow.Author.Tests.{leb-true, not-true, not-false}
 use denote.Ref.{now}
+use lib.Dec.{leb}
+use lib.ListN.{length}
+use Rattle.laws.proofs.Bools.{and-both}
 use Rattle.laws.specs.Outcome.{done}
 use Rattle.text_rules.specs.Text.{check}
 use Rattle.text_rules.proofs.Passing.{check-passes}
 use Rattle.program.specs.Kept.{programOf, Complete}
 use Rattle.op_check.specs.Checked.{Checks}
-use Rattle.op_check.proofs.Checks.{answered-refused, answered-program, plan-refused, step-zero, step-past, step-there}
+use Rattle.op_check.proofs.Checks.{answered-refused, answered-program, plan-refused, step-missing, step-there}
 use borrow.Author.Needs.{needs}
 use Rattle.op_check.proofs.step.plan_step.Statement.{statement}
 use Rattle.op_check.proofs.step.plan_step.Tie as tie
@@ -28,15 +32,22 @@ passed c = answered-program (answer c .answers) (c .if1 .left)
 complete : (c : tie.Else1) → Complete (answer c .codes) (answer c .places) (c .before .before .check .result .program)
 complete c = answer c .answers .complete (c .if1 .left)
 
-at-least : (c : tie.Else2) → 1 ≤ entry (c .before .before) .args .step
-at-least c = omega (arith, c .if2 .left)
+-- the step is there, one of at most 32
+module _ (c : tie.Else2) where
+  abbrev read : tie.Else1
+  read = c .before .before .before
 
--- the step is one of at most 32
-below : (c : tie.After-frames) → entry (c .before .before .before .before) .args .step ≤ 32
-below c =
-    let e = c .before .before .before .before in
-    let a = entry e .args in
-    omega (arith, check-passes (now (a .file)) (now (a .text)) _ (passed e) .2 .few, complete e .steps-are, c .before .if3 .left)
+  within : let k = entry read .args .step in (1 ≤ k) × (k ≤ length (programOf (answer read .codes) (read .before .before .check .result .program)))
+  within =
+      let k = entry read .args .step in
+      let n = read .before .before .check .result .program .steps in
+      let (a, b) = and-both (leb 1 k) (leb k n) (sym (c .before .is-step .ensures) ∙ not-false _ (c .if2 .left)) in
+      (leb-true 1 k a, omega (arith, leb-true k n b, complete read .steps-are))
+
+  below : entry read .args .step ≤ 32
+  below =
+      let a = entry read .args in
+      omega (arith, within .1, check-passes (now (a .file)) (now (a .text)) _ (passed read) .2 .few)
 
 check-requires : tie.Need-check-requires
 check-requires c κs = search needs
@@ -50,40 +61,36 @@ returns c =
     let a = r .before .before .before .args in
     plan-refused (now (a .file)) (now (a .text)) (a .step) (answered-refused (r .check .ensures .answers) (c .before .if1 .taken)) (c .before .if1 .taken) (c .refused .ensures)
 
+is-step-requires : tie.Need-is-step-requires
+is-step-requires c κs = search needs
+
 refused-requires-2 : tie.Need-refused-requires-2
 refused-requires-2 c κs = search needs
 
 returns-2 : tie.Need-returns-2
 returns-2 c =
-    let e = c .before .before .before in
+    let i = c .before .before in
+    let e = i .before .before in
     let a = entry e .args in
-    step-zero (now (a .file)) (now (a .text)) (a .step) (passed e) (c .before .if2 .taken) (c .refused2 .ensures)
+    step-missing (now (a .file)) (now (a .text)) (a .step) (passed e)
+    (rw (← complete e .steps-are) (sym (i .is-step .ensures) ∙ not-true _ (c .before .if2 .taken))) (c .refused2 .ensures)
 
-refused-requires-3 : tie.Need-refused-requires-3
-refused-requires-3 c κs = search needs
+sub-frame : tie.Need-sub-frame
+sub-frame c = within (c .before) .0
+
+mul-frame : tie.Need-mul-frame
+mul-frame c = record { fits = omega (arith, below (c .before)) }
+
+array-copy-out-frame : tie.Need-array-copy-out-frame
+array-copy-out-frame c = omega (arith, below (c .before))
 
 returns-3 : tie.Need-returns-3
 returns-3 c =
-    let e = c .before .before .before .before in
-    let a = entry e .args in
-    step-past (now (a .file)) (now (a .text)) (a .step) (passed e) (omega (arith, complete e .steps-are, c .before .if3 .taken)) (c .refused3 .ensures)
-
-sub-frame : tie.Need-sub-frame
-sub-frame c = at-least (c .before .before)
-
-mul-frame : tie.Need-mul-frame
-mul-frame c = record { fits = omega (arith, below c) }
-
-array-copy-out-frame : tie.Need-array-copy-out-frame
-array-copy-out-frame c = omega (arith, below c)
-
-returns-4 : tie.Need-returns-4
-returns-4 c =
     let n = c .before .before .before in
-    let e = n .before .before .before in
+    let e = read n in
     let a = entry e .args in
     step-there (now (a .file)) (now (a .text)) (a .step) (passed e) (e .before .before .check .result .program .frames) _ (complete e .framed)
-    (at-least (n .before)) (omega (arith, complete e .steps-are, n .if3 .left)) (complete e .lines-are)
+    (within n .0) (within n .1) (complete e .lines-are)
 
 pub plan-step-spec : {M : Type 1} → statement M
 plan-step-spec =
@@ -92,11 +99,10 @@ plan-step-spec =
     check-requires
     refused-requires
     returns
+    is-step-requires
     refused-requires-2
     returns-2
-    refused-requires-3
-    returns-3
     sub-frame
     mul-frame
     array-copy-out-frame
-    returns-4)
+    returns-3)

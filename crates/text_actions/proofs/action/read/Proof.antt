@@ -7,10 +7,9 @@ use borrow.Author.Needs.{needs}
 use Rattle.text_syntax.specs.Token as S
 use Rattle.text_syntax.specs.Kind.{letterIn}
 use Rattle.text_syntax.proofs.TokenKinds.{letter-token}
-use Rattle.text_lexer.specs.Lexeme.{tokenCode}
+use Rattle.text_words.specs.Tokens.{tokenCode}
 use Rattle.text_lexer.proofs.Lexemes.{lexed}
-use Rattle.text_terms.proofs.Places.{told, passed, goes-on, absent, none-of, letter-capital}
-use Rattle.text_terms.proofs.ChainForms.{behind-behind}
+use Rattle.text_places.proofs.Places.{told, passed, goes-on, absent, none-of, letter-capital, behind-behind}
 use Rattle.text_actions.specs.Action.{actionForm, TargetAt}
 use Rattle.text_actions.proofs.Forms.{no-action, action-local, action-remote, action-none, target-then}
 use Rattle.text_actions.proofs.Actions.{roomy-later, action-from}

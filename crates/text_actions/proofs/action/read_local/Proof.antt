@@ -4,11 +4,9 @@ use mathlib.Core.Path.{sym, subst, _∙_}
 use native.Mathlib.Omega.{arith}
 use borrow.Author.Needs.{needs}
 use borrow.Author.Tests.{not-true, not-false}
-use Rattle.chain_text.specs.Text.{isReferenceLetter}
 use Rattle.chain_text.proofs.Steps.{capital-low}
-use Rattle.text_expressions.specs.Reading.{ExpressionAt}
-use Rattle.text_sides.specs.Word.{PassesAssigned}
-use Rattle.text_sides.proofs.Passing.{with-same}
+use Rattle.text_sides.specs.Expression.{ExpressionAt}
+use Rattle.text_places.specs.Word.{PassesAssigned}
 use Rattle.text_sides.proofs.Expressions.{codes-inside}
 use Rattle.text_actions.proofs.Forms.{no-action, whole-more, local-formed, local-none}
 use Rattle.text_actions.proofs.Actions.{roomy-later, local-read}
@@ -103,18 +101,12 @@ names-field-requires c κs =
     let i = k .before .before .before .before .before .before .before .before .before .before .before .before .before .before .before .before .before .before in
     (i .pre .0 .references≤, i .pre .0 .measures≤)
 
-same-requires : tie.Need-same-requires
-same-requires c κs = search needs
-
-of-expression-requires : tie.Need-of-expression-requires
-of-expression-requires c κs = search needs
-
-with-kinds-requires : tie.Need-with-kinds-requires
-with-kinds-requires c κs = search needs
+local-requires : tie.Need-local-requires
+local-requires c κs = search needs
 
 codes-behind-set-requires : tie.Need-codes-behind-set-requires
 codes-behind-set-requires c κs =
-    let k = c .before .before .before .before .before .before .before .before .before .before .before .before in
+    let k = c .before .before .before .before .before .before .before .before .before .before in
     let r = k .before .before .before .before .before .before .before in
     let i = r .before .before .before .before .before .before .before .before .before .before .before in
     let w = subst (ExpressionAt _ _ _ _ _ _) (k .seen .given .1) (r .read .ensures) in
@@ -122,7 +114,7 @@ codes-behind-set-requires c κs =
 
 same-length-7 : tie.Need-same-length-7
 same-length-7 c =
-    let k = c .before .before .before .before .before .before .before .before .before .before .before .before .before in
+    let k = c .before .before .before .before .before .before .before .before .before .before .before in
     k .before .before .before .before .before .before .before .read .kept .1 .1 .1 .0
 
 same-length-8 : tie.Need-same-length-8
@@ -132,20 +124,18 @@ same-length-9 : tie.Need-same-length-9
 same-length-9 c = search needs
 
 returns-4 : tie.Need-returns-4
-unfolding isReferenceLetter
 returns-4 c =
-    let k = c .before .before .before .before .before .before .before .before .before .before .before .before .before in
+    let k = c .before .before .before .before .before .before .before .before .before .before .before in
     let r = k .before .before .before .before .before .before .before in
     let s = r .before .before .before .before .before in
     let i = s .before .before .before .before .before .before in
     let v = subst (PassesAssigned _ _) (s .start .given .1) (s .before .before .assigned .ensures) in
     let w = subst (ExpressionAt _ _ _ _ _ _) (k .seen .given .1) (r .read .ensures) in
-    let n = c .before .before .before .before in
+    let n = c .before .before in
     let f = n .before .before .before .before .before in
     local-read (i .pre .0) _ v w (sym (f .before .before .ends .ensures) ∙ not-false _ (f .before .if1 .left))
-    (f .field-of .ensures) (c .before .before .before .before .before .set-in .ensures)
-    (c .before .with-kinds .ensures
-    ∙ with-same (c .before .before .of-expression .ensures) (n .names-field .ensures) (c .before .before .before .same .ensures))
+    (f .field-of .ensures) (c .before .before .before .set-in .ensures)
+    (n .names-field .ensures) (c .before .local .ensures)
     (c .codes-behind-set .ensures)
 
 pub read-local-spec : {M : Type 1} → statement M
@@ -171,9 +161,7 @@ read-local-spec =
     field-of-requires
     set-in-requires
     names-field-requires
-    same-requires
-    of-expression-requires
-    with-kinds-requires
+    local-requires
     codes-behind-set-requires
     same-length-7
     same-length-8

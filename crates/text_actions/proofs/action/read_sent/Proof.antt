@@ -1,14 +1,11 @@
 -- `text_actions::action::read_sent` meets its contract.
 -- Assumes nothing.
-use mathlib.Core.Path.{sym, ap, subst, _∙_}
-use mathlib.Core.Bool.{Bool, _&&_}
+use mathlib.Core.Path.{sym, subst, _∙_}
 use borrow.Author.Needs.{needs}
 use borrow.Author.Tests.{not-true, not-false}
-use Rattle.chain_text.specs.Text.{isReferenceLetter}
 use Rattle.chain_text.proofs.Steps.{capital-low}
-use Rattle.text_sides.specs.Word.{PassesWrite}
+use Rattle.text_places.specs.Word.{PassesWrite}
 use Rattle.text_sides.specs.Side.{SideAt}
-use Rattle.text_sides.proofs.Passing.{with-same, both-same}
 use Rattle.text_actions.proofs.Forms.{no-action, whole-more, not-sent, sent-formed, sent-none}
 use Rattle.text_actions.proofs.Actions.{roomy-later, sent-read}
 use Rattle.text_actions.proofs.action.read_sent.Statement.{statement}
@@ -92,52 +89,36 @@ names-field-requires c κs =
     let i = k .before .before .before .before .before .before .before .before .before .before .before .before .before .before .before .before .before .before in
     (i .pre .0 .references≤, i .pre .0 .measures≤)
 
-sent-kinds-requires : tie.Need-sent-kinds-requires
-sent-kinds-requires c κs = search needs
-
-of-target-requires : tie.Need-of-target-requires
-of-target-requires c κs = search needs
-
-of-expression-requires : tie.Need-of-expression-requires
-of-expression-requires c κs = search needs
-
-both-requires : tie.Need-both-requires
-both-requires c κs = search needs
-
-with-kinds-requires : tie.Need-with-kinds-requires
-with-kinds-requires c κs = search needs
+remote-requires : tie.Need-remote-requires
+remote-requires c κs = search needs
 
 same-length-7 : tie.Need-same-length-7
 same-length-7 c =
-    let k = c .before .before .before .before .before .before .before .before .before .before .before in
+    let k = c .before .before .before .before .before .before in
     k .before .before .before .before .before .before .before .read .kept .1 .1 .1 .0
 
 same-length-8 : tie.Need-same-length-8
 same-length-8 c =
-    let k = c .before .before .before .before .before .before .before .before .before .before .before in
+    let k = c .before .before .before .before .before .before in
     k .before .before .before .before .before .before .before .read .kept .1 .1 .1 .1 .0
 
 same-length-9 : tie.Need-same-length-9
 same-length-9 c =
-    let k = c .before .before .before .before .before .before .before .before .before .before .before in
+    let k = c .before .before .before .before .before .before in
     k .before .before .before .before .before .before .before .read .kept .1 .1 .1 .1 .1 .0
 
 returns-4 : tie.Need-returns-4
-unfolding isReferenceLetter
 returns-4 c chain e =
-    let k = c .before .before .before .before .before .before .before .before .before .before .before in
+    let k = c .before .before .before .before .before .before in
     let r = k .before .before .before .before .before .before .before in
     let s = r .before .before .before .before .before in
     let i = s .before .before .before .before .before .before in
     let v = subst (PassesWrite _ _) (s .sort .given .1) (s .before .before .write .ensures) in
     let w = subst (SideAt _ _ _ _ _ _) (k .seen .given .1) (r .read .ensures) in
-    let n = c .before .before .before .before .before .before in
+    let n = c .before in
     let f = n .before in
     sent-read (i .pre .0) _ chain _ e v w (sym (f .before .before .ends .ensures) ∙ not-false _ (f .before .if1 .left)) (f .field-of .ensures)
-    (c .with-kinds .ensures
-    ∙ with-same (c .before .both .ensures ∙ both-same (c .before .before .before .of-target .ensures) (c .before .before .of-expression .ensures))
-    (n .names-field .ensures)
-    (ap (λ (x : Bool). i .args .parts .reference && x) (c .before .before .before .before .before .sent-kinds .ensures)))
+    (n .names-field .ensures) (c .remote .ensures)
 
 pub read-sent-spec : {M : Type 1} → statement M
 read-sent-spec =
@@ -161,11 +142,7 @@ read-sent-spec =
     returns-3
     field-of-requires
     names-field-requires
-    sent-kinds-requires
-    of-target-requires
-    of-expression-requires
-    both-requires
-    with-kinds-requires
+    remote-requires
     same-length-7
     same-length-8
     same-length-9

@@ -10,12 +10,14 @@ use borrow.Fn.Kinds.{In}
 use borrow.Fn.PlainCycle.{Measures, is, falls, and}
 use lib.ListN.{length}
 use denote.Ref.{now}
+use Rattle.text_syntax.specs.Lexing.{operandBehind}
 use Rattle.program.specs.Code.{Codes, codesKept}
 use Rattle.text_syntax.specs.Token.{openRound}
 use Rattle.text_syntax.specs.Grammar.{expression, minimum, operand, minimumFrom, expressionFrom}
-use Rattle.text_terms.specs.Place.{Passing, Passes}
+use Rattle.text_places.proofs.place.mark.Reads as mark-reads
+use Rattle.text_places.specs.Place.{Passing, Passes}
 use Rattle.text_terms.specs.Term.{TermAt}
-use Rattle.text_expressions.specs.declared.join.Joining.the-variants.{Next}
+use Rattle.text_joins.specs.declared.Joining.the-variants.{Next}
 use Rattle.text_expressions.proofs.Joining.{sum-joins, smaller-joins, Joined, joined-start, joined-room, joined-ready, JoinedTo, joined-by, term-operand, group-none, group-full, group-closed, reading-inside}
 use Rattle.text_expressions.proofs.reader.read_expression.Reads as read-expression
 use Rattle.text_expressions.proofs.reader.read_expression.Kinds as read-expression-kinds
@@ -29,11 +31,10 @@ use Rattle.text_expressions.proofs.reader.+read_expression+read_group+r
 use Rattle.text_expressions.proofs.reader.read_operand.Reads as read-operand
 use Rattle.text_expressions.proofs.reader.read_operand.Kinds as read-operand-kinds
 use Rattle.text_expressions.proofs.reader.+read_expression+read_group+read_minimum+read_operand.Lts-read_operand as read-operand-lts
-use Rattle.text_expressions.proofs.code.put_term.Reads as put-term-reads
-use Rattle.text_expressions.proofs.join.joined.Reads as joined-reads
-use Rattle.text_terms.proofs.place.open_round.Reads as open-round-reads
-use Rattle.text_expressions.proofs.reader.close_group.Reads as close-group-reads
-use Rattle.text_expressions.proofs.summary.with_term.Reads as with-term-reads
+use Rattle.text_codes.proofs.code.put_term.Reads as put-term-reads
+use Rattle.text_joins.proofs.joined.Reads as joined-reads
+use Rattle.text_joins.proofs.close_group.Reads as close-group-reads
+use Rattle.text_codes.proofs.summary.with_term.Reads as with-term-reads
 use Rattle.text_terms.proofs.term.read_term.Reads as read-term-reads
 use Rattle.text_expressions.proofs.reader.+read_expression+read_group+read_minimum+read_operand.{statement}
 use Rattle.text_expressions.proofs.reader.+read_expression+read_group+read_minimum+read_operand.Tie.{close}
@@ -106,8 +107,8 @@ operand-calls t = (
 
 abbrev group-calls : ℕ → read-group-lts.Claims
 group-calls t = (
-  open-round-reads.Asked,
-  open-round-reads.Learnt,
+  mark-reads.Asked,
+  mark-reads.Learnt,
   read-expression-below t,
   read-expression.Post,
   close-group-reads.Asked,
@@ -403,8 +404,8 @@ module _ (t : ℕ) where
       (c .with-term .ensures) (c .before .before .before .before .before .before .put-term .ensures)
 
 module _ (t : ℕ) where
-  group-open-round-requires : read-group-lts.Need-open-round-requires (group-calls t) (read-group-at t) read-group.Post
-  group-open-round-requires c κs = c .before .before .before .pre .1 .0 .2
+  group-mark-requires : read-group-lts.Need-mark-requires (group-calls t) (read-group-at t) read-group.Post
+  group-mark-requires c κs = (c .before .before .before .pre .1 .0 .2, omega arith, omega arith)
 
   group-enum-known-inner : read-group-lts.Need-enum-known-inner (group-calls t) (read-group-at t) read-group.Post
   group-enum-known-inner c = search needs
@@ -413,14 +414,16 @@ module _ (t : ℕ) where
   group-enum-told c = search needs
 
   group-returns : read-group-lts.Need-returns (group-calls t) (read-group-at t) read-group.Post
+  unfolding operandBehind
   group-returns c = group-none (c .before .before .before .before .before .before .pre .1 .1 .1)
-      (subst (Passes true true openRound _ _) (c .enum-told .given .1) (c .before .before .open-round .ensures))
+      (subst (Passes true true openRound _ _) (c .enum-told .given .1) (c .before .before .mark .ensures))
 
   -- the group opens
   group-opens : (c : read-group-lts.After-known-told (group-calls t) (read-group-at t) read-group.Post) → let a =
       c .before .before .before .before .before .before .before .args in Passing true true openRound (now (a .line)) (a .at)
       (c .before .inner .given .0 .0)
-  group-opens c = subst (Passes true true openRound _ _) (c .before .inner .given .1) (c .before .before .before .open-round .ensures)
+  unfolding operandBehind
+  group-opens c = subst (Passes true true openRound _ _) (c .before .inner .given .1) (c .before .before .before .mark .ensures)
 
   group-returns-2 : read-group-lts.Need-returns-2 (group-calls t) (read-group-at t) read-group.Post
   group-returns-2 c = group-full _ (c .if1 .taken) (group-opens (c .before))
@@ -499,7 +502,7 @@ pub +read-expression+read-group+read-minimum+read-operand-spec : {M : Type 1} �
     (expression-same-length-3 t) (expression-returns t))
     (λ t.
     read-group-lts.spec (group-calls t) (read-group-at t) read-group.Post
-    (group-open-round-requires t) (group-enum-known-inner t) (group-enum-told t) (group-returns t) (group-returns-2 t) (group-sub-read-expression t)
+    (group-mark-requires t) (group-enum-known-inner t) (group-enum-told t) (group-returns t) (group-returns-2 t) (group-sub-read-expression t)
     (group-read-expression-requires t) (group-close-group-requires t) (group-same-length t) (group-same-length-2 t) (group-same-length-3 t)
     (group-returns-3 t))
     (λ t.

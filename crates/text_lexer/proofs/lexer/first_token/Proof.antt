@@ -3,8 +3,8 @@
 use mathlib.Core.Path.{sym, ap, _∙_}
 use borrow.Author.Needs.{needs}
 use Rattle.text_numerals.specs.Numeral.{isDigit}
-use Rattle.text_lexer.specs.Lexeme.{sizedFirst}
-use Rattle.text_lexer.proofs.Signs.{letter-first, number-first, table-first}
+use Rattle.text_words.specs.Tokens.{sizedFirst}
+use Rattle.text_lexer.proofs.Firsts.{letter-first, number-first, table-first}
 use Rattle.text_lexer.proofs.lexer.first_token.Statement.{statement}
 use Rattle.text_lexer.proofs.lexer.first_token.Tie as tie
 

@@ -6,9 +6,9 @@ use borrow.Author.Needs.{needs}
 use lib.IntN.{ℤ}
 use mir.Syntax.{w64}
 use mir.Facts.{toZ-ofZ}
-use Rattle.text_lexer.specs.Lexeme.{sizedToken}
-use Rattle.text_lexer.specs.declared.token.Token.the-variants.{Number}
-use Rattle.text_lexer.proofs.Signs.{number-none, number-some, number-onward}
+use Rattle.text_words.specs.Tokens.{sizedToken}
+use Rattle.text_words.specs.declared.token.Token.the-variants.{Number}
+use Rattle.text_lexer.proofs.Firsts.{number-none, number-some, number-onward}
 use Rattle.text_lexer.proofs.lexer.number_at.Statement.{statement}
 use Rattle.text_lexer.proofs.lexer.number_at.Tie as tie
 

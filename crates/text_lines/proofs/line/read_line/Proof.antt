@@ -12,11 +12,12 @@ use Rattle.text_syntax.specs.Lexing.{tokens}
 use Rattle.text_syntax.specs.Written.{step, end, done}
 use Rattle.text_syntax.specs.Grammar.{anyForm}
 use Rattle.text_syntax.proofs.Lines.{step-first, end-first, done-first, loop-first}
-use Rattle.text_lexer.specs.Lexeme.{tokenCode, Lexed}
+use Rattle.text_words.specs.Tokens.{tokenCode}
+use Rattle.text_lexer.specs.Lexeme.{Lexed}
 use Rattle.text_lexer.proofs.Lexemes.{lexed}
 use Rattle.text_rules.specs.declared.line.LineRead.the-variants.{Step, End, Done}
 use Rattle.text_rules.specs.LineRead.{step-line, end-line, done-line}
-use Rattle.text_terms.proofs.Places.{told, passed, goes-on, absent}
+use Rattle.text_places.proofs.Places.{told, passed, goes-on, absent}
 use Rattle.text_actions.proofs.Actions.{roomy-later}
 use Rattle.text_lines.proofs.Lines.{word-at, loop-at, if-line, rule-line-at}
 use Rattle.text_lines.proofs.line.read_line.Statement.{statement}

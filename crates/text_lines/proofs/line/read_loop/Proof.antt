@@ -3,7 +3,7 @@
 use mathlib.Core.Path.{subst}
 use borrow.Author.Needs.{needs}
 use Rattle.chain_text.proofs.Steps.{capital-low}
-use Rattle.text_sides.specs.Word.{PassesLetter}
+use Rattle.text_places.specs.Word.{PassesLetter}
 use Rattle.text_lines.proofs.Lines.{no-letter, loop-letter}
 use Rattle.text_lines.proofs.line.read_loop.Statement.{statement}
 use Rattle.text_lines.proofs.line.read_loop.Tie as tie

@@ -3,7 +3,7 @@
 use mathlib.Core.Path.{subst}
 use native.Mathlib.Omega.{arith}
 use borrow.Author.Needs.{needs}
-use Rattle.text_sides.specs.Word.{PassesComparison}
+use Rattle.text_places.specs.Word.{PassesComparison}
 use Rattle.text_sides.specs.Side.{SideAt}
 use Rattle.text_actions.proofs.Actions.{roomy-later}
 use Rattle.text_lines.proofs.Lines.{no-first, no-comparison, tested}

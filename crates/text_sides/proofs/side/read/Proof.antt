@@ -3,7 +3,7 @@
 use mathlib.Core.Path.{subst}
 use native.Mathlib.Omega.{arith}
 use borrow.Author.Needs.{needs}
-use Rattle.text_expressions.specs.Reading.{ExpressionAt}
+use Rattle.text_sides.specs.Expression.{ExpressionAt}
 use Rattle.text_sides.proofs.Expressions.{codes-inside, side-formed}
 use Rattle.text_sides.proofs.side.read.Statement.{statement}
 use Rattle.text_sides.proofs.side.read.Tie as tie

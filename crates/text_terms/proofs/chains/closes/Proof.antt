@@ -4,8 +4,9 @@ use mathlib.Core.Path.{subst}
 use mathlib.Core.Bool.{false}
 use native.Mathlib.Omega.{arith}
 use borrow.Author.Needs.{needs}
+use Rattle.text_syntax.specs.Lexing.{operandBehind}
 use Rattle.text_syntax.specs.Token.{closeSquare}
-use Rattle.text_terms.specs.Place.{Passes}
+use Rattle.text_places.specs.Place.{Passes}
 use Rattle.text_terms.proofs.ChainForms.{Closing, closing-start, closing-more, closing-none, closing-done}
 use Rattle.text_terms.proofs.chains.closes.Statement.{statement}
 use Rattle.text_terms.proofs.chains.closes.Tie as tie
@@ -20,8 +21,8 @@ abbrev μ-loop : tie.MeasureT-loop
 loop-holds : tie.Need-loop-holds Inv-loop μ-loop
 loop-holds c = closing-start _ (c .before .pre)
 
-close-square-requires : tie.Need-close-square-requires Inv-loop μ-loop
-close-square-requires c κs = c .before .loop .inv .inside
+mark-requires : tie.Need-mark-requires Inv-loop μ-loop
+mark-requires c κs = (c .before .loop .inv .inside, omega arith, omega arith)
 
 enum-known-end : tie.Need-enum-known-end Inv-loop μ-loop
 enum-known-end c = search needs
@@ -30,8 +31,9 @@ enum-told : tie.Need-enum-told Inv-loop μ-loop
 enum-told c = search needs
 
 returns : tie.Need-returns Inv-loop μ-loop
+unfolding operandBehind
 returns c = closing-none (c .before .before .before .before .loop .inv) (c .before .before .before .loop-test .taken)
-    (subst (Passes false false closeSquare _ _) (c .enum-told .given .1) (c .before .before .close-square .ensures))
+    (subst (Passes false false closeSquare _ _) (c .enum-told .given .1) (c .before .before .mark .ensures))
 
 sub-left : tie.Need-sub-left Inv-loop μ-loop
 sub-left c = omega (arith, c .before .before .before .before .loop-test .taken)
@@ -40,8 +42,9 @@ loop-less : tie.Need-loop-less Inv-loop μ-loop
 loop-less c = omega (arith, c .before .before .before .before .loop-test .taken)
 
 loop-again : tie.Need-loop-again Inv-loop μ-loop
+unfolding operandBehind
 loop-again c = closing-more (c .before .before .before .before .before .loop .inv) (c .before .before .before .before .loop-test .taken)
-    (subst (Passes false false closeSquare _ _) (c .before .end .given .1) (c .before .before .before .close-square .ensures))
+    (subst (Passes false false closeSquare _ _) (c .before .end .given .1) (c .before .before .before .mark .ensures))
 
 returns-2 : tie.Need-returns-2 Inv-loop μ-loop
 returns-2 c = closing-done (c .before .loop .inv) (c .loop-test .left)
@@ -53,7 +56,7 @@ closes-spec =
     Inv-loop
     μ-loop
     loop-holds
-    close-square-requires
+    mark-requires
     enum-known-end
     enum-told
     returns

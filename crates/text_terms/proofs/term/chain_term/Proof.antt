@@ -4,7 +4,7 @@ use mathlib.Core.Path.{sym, ap, _∙_}
 use borrow.Author.Needs.{needs}
 use Rattle.text_terms.specs.Term.{chainTerm}
 use Rattle.text_terms.specs.declared.chains.ChainRead.{ChainRead}
-use Rattle.text_terms.specs.declared.term.TermParts.{TermParts}
+use Rattle.text_codes.specs.declared.code.TermParts.{TermParts}
 use Rattle.text_terms.specs.declared.term.TermRead.the-variants.{Parts}
 use Rattle.text_terms.proofs.term.chain_term.Statement.{statement}
 use Rattle.text_terms.proofs.term.chain_term.Tie as tie

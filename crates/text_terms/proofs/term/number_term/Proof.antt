@@ -10,8 +10,8 @@ use Rattle.integers.specs.Range.{sumOf}
 use denote.Ref.{now}
 use Rattle.text_lexer.proofs.Lexemes.{lexed}
 use Rattle.text_terms.specs.Term.{numberParts, TermFormed}
-use Rattle.text_terms.specs.declared.term.TermParts.{TermParts}
-use Rattle.text_terms.proofs.Places.{told, passed, goes-on}
+use Rattle.text_codes.specs.declared.code.TermParts.{TermParts}
+use Rattle.text_places.proofs.Places.{told, passed, goes-on}
 use Rattle.text_terms.proofs.Terms.{number-formed, number-none}
 use Rattle.text_terms.proofs.term.number_term.Statement.{statement}
 use Rattle.text_terms.proofs.term.number_term.Tie as tie

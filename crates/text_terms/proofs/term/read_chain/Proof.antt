@@ -12,7 +12,7 @@ use Rattle.chain_text.proofs.Steps.{start}
 use Rattle.chain_text.proofs.Scanning.{step-small}
 use Rattle.text_terms.specs.Chain.{LinkAt, Opens, ChainAt}
 use Rattle.text_terms.specs.Term.{ChainTerm, ChainPartsAt}
-use Rattle.text_terms.specs.declared.term.TermParts.{TermParts}
+use Rattle.text_codes.specs.declared.code.TermParts.{TermParts}
 use Rattle.text_terms.proofs.ChainForms.{chain-closed, chain-inside}
 use Rattle.text_terms.proofs.Terms.{own-chain, letter-chain}
 use Rattle.text_terms.proofs.term.read_chain.Statement.{statement}

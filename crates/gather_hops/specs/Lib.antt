@@ -1,0 +1,2 @@
+-- The places of a plan line while its chain is followed.
+pub mod Hopped

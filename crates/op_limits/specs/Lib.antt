@@ -1,0 +1,2 @@
+-- What is asked of a text and its register before the text is read.
+pub mod Admitted

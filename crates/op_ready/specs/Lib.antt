@@ -1,0 +1,2 @@
+-- What a run asks of the caller's buffers.
+pub mod Ready

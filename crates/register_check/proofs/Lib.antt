@@ -1,0 +1,2 @@
+-- Laws for the proofs of the functions, here and in the crates above.
+pub mod Numbers

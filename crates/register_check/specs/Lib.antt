@@ -1,0 +1,3 @@
+-- Refusals of a register's cells.
+pub mod Number
+pub mod Fields

@@ -1,0 +1,2 @@
+-- What loading answers.
+pub mod Answer

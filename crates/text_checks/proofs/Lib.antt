@@ -1,0 +1,2 @@
+-- Laws of what is asked, for the crates above.
+pub mod Passing

@@ -1,0 +1,2 @@
+-- What is asked of tests and rules.
+pub mod Demands

@@ -1,0 +1,2 @@
+-- Laws of operators by their rank.
+pub mod Ranks

@@ -1,0 +1,2 @@
+-- What is answered behind an element of an expression.
+pub mod Join

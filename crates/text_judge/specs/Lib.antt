@@ -1,0 +1,2 @@
+-- What is told of the next line of a text.
+pub mod Judged

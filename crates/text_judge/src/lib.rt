@@ -1,0 +1,45 @@
+// The next line of a text, read and judged where the reader stands.
+ghost use Prim.Native.Nat.{_≤_, _<_};
+ghost use lib.ListN.{length};
+ghost use Rattle.register.specs.Shape.{Limits};
+ghost use Rattle.program.specs.Code.{codesKept};
+ghost use Rattle.text_next.specs.Front.{CodeRoom};
+ghost use Rattle.text_judge.specs.Judged.{Judged};
+use register::Sizes;
+use text_rules::line::LineRead;
+use text_state::state::State;
+
+// The refusal of a line, 0 where it passes; where it ends, how many codes there are behind it, and its reading.
+pub struct Next {
+    pub refusal: u32,
+    pub end: usize,
+    pub codes: usize,
+    pub line: LineRead,
+}
+
+// The line that begins at `at`. `full`: the plan of the open step needs more than 64 lines.
+pub fn next_line(
+    text: &[u8],
+    at: usize,
+    sizes: Sizes,
+    state: State,
+    kinds: &mut [u8],
+    numbers: &mut [i32],
+    chains: &mut [u64],
+    codes: usize,
+    full: bool,
+) -> Next
+    requires { ⌜ Limits sizes × (at < length (now text)) × (codes ≤ at) × CodeRoom (length (now text)) (codesKept (now kinds) (now numbers) (now chains)) ⌝ }
+    ensures { λ r. ⌜ Judged sizes (now (text .entry)) at state full (codesKept (now (kinds .entry)) (now (numbers .entry)) (now (chains .entry)))
+        (codesKept (now (kinds .exit)) (now (numbers .exit)) (now (chains .exit))) codes r ⌝ }
+{
+    let end = text_next::line_end(text, at);
+    let first = text_next::read_first(text, at, end, sizes, kinds, numbers, chains, codes);
+    let line = first.line;
+    Next {
+        refusal: text_refusals::refusal(state, full, line),
+        end,
+        codes: first.codes,
+        line,
+    }
+}

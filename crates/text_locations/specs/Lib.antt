@@ -1,0 +1,2 @@
+-- The lines of a plan that readings are found at.
+pub mod Listed

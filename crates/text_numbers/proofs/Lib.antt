@@ -1,0 +1,2 @@
+-- Laws of numbers, for the proofs here and in the crates above.
+pub mod Numbers

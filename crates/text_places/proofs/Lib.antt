@@ -1,0 +1,3 @@
+-- Laws of single tokens, for the crates above.
+pub mod Places
+pub mod Words

@@ -1,0 +1,3 @@
+-- What the readers of single tokens answer.
+pub mod Place
+pub mod Word

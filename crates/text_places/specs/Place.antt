@@ -1,0 +1,78 @@
+-- Places of a line, by the tokens from there on.
+use Prim.Native.Nat.{ℕ, _-_, _≤_, _<_}
+use mathlib.Core.Path.{_≡_}
+use mathlib.Core.Bool.{Bool, true, false}
+use mathlib.Core.List.{List, [], _∷_}
+use lib.ListN.{length, getD, drop}
+use Rattle.text_syntax.specs.Token.{Token, own, becomes, colon, operator, openSquare, closeSquare, openRound, closeRound, unknown}
+use Rattle.text_syntax.specs.Kind.{is, operatorIn}
+use Rattle.text_syntax.specs.Lexing.{tokensAt}
+use Rattle.text_syntax.specs.Form.{unformed, oneOf}
+use Rattle.text_words.specs.declared.token.Token.{Token as Code}
+use Rattle.text_words.specs.declared.token.Token.the-variants as C
+use Rattle.text_words.specs.declared.token.Place.{Place}
+use Rattle.text_words.specs.declared.token.Place.the-variants.{At, Nothing}
+use Rattle.text_places.specs.declared.place.OperatorRead.{OperatorRead}
+use Rattle.text_places.specs.declared.place.OperatorRead.the-variants.{Operator, Nothing as NoSign}
+
+-- the tokens of a line from a place on, where an operand is due or not
+abbrev pub tokensFrom : Bool → List ℕ → ℕ → List Token
+tokensFrom due line at = tokensAt due (drop at line)
+
+-- a place of the line behind another
+pub record Behind (line : List ℕ) (at end : ℕ) : Type 0 where
+  pub onward : at < end
+  pub inside : end ≤ length line
+
+-- whether a list begins with a token that stands for itself
+unfoldable pub begins : Token → List Token → Bool
+begins w [] = false
+begins w (t ∷ r) = is w t
+
+-- `u`, `:=`, `:` and brackets by their numbers, which are those of their kinds
+abbrev pub markToken : ℕ → Token
+markToken n = getD (own ∷ becomes ∷ colon ∷ openSquare ∷ closeSquare ∷ openRound ∷ closeRound ∷ []) (n - 7) unknown
+
+-- the number of such a token as the code has it, 0 for every other one
+unfoldable pub markNumber : Code → ℕ
+markNumber C.Step = 0
+markNumber C.End = 0
+markNumber C.Done = 0
+markNumber C.Loop = 0
+markNumber C.If = 0
+markNumber C.Remote = 0
+markNumber C.Own = 7
+markNumber (C.Letter l) = 0
+markNumber (C.Number v) = 0
+markNumber C.Becomes = 8
+markNumber C.Colon = 9
+markNumber (C.Write k) = 0
+markNumber (C.Operator o) = 0
+markNumber (C.Compared c) = 0
+markNumber C.OpenSquare = 10
+markNumber C.CloseSquare = 11
+markNumber C.OpenRound = 12
+markNumber C.CloseRound = 13
+markNumber C.Unknown = 0
+markNumber C.LineEnd = 0
+
+-- the token w stands at a place, where an operand is due or not, before another place
+pub record Passing (due then : Bool) (w : Token) (line : List ℕ) (at end : ℕ) : Type 0 where
+  pub text : tokensFrom due line at ≡ w ∷ tokensFrom then line end
+  pub behind : Behind line at end
+
+-- it does not stand there
+pub record Absent (due : Bool) (w : Token) (line : List ℕ) (at : ℕ) : Type 0 where
+  pub absent : begins w (tokensFrom due line at) ≡ false
+
+abbrev pub Passes : Bool → Bool → Token → List ℕ → ℕ → Place → Type 0
+Passes due then w line at (At end) = Passing due then w line at end
+Passes due then w line at Nothing = Absent due w line at
+
+-- no operator stands there
+pub record NoOperator (line : List ℕ) (at : ℕ) : Type 0 where
+  pub none : oneOf operatorIn (tokensFrom false line at) ≡ unformed
+
+abbrev pub PassesOperator : List ℕ → ℕ → OperatorRead → Type 0
+PassesOperator line at (Operator o end) = Passing false true (operator o) line at end
+PassesOperator line at NoSign = NoOperator line at

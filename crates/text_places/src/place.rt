@@ -1,0 +1,72 @@
+// Single tokens of a line, and the place behind them.
+ghost use mathlib.Core.Path.{_≡_};
+ghost use Prim.Native.Nat.{_≤_};
+ghost use lib.ListN.{length};
+ghost use Rattle.text_syntax.specs.Lexing.{operandBehind};
+ghost use Rattle.text_places.specs.Place.{markToken, markNumber, Passes, PassesOperator};
+use program::rule::Operator;
+use text_lexer::lexer;
+use text_words::token::Place;
+use text_words::token::Token;
+
+// The numbers of `u`, `:=`, `:` and brackets, tokens that stand for themselves.
+pub const OWN: u8 = 7;
+
+pub const BECOMES: u8 = 8;
+
+pub const COLON: u8 = 9;
+
+pub const OPEN_SQUARE: u8 = 10;
+
+pub const CLOSE_SQUARE: u8 = 11;
+
+pub const OPEN_ROUND: u8 = 12;
+
+pub const CLOSE_ROUND: u8 = 13;
+
+// The number of such a token, 0 for every other one.
+fn number_of(token: Token) -> u8
+    ensures { λ r. ⌜ r ≡ markNumber token ⌝ }
+{
+    match token {
+        Token::Own => OWN,
+        Token::Becomes => BECOMES,
+        Token::Colon => COLON,
+        Token::OpenSquare => OPEN_SQUARE,
+        Token::CloseSquare => CLOSE_SQUARE,
+        Token::OpenRound => OPEN_ROUND,
+        Token::CloseRound => CLOSE_ROUND,
+        _ => 0,
+    }
+}
+
+// The token of a number at `at`, where an operand is due or not.
+pub fn mark(line: &[u8], at: usize, due: bool, number: u8) -> Place
+    requires { ⌜ (at ≤ length (now line)) × (7 ≤ number) × (number ≤ 13) ⌝ }
+    ensures { λ r. ⌜ Passes due (operandBehind (markToken number)) (markToken number) (now (line .entry)) at r ⌝ }
+{
+    let read = lexer::next_token(line, at, due);
+    let token = read.token;
+    if number_of(token) == number {
+        return Place::At(read.end);
+    }
+    Place::Nothing
+}
+
+// An operator and the place behind it; or none stands there.
+pub enum OperatorRead {
+    Operator(Operator, usize),
+    Nothing,
+}
+
+pub fn operator(line: &[u8], at: usize) -> OperatorRead
+    requires { ⌜ at ≤ length (now line) ⌝ }
+    ensures { λ r. ⌜ PassesOperator (now (line .entry)) at r ⌝ }
+{
+    let read = lexer::next_token(line, at, false);
+    let token = read.token;
+    let Token::Operator(sign) = token else {
+        return OperatorRead::Nothing;
+    };
+    OperatorRead::Operator(sign, read.end)
+}

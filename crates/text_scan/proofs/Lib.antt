@@ -1,0 +1,2 @@
+-- Laws of one pass over an expression.
+pub mod Turning

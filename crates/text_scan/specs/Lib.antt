@@ -1,0 +1,2 @@
+-- What one pass over an expression answers.
+pub mod Scan

@@ -1,0 +1,2 @@
+-- Laws of signs, for the proofs here.
+pub mod Signs
