@@ -14,7 +14,7 @@ use Rattle.text_syntax.specs.Token.{stepWord, endWord, doneWord, loopWord, ifWo
 use Rattle.text_syntax.specs.Lexing.{spelled, First, first, none, firstToken, operandBehind, skipped, tokensAt}
 use Rattle.text_syntax.specs.Spelling.{Known, spaces}
 use Rattle.text_syntax.proofs.Lexing.{first-began, first-known, skipped-text, tokens-first, tokens-none, tokens-empty}
-use Rattle.text_words.specs.Tokens.{tokenCode, sizedFirst}
+use Rattle.text_words.specs.Tokens.{tokenCode, sizedToken, sizedFirst}
 use Rattle.text_lexer.specs.Lexeme.{nextPlace, placed, lexeme, firstCode, Reads, Lexed}
 use Rattle.text_words.specs.declared.token.Token.{Token}
 use Rattle.text_words.specs.declared.token.Token.the-variants.{Unknown, LineEnd}
@@ -81,6 +81,16 @@ module _ (operand : Bool) (t : List ℕ) (at : ℕ) (inside : at < length t) {x 
           ∙ ap (nextPlace (at + length (spelled k))) (sym (first-rest operand t at e)) in
           ap₂ (λ (c : Token) (n : ℕ). record { token = c; end = n }) (ap (λ (y : SizedToken). y .token) same) place
           ∙ sym (answer ∙ ap (placed at (drop at t)) e)
+
+-- the answer for a token of one byte
+pub lexeme-byte : (operand : Bool) (t : List ℕ) (at : ℕ) → at < length t → {b : ℕ} {k : S.Token} → drop at t ≡ b ∷ drop (at + 1) t
+    → firstToken operand (b ∷ drop (at + 1) t) ≡ first k (drop (at + 1) t) → length (spelled k) ≡ 1
+    → {end : ℕ} → end ≡ nextPlace (at + 1) (drop (at + 1) t) → record { token = tokenCode k; end = end } ≡ lexeme operand at (drop at t)
+unfolding sizedFirst
+lexeme-byte operand t at h {k = k} text read one =
+    let sized : sizedToken (tokenCode k) 1 ≡ sizedFirst (firstToken operand (drop at t)) =
+    ap (sizedToken (tokenCode k)) (sym one) ∙ sym (ap sizedFirst (ap (firstToken operand) text ∙ read)) in
+    lexeme-known operand t at h sized (λ e. omega (arith, e))
 
 -- the next place stands inside the text, and is not before
 place-inside : (t : List ℕ) (at : ℕ) (r : List ℕ) → at ≤ length t → length r ≡ length t - at → nextPlace at r ≤ length t

@@ -124,7 +124,7 @@ mark-other (Compared c) h = refl
 mark-other Unknown h = refl
 mark-other LineEnd h = refl
 
-mark-number : (n : ℕ) → 7 ≤ n → n ≤ 13 → markNumber (tokenCode (markToken n)) ≡ n
+pub mark-number : (n : ℕ) → 7 ≤ n → n ≤ 13 → markNumber (tokenCode (markToken n)) ≡ n
 unfolding markNumber tokenCode
 mark-number n l h =
     let e : n - 7 + 7 ≡ n = omega (arith, l) in

@@ -33,6 +33,10 @@ begins w (t ∷ r) = is w t
 abbrev pub markToken : ℕ → Token
 markToken n = getD (own ∷ becomes ∷ colon ∷ openSquare ∷ closeSquare ∷ openRound ∷ closeRound ∷ []) (n - 7) unknown
 
+-- the byte of `u` or of a bracket by its number, 0 for `:=` and `:`
+abbrev pub markByte : ℕ → ℕ
+markByte n = getD (117 ∷ 0 ∷ 0 ∷ 91 ∷ 93 ∷ 40 ∷ 41 ∷ []) (n - 7) 0
+
 -- the number of such a token as the code has it, 0 for every other one
 unfoldable pub markNumber : Code → ℕ
 markNumber C.Step = 0
