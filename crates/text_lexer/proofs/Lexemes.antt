@@ -14,7 +14,7 @@ use Rattle.text_syntax.specs.Token.{stepWord, endWord, doneWord, loopWord, ifWo
 use Rattle.text_syntax.specs.Lexing.{spelled, First, first, none, firstToken, operandBehind, skipped, tokensAt}
 use Rattle.text_syntax.specs.Spelling.{Known, spaces}
 use Rattle.text_syntax.proofs.Lexing.{first-began, first-known, skipped-text, tokens-first, tokens-none, tokens-empty}
-use Rattle.text_words.specs.Tokens.{tokenCode, sizedToken, sizedFirst}
+use Rattle.text_words.specs.Tokens.{tokenCode, sizedFirst}
 use Rattle.text_lexer.specs.Lexeme.{nextPlace, placed, lexeme, firstCode, Reads, Lexed}
 use Rattle.text_words.specs.declared.token.Token.{Token}
 use Rattle.text_words.specs.declared.token.Token.the-variants.{Unknown, LineEnd}
@@ -82,16 +82,6 @@ module _ (operand : Bool) (t : List ℕ) (at : ℕ) (inside : at < length t) {x 
           ap₂ (λ (c : Token) (n : ℕ). record { token = c; end = n }) (ap (λ (y : SizedToken). y .token) same) place
           ∙ sym (answer ∙ ap (placed at (drop at t)) e)
 
--- the answer for a token of one byte
-pub lexeme-byte : (operand : Bool) (t : List ℕ) (at : ℕ) → at < length t → {b : ℕ} {k : S.Token} → drop at t ≡ b ∷ drop (at + 1) t
-    → firstToken operand (b ∷ drop (at + 1) t) ≡ first k (drop (at + 1) t) → length (spelled k) ≡ 1
-    → {end : ℕ} → end ≡ nextPlace (at + 1) (drop (at + 1) t) → record { token = tokenCode k; end = end } ≡ lexeme operand at (drop at t)
-unfolding sizedFirst
-lexeme-byte operand t at h {k = k} text read one =
-    let sized : sizedToken (tokenCode k) 1 ≡ sizedFirst (firstToken operand (drop at t)) =
-    ap (sizedToken (tokenCode k)) (sym one) ∙ sym (ap sizedFirst (ap (firstToken operand) text ∙ read)) in
-    lexeme-known operand t at h sized (λ e. omega (arith, e))
-
 -- the next place stands inside the text, and is not before
 place-inside : (t : List ℕ) (at : ℕ) (r : List ℕ) → at ≤ length t → length r ≡ length t - at → nextPlace at r ≤ length t
 unfolding nextPlace
@@ -113,6 +103,17 @@ place-rest t at =
     ∙ ap (λ (n : ℕ). drop n r) count
     ∙ ap (drop (length (spaces (free .0)))) (free .1)
     ∙ drop-append-seam (spaces (free .0)) (skipped r)
+
+-- a token of one byte: the tokens from the place behind it on
+pub byte-tokens : (operand : Bool) (t : List ℕ) (at : ℕ) {b : ℕ} {k : S.Token} {end : ℕ} → end ≡ nextPlace (at + 1) (drop (at + 1) t)
+    → drop at t ≡ b ∷ drop (at + 1) t → firstToken operand (b ∷ drop (at + 1) t) ≡ first k (drop (at + 1) t)
+    → tokensAt operand (drop at t) ≡ k ∷ tokensAt (operandBehind k) (drop end t)
+byte-tokens operand t at {k = k} place text read =
+    tokens-first operand (drop at t) (ap (firstToken operand) text ∙ read)
+    ∙ ap (λ (s : List ℕ). k ∷ tokensAt (operandBehind k) s) (sym (ap (λ (n : ℕ). drop n t) place ∙ place-rest t (at + 1)))
+
+pub byte-onward : (t : List ℕ) (at : ℕ) → at < length t → {end : ℕ} → end ≡ nextPlace (at + 1) (drop (at + 1) t) → (at < end) × (end ≤ length t)
+byte-onward t at h place = (omega (arith, place-onward (at + 1) (drop (at + 1) t)), omega (arith, place-inside t (at + 1) (drop (at + 1) t) (omega arith) (length-drop (at + 1) t)))
 
 -- a token before others, as its code says it
 coded-reads : (k : S.Token) → Known k → (rest : Bool → List S.Token) → Reads (tokenCode k) (k ∷ rest (operandBehind k)) rest

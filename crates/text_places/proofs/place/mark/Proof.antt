@@ -6,15 +6,18 @@ use borrow.Author.Needs.{needs}
 use denote.Ref.{now}
 use borrow.Author.Tests.{not-true, not-false}
 use Rattle.chain_text.proofs.Scanning.{starts-inside}
-use Rattle.text_places.proofs.Bytes.{byte-passed, byte-absent}
+use Rattle.text_places.proofs.Bytes.{byte-none, byte-passed, byte-absent}
 use Rattle.text_places.proofs.place.mark.Statement.{statement}
 use Rattle.text_places.proofs.place.mark.Tie as tie
 
 byte-of-requires : tie.Need-byte-of-requires
 byte-of-requires c κs = search needs
 
-lexed-mark-requires : tie.Need-lexed-mark-requires
-lexed-mark-requires c κs = search needs
+colon-mark-requires : tie.Need-colon-mark-requires
+colon-mark-requires c κs =
+    let s = c .before .before .before .pre in
+    let none = byte-none _ (s .1) (s .2) (sym (c .before .byte-of .ensures) ∙ c .if1 .taken) in
+    (s .0, none .0, none .1)
 
 returns : tie.Need-returns
 returns c = search needs
@@ -48,7 +51,7 @@ mark-spec =
     tie.close
     (tie.spec
     byte-of-requires
-    lexed-mark-requires
+    colon-mark-requires
     returns
     starts-with-requires
     returns-2
