@@ -23,7 +23,7 @@ pub fn letter(line: &[u8], at: usize) -> LetterRead
     requires { ⌜ at ≤ length (now line) ⌝ }
     ensures { λ r. ⌜ LetterAt (now (line .entry)) at r ⌝ }
 {
-    if at == line.len() {
+    if line.len() <= at {
         return LetterRead::Nothing;
     }
     let b = line[at];
