@@ -1,6 +1,6 @@
 -- `op_check::check::read` meets its contract: why the text is not read, or what its reader answers.
 -- Assumes nothing.
-use mathlib.Core.Path.{refl, sym}
+use mathlib.Core.Path.{sym}
 use lib.Seq.{length-take-le}
 use denote.Ref.{now}
 use native.Mathlib.Omega.{arith}
