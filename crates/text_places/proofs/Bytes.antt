@@ -59,15 +59,15 @@ mark-byte n l h =
     go (suc (suc (suc (suc (suc (suc (suc m))))))) h b = absurd (omega (arith, h))
 
 -- the numbers of the others
-abbrev pub Other : ℕ → Type 0
-Other n = ((((Unit {0} × (n ≢ 7)) × (n ≢ 10)) × (n ≢ 11)) × (n ≢ 12)) × (n ≢ 13)
+abbrev pub NoByte : ℕ → Type 0
+NoByte n = ((((Unit {0} × (n ≢ 7)) × (n ≢ 10)) × (n ≢ 11)) × (n ≢ 12)) × (n ≢ 13)
 
-pub no-byte : (n : ℕ) → 7 ≤ n → n ≤ 13 → Other n → 0 ≡ markByte n
+pub no-byte : (n : ℕ) → 7 ≤ n → n ≤ 13 → NoByte n → 0 ≡ markByte n
 no-byte n l h other =
     let e : n - 7 + 7 ≡ n = omega (arith, l) in
-    subst (λ (k : ℕ). Other k → 0 ≡ markByte k) e (go (n - 7) (omega (arith, h))) other
+    subst (λ (k : ℕ). NoByte k → 0 ≡ markByte k) e (go (n - 7) (omega (arith, h))) other
   where
-    go : (m : ℕ) → m ≤ 6 → Other (m + 7) → 0 ≡ markByte (m + 7)
+    go : (m : ℕ) → m ≤ 6 → NoByte (m + 7) → 0 ≡ markByte (m + 7)
     go zero h o = absurd (o .0 .0 .0 .0 .1 refl)
     go (suc zero) h o = refl
     go (suc (suc zero)) h o = refl
