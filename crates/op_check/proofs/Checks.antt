@@ -1,12 +1,13 @@
 -- The ways out of a check and of the plan of a step.
 use Prim.Native.Nat.{ℕ, zero, suc, _-_, _≤_, _<_}
-use mathlib.Core.Path.{_≡_, refl, sym, ap, ap₂, _∙_}
+use mathlib.Core.Path.{_≡_, refl, sym, ap, ap₂, subst, _∙_}
 use mathlib.Core.Bool.{Bool, true, false, cond, _&&_}
 use mathlib.Core.List.{List, [], _∷_, map}
 use native.Mathlib.Omega.{arith}
 use borrow.Author.Tests.{le-leb, leb-false}
 use lib.Dec.{leb, ltb}
-use lib.ListN.{length, getD}
+use lib.ListN.{length, getD, take}
+use lib.Seq.{take-all}
 use Rattle.laws.specs.Outcome.{Outcome, refused, unless, after}
 use Rattle.laws.specs.Outcome as O
 use Rattle.laws.proofs.Bools.{and-true}
@@ -61,6 +62,13 @@ module _ (file t : List ℕ) where
 
     pub read-both : r ≡ 0 → Loads (sizesOf file) file × (length t ≤ 8192)
     read-both h = admitted-both file t (admitted-sizes h)
+
+-- the answer of the reader for all of the text
+pub read-whole : {k : Codes} {places : List ℕ} {r : Checked} (file t : List ℕ) {s : Sizes} {n : ℕ} → (s ≡ sizesOf file) × (n ≡ length t)
+    → check file t ≡ readFrom (sizesOf file) start 1 (lines t) → Answers k places (readFrom s start 1 (lines (take n t))) r → Answers k places (check file t) r
+read-whole {k} {places} {r} file t {s} {n} whole e a =
+    let all : take n t ≡ t = ap (λ (m : ℕ). take m t) (whole .1) ∙ take-all (length t) t (omega arith) in
+    subst (λ (o : Outcome Program). Answers k places o r) (ap₂ (λ (x : Sizes) (l : List ℕ). readFrom x start 1 (lines l)) (whole .0) all ∙ sym e) a
 
 -- an answer that is refused, and one that is not
 module _ {k : Codes} {places : List ℕ} {o : Outcome Program} {r : Checked} (a : Answers k places o r) where

@@ -1,14 +1,26 @@
 -- What the check answers.
-use Prim.Native.Nat.{ℕ}
+use Prim.Native.Nat.{ℕ, _≤_}
+use mathlib.Core.Path.{_≡_}
 use mathlib.Core.List.{List}
+use lib.ListN.{length}
 use Rattle.laws.specs.Outcome.{Outcome}
+use Rattle.register.specs.File.{sizesOf}
+use Rattle.register.specs.Shape.{Limits}
 use Rattle.program.specs.Program.{Program}
 use Rattle.program.specs.Code.{Codes}
 use Rattle.text_reader.specs.declared.Checked.{Checked}
 use Rattle.text_reader.specs.Answers.{Answers}
+use Rattle.op_check.specs.declared.check.Part.{Part}
 
 -- an answer of this outcome, with some codes beside its program
 pub record Checks (o : Outcome Program) (r : Checked) : Type 0 where
   pub codes : Codes
   pub places : List ℕ
   pub answers : Answers codes places o r
+
+-- what may be read of a text for a register: all of it, for the register's sizes, where nothing refuses it before
+pub record Readable (file text : List ℕ) (refusal : ℕ) (r : Part) : Type 0 where
+  pub limits : Limits (r .sizes)
+  pub inside : r .end ≤ length text
+  pub short : r .end ≤ 8192
+  pub whole : refusal ≡ 0 → (r .sizes ≡ sizesOf file) × (r .end ≡ length text)

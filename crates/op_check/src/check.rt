@@ -1,38 +1,43 @@
 // Document 01's check of a rules text: the register first, then the text.
-ghost use Prim.Native.Nat.{_≤_};
-ghost use Rattle.laws.specs.Outcome.{refused as refusedWith};
+ghost use mathlib.Core.Path.{_≡_};
+ghost use Rattle.laws.specs.Outcome.{done, unless};
+ghost use Rattle.register.specs.File.{sizesOf};
+ghost use Rattle.op_limits.specs.Admitted.{admitted};
 ghost use Rattle.program.specs.Code.{codesKept};
 ghost use Rattle.text_rules.specs.Text.{check as checkOf};
 ghost use Rattle.text_reader.specs.Answers.{CodeArrays, Answers};
-ghost use Rattle.op_check.specs.Checked.{Checks};
+ghost use Rattle.op_check.specs.Checked.{Checks, Readable};
 use op_limits;
 use register;
 use register::Sizes;
 use text_reader::Checked;
 
-// A refusal that names no line. The program is that of the empty text.
-fn refused(
-    number: u32,
-    kinds: &mut [u8],
-    numbers: &mut [i32],
-    chains: &mut [u64],
-    places: &mut [u8],
-) -> Checked
-    requires { ⌜ (1 ≤ number) × CodeArrays (now kinds) (now numbers) (now chains) (now places) ⌝ }
-    ensures { λ r. ⌜ Answers (codesKept (now (kinds .exit)) (now (numbers .exit)) (now (chains .exit))) (now (places .exit)) (refusedWith number 0) r ⌝ }
-{
-    let sizes = Sizes {
-        records: 0,
-        references: 0,
-        measures: 0,
-    };
-    let mut checked = text_reader::read_lines(b"", sizes, kinds, numbers, chains, places);
-    checked.refusal = number;
-    checked.line = 0;
-    checked
+// The sizes for which a text is read, and how much of it: all of it, or nothing where it is refused before.
+pub struct Part {
+    pub sizes: Sizes,
+    pub end: usize,
 }
 
-// The program of a text over a register, or why either is refused; the codes of its expressions are in the lent arrays.
+fn readable(file: &[u8], text: &[u8], refusal: u32) -> Part
+    requires { ⌜ unless refusal 0 (done (sizesOf (now file))) ≡ admitted (now file) (now text) ⌝ }
+    ensures { λ r. ⌜ Readable (now (file .entry)) (now (text .entry)) refusal r ⌝ }
+{
+    if refusal != 0 {
+        let sizes = Sizes {
+            records: 0,
+            references: 0,
+            measures: 0,
+        };
+        return Part { sizes, end: 0 };
+    }
+    Part {
+        sizes: register::sizes_of(file),
+        end: text.len(),
+    }
+}
+
+// The program of a text over a register, or why either is refused; the codes of its expressions are in the lent arrays. A
+// refusal that names no line has the program of the empty text: one call of the reader, for its answer is large.
 pub fn read(
     file: &[u8],
     text: &[u8],
@@ -46,11 +51,22 @@ pub fn read(
         (checkOf (now (file .entry)) (now (text .entry))) r ⌝ }
 {
     let refusal = op_limits::unread(file, text);
-    if refusal != 0 {
-        return refused(refusal, kinds, numbers, chains, places);
+    let part = readable(file, text, refusal);
+    let end = part.end;
+    let mut checked = text_reader::read_lines(
+        &text[..end],
+        part.sizes,
+        kinds,
+        numbers,
+        chains,
+        places,
+    );
+    if refusal == 0 {
+        return checked;
     }
-    let sizes = register::sizes_of(file);
-    text_reader::read_lines(text, sizes, kinds, numbers, chains, places)
+    checked.refusal = refusal;
+    checked.line = 0;
+    checked
 }
 
 // The same for who has no use for the codes.

@@ -91,7 +91,7 @@ no-letter (t ∷ w ∷ ts) h = go (is own t) (letterIn (kind t)) h
     go false (some l) h = absurd (let z : _≡_ {A = ℕ} 0 1 = cc in omega arith)
 
 module _ {line : List ℕ} {at : ℕ} where
-  pub target-none : NoLetter line at → NoTarget line at
+  pub target-none : NoLetter false line at → NoTarget line at
   target-none h = record { none = no-letter _ (h .none) }
 
   module _ {l i : ℕ} (v : Passing false false (letter l) line at i) where

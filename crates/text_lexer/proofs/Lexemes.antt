@@ -104,6 +104,17 @@ place-rest t at =
     ∙ ap (drop (length (spaces (free .0)))) (free .1)
     ∙ drop-append-seam (spaces (free .0)) (skipped r)
 
+-- a token of one byte: the tokens from the place behind it on
+pub byte-tokens : (operand : Bool) (t : List ℕ) (at : ℕ) {b : ℕ} {k : S.Token} {end : ℕ} → end ≡ nextPlace (at + 1) (drop (at + 1) t)
+    → drop at t ≡ b ∷ drop (at + 1) t → firstToken operand (b ∷ drop (at + 1) t) ≡ first k (drop (at + 1) t)
+    → tokensAt operand (drop at t) ≡ k ∷ tokensAt (operandBehind k) (drop end t)
+byte-tokens operand t at {k = k} place text read =
+    tokens-first operand (drop at t) (ap (firstToken operand) text ∙ read)
+    ∙ ap (λ (s : List ℕ). k ∷ tokensAt (operandBehind k) s) (sym (ap (λ (n : ℕ). drop n t) place ∙ place-rest t (at + 1)))
+
+pub byte-onward : (t : List ℕ) (at : ℕ) → at < length t → {end : ℕ} → end ≡ nextPlace (at + 1) (drop (at + 1) t) → (at < end) × (end ≤ length t)
+byte-onward t at h place = (omega (arith, place-onward (at + 1) (drop (at + 1) t)), omega (arith, place-inside t (at + 1) (drop (at + 1) t) (omega arith) (length-drop (at + 1) t)))
+
 -- a token before others, as its code says it
 coded-reads : (k : S.Token) → Known k → (rest : Bool → List S.Token) → Reads (tokenCode k) (k ∷ rest (operandBehind k)) rest
 unfolding tokenCode operandBehind

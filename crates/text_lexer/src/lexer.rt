@@ -47,7 +47,7 @@ fn first_token(line: &[u8], at: usize, operand: bool) -> SizedToken
 }
 
 // The place of the next token, `at` being behind one: spaces that end the line are not free.
-fn skip_spaces(line: &[u8], at: usize) -> usize
+pub fn skip_spaces(line: &[u8], at: usize) -> usize
     requires { ⌜ at ≤ length (now line) ⌝ }
     ensures { λ r. ⌜ r ≡ nextPlace at (drop at (now (line .entry))) ⌝ }
 {

@@ -27,7 +27,7 @@ use Rattle.text_words.specs.declared.token.Token.{Token}
 use Rattle.text_words.specs.declared.token.Token.the-variants.{Step, End, Done, Loop, If, Remote, Own, Letter, Number, Becomes, Colon, Write, Operator, Compared, OpenSquare, CloseSquare, OpenRound, CloseRound, Unknown, LineEnd}
 use Rattle.text_lexer.specs.declared.lexer.Lexeme.{Lexeme}
 use Rattle.text_words.proofs.token.Token.{the-type}
-use Rattle.text_places.specs.Place.{tokensFrom, Behind, begins, markToken, markNumber, Passing, Absent}
+use Rattle.text_places.specs.Place.{tokensFrom, Behind, begins, markToken, colonNumber, Passing, Absent}
 
 pub behind-behind : {line : List ℕ} {at i end : ℕ} → Behind line at i → Behind line i end → Behind line at end
 behind-behind v w = record { onward = omega (arith, v .onward, w .onward); inside = w .inside }
@@ -72,84 +72,79 @@ module _ {due : Bool} {line : List ℕ} {at : ℕ} {x : Lexeme} (w : Lexed due l
       go [] e = refl
       go (k ∷ r) e = found k r e (f (kind k)) refl
 
--- a mark, by its number
-mark-read : (k : Token) {n : ℕ} (ts : List S.Token) (rest : Bool → List S.Token) → 7 ≤ n → markNumber k ≡ n → Reads k ts rest
+-- `:=` or `:`, by its number
+colon-read : (k : Token) {n : ℕ} (ts : List S.Token) (rest : Bool → List S.Token) → 8 ≤ n → colonNumber k ≡ n → Reads k ts rest
     → ts ≡ markToken n ∷ rest (operandBehind (markToken n))
-unfolding markNumber operandBehind
-mark-read Own ts rest l e h = rw (sym e) h
-mark-read Becomes ts rest l e h = rw (sym e) h
-mark-read Colon ts rest l e h = rw (sym e) h
-mark-read OpenSquare ts rest l e h = rw (sym e) h
-mark-read CloseSquare ts rest l e h = rw (sym e) h
-mark-read OpenRound ts rest l e h = rw (sym e) h
-mark-read CloseRound ts rest l e h = rw (sym e) h
-mark-read Step ts rest l e h = absurd (omega (arith, l, e))
-mark-read End ts rest l e h = absurd (omega (arith, l, e))
-mark-read Done ts rest l e h = absurd (omega (arith, l, e))
-mark-read Loop ts rest l e h = absurd (omega (arith, l, e))
-mark-read If ts rest l e h = absurd (omega (arith, l, e))
-mark-read Remote ts rest l e h = absurd (omega (arith, l, e))
-mark-read (Letter v) ts rest l e h = absurd (omega (arith, l, e))
-mark-read (Number v) ts rest l e h = absurd (omega (arith, l, e))
-mark-read (Write k) ts rest l e h = absurd (omega (arith, l, e))
-mark-read (Operator o) ts rest l e h = absurd (omega (arith, l, e))
-mark-read (Compared c) ts rest l e h = absurd (omega (arith, l, e))
-mark-read Unknown ts rest l e h = absurd (omega (arith, l, e))
-mark-read LineEnd ts rest l e h = absurd (omega (arith, l, e))
+unfolding colonNumber operandBehind
+colon-read Becomes ts rest l e h = rw (sym e) h
+colon-read Colon ts rest l e h = rw (sym e) h
+colon-read Step ts rest l e h = absurd (omega (arith, l, e))
+colon-read End ts rest l e h = absurd (omega (arith, l, e))
+colon-read Done ts rest l e h = absurd (omega (arith, l, e))
+colon-read Loop ts rest l e h = absurd (omega (arith, l, e))
+colon-read If ts rest l e h = absurd (omega (arith, l, e))
+colon-read Remote ts rest l e h = absurd (omega (arith, l, e))
+colon-read Own ts rest l e h = absurd (omega (arith, l, e))
+colon-read (Letter v) ts rest l e h = absurd (omega (arith, l, e))
+colon-read (Number v) ts rest l e h = absurd (omega (arith, l, e))
+colon-read (Write k) ts rest l e h = absurd (omega (arith, l, e))
+colon-read (Operator o) ts rest l e h = absurd (omega (arith, l, e))
+colon-read (Compared c) ts rest l e h = absurd (omega (arith, l, e))
+colon-read OpenSquare ts rest l e h = absurd (omega (arith, l, e))
+colon-read CloseSquare ts rest l e h = absurd (omega (arith, l, e))
+colon-read OpenRound ts rest l e h = absurd (omega (arith, l, e))
+colon-read CloseRound ts rest l e h = absurd (omega (arith, l, e))
+colon-read Unknown ts rest l e h = absurd (omega (arith, l, e))
+colon-read LineEnd ts rest l e h = absurd (omega (arith, l, e))
 
--- the numbers of the variants that are no marks
+-- the numbers of the other variants
 abbrev pub otherTags : List ℕ
-otherTags = 0 ∷ 1 ∷ 2 ∷ 3 ∷ 4 ∷ 5 ∷ 7 ∷ 8 ∷ 11 ∷ 12 ∷ 13 ∷ 18 ∷ 19 ∷ []
+otherTags = 0 ∷ 1 ∷ 2 ∷ 3 ∷ 4 ∷ 5 ∷ 6 ∷ 7 ∷ 8 ∷ 11 ∷ 12 ∷ 13 ∷ 14 ∷ 15 ∷ 16 ∷ 17 ∷ 18 ∷ 19 ∷ []
 
-pub mark-other : (k : Token) → OneOf otherTags (tagOf the-type k) → 0 ≡ markNumber k
-unfolding markNumber
-mark-other Own h = absurd (told otherTags {k = Own} h tt refl)
-mark-other Becomes h = absurd (told otherTags {k = Becomes} h tt refl)
-mark-other Colon h = absurd (told otherTags {k = Colon} h tt refl)
-mark-other OpenSquare h = absurd (told otherTags {k = OpenSquare} h tt refl)
-mark-other CloseSquare h = absurd (told otherTags {k = CloseSquare} h tt refl)
-mark-other OpenRound h = absurd (told otherTags {k = OpenRound} h tt refl)
-mark-other CloseRound h = absurd (told otherTags {k = CloseRound} h tt refl)
-mark-other Step h = refl
-mark-other End h = refl
-mark-other Done h = refl
-mark-other Loop h = refl
-mark-other If h = refl
-mark-other Remote h = refl
-mark-other (Letter v) h = refl
-mark-other (Number v) h = refl
-mark-other (Write s) h = refl
-mark-other (Operator o) h = refl
-mark-other (Compared c) h = refl
-mark-other Unknown h = refl
-mark-other LineEnd h = refl
+pub colon-other : (k : Token) → OneOf otherTags (tagOf the-type k) → 0 ≡ colonNumber k
+unfolding colonNumber
+colon-other Becomes h = absurd (told otherTags {k = Becomes} h tt refl)
+colon-other Colon h = absurd (told otherTags {k = Colon} h tt refl)
+colon-other Step h = refl
+colon-other End h = refl
+colon-other Done h = refl
+colon-other Loop h = refl
+colon-other If h = refl
+colon-other Remote h = refl
+colon-other Own h = refl
+colon-other (Letter v) h = refl
+colon-other (Number v) h = refl
+colon-other (Write k) h = refl
+colon-other (Operator o) h = refl
+colon-other (Compared c) h = refl
+colon-other OpenSquare h = refl
+colon-other CloseSquare h = refl
+colon-other OpenRound h = refl
+colon-other CloseRound h = refl
+colon-other Unknown h = refl
+colon-other LineEnd h = refl
 
-mark-number : (n : ℕ) → 7 ≤ n → n ≤ 13 → markNumber (tokenCode (markToken n)) ≡ n
-unfolding markNumber tokenCode
-mark-number n l h =
-    let e : n - 7 + 7 ≡ n = omega (arith, l) in
-    subst (λ (k : ℕ). markNumber (tokenCode (markToken k)) ≡ k) e (go (n - 7) (omega (arith, h)))
+colon-number : (n : ℕ) → 8 ≤ n → n ≤ 9 → colonNumber (tokenCode (markToken n)) ≡ n
+unfolding colonNumber tokenCode
+colon-number n l h =
+    let e : n - 8 + 8 ≡ n = omega (arith, l) in
+    subst (λ (k : ℕ). colonNumber (tokenCode (markToken k)) ≡ k) e (go (n - 8) (omega (arith, h)))
   where
-    go : (m : ℕ) → m ≤ 6 → markNumber (tokenCode (markToken (m + 7))) ≡ m + 7
+    go : (m : ℕ) → m ≤ 1 → colonNumber (tokenCode (markToken (m + 8))) ≡ m + 8
     go zero h = refl
     go (suc zero) h = refl
-    go (suc (suc zero)) h = refl
-    go (suc (suc (suc zero))) h = refl
-    go (suc (suc (suc (suc zero)))) h = refl
-    go (suc (suc (suc (suc (suc zero))))) h = refl
-    go (suc (suc (suc (suc (suc (suc zero)))))) h = refl
-    go (suc (suc (suc (suc (suc (suc (suc m))))))) h = absurd (omega (arith, h))
+    go (suc (suc m)) h = absurd (omega (arith, h))
 
-module _ {due : Bool} {line : List ℕ} {at : ℕ} {x : Lexeme} (w : Lexed due line at x) (n : ℕ) (l : 7 ≤ n) where
-  pub mark-passed : markNumber (x .token) ≡ n → Passing due (operandBehind (markToken n)) (markToken n) line at (x .end)
-  unfolding markNumber
-  mark-passed e = record {
-    text = mark-read (x .token) _ (λ o. tokensFrom o line (x .end)) l e (w .reads);
-    behind = record { onward = w .onward (λ q. omega (arith, l, e, ap markNumber q)); inside = w .inside };
+module _ {due : Bool} {line : List ℕ} {at : ℕ} {x : Lexeme} (w : Lexed due line at x) (n : ℕ) (l : 8 ≤ n) where
+  pub colon-passed : colonNumber (x .token) ≡ n → Passing due (operandBehind (markToken n)) (markToken n) line at (x .end)
+  unfolding colonNumber
+  colon-passed e = record {
+    text = colon-read (x .token) _ (λ o. tokensFrom o line (x .end)) l e (w .reads);
+    behind = record { onward = w .onward (λ q. omega (arith, l, e, ap colonNumber q)); inside = w .inside };
   }
 
-  pub mark-absent : n ≤ 13 → markNumber (x .token) ≢ n → Absent due (markToken n) line at
-  mark-absent h e = absent w (markToken n) (λ q. e (ap markNumber q ∙ mark-number n l h))
+  pub colon-absent : n ≤ 9 → colonNumber (x .token) ≢ n → Absent due (markToken n) line at
+  colon-absent h e = absent w (markToken n) (λ q. e (ap colonNumber q ∙ colon-number n l h))
 
 pub past-absent : {A : Type 0} (w : S.Token) (ts : List S.Token) (f : List S.Token → Form A) → begins w ts ≡ false → past w ts f ≡ unformed
 unfolding past begins

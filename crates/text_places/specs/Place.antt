@@ -33,28 +33,32 @@ begins w (t ∷ r) = is w t
 abbrev pub markToken : ℕ → Token
 markToken n = getD (own ∷ becomes ∷ colon ∷ openSquare ∷ closeSquare ∷ openRound ∷ closeRound ∷ []) (n - 7) unknown
 
--- the number of such a token as the code has it, 0 for every other one
-unfoldable pub markNumber : Code → ℕ
-markNumber C.Step = 0
-markNumber C.End = 0
-markNumber C.Done = 0
-markNumber C.Loop = 0
-markNumber C.If = 0
-markNumber C.Remote = 0
-markNumber C.Own = 7
-markNumber (C.Letter l) = 0
-markNumber (C.Number v) = 0
-markNumber C.Becomes = 8
-markNumber C.Colon = 9
-markNumber (C.Write k) = 0
-markNumber (C.Operator o) = 0
-markNumber (C.Compared c) = 0
-markNumber C.OpenSquare = 10
-markNumber C.CloseSquare = 11
-markNumber C.OpenRound = 12
-markNumber C.CloseRound = 13
-markNumber C.Unknown = 0
-markNumber C.LineEnd = 0
+-- the byte of `u` or of a bracket by its number, 0 for `:=` and `:`
+abbrev pub markByte : ℕ → ℕ
+markByte n = getD (117 ∷ 0 ∷ 0 ∷ 91 ∷ 93 ∷ 40 ∷ 41 ∷ []) (n - 7) 0
+
+-- the number of `:=` or `:` as the code has it, 0 for every other token
+unfoldable pub colonNumber : Code → ℕ
+colonNumber C.Step = 0
+colonNumber C.End = 0
+colonNumber C.Done = 0
+colonNumber C.Loop = 0
+colonNumber C.If = 0
+colonNumber C.Remote = 0
+colonNumber C.Own = 0
+colonNumber (C.Letter l) = 0
+colonNumber (C.Number v) = 0
+colonNumber C.Becomes = 8
+colonNumber C.Colon = 9
+colonNumber (C.Write k) = 0
+colonNumber (C.Operator o) = 0
+colonNumber (C.Compared c) = 0
+colonNumber C.OpenSquare = 0
+colonNumber C.CloseSquare = 0
+colonNumber C.OpenRound = 0
+colonNumber C.CloseRound = 0
+colonNumber C.Unknown = 0
+colonNumber C.LineEnd = 0
 
 -- the token w stands at a place, where an operand is due or not, before another place
 pub record Passing (due then : Bool) (w : Token) (line : List ℕ) (at end : ℕ) : Type 0 where

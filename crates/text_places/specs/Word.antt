@@ -18,18 +18,23 @@ use Rattle.text_places.specs.declared.word.WriteRead.the-variants.{Write
 use Rattle.text_places.specs.declared.word.ComparisonRead.{ComparisonRead}
 use Rattle.text_places.specs.declared.word.ComparisonRead.the-variants.{Compared, Nothing as NoComparisonRead}
 
--- a capital stands at a place, or none; `<?=` or `+=`; `<`, `==` or `!=`
-pub record Lettered (l : ℕ) (line : List ℕ) (at end : ℕ) : Type 0 where
-  pub passing : Passing false false (letter l) line at end
+-- a capital stands at a place, where an operand is due or not, or none
+pub record Lettered (due : Bool) (l : ℕ) (line : List ℕ) (at end : ℕ) : Type 0 where
+  pub passing : Passing due false (letter l) line at end
   pub capital : isCapital l ≡ true
 
-pub record NoLetter (line : List ℕ) (at : ℕ) : Type 0 where
-  pub none : oneOf letterIn (tokensFrom false line at) ≡ unformed
+pub record NoLetter (due : Bool) (line : List ℕ) (at : ℕ) : Type 0 where
+  pub none : oneOf letterIn (tokensFrom due line at) ≡ unformed
 
-abbrev pub PassesLetter : List ℕ → ℕ → LetterRead → Type 0
-PassesLetter line at (Letter l end) = Lettered l line at end
-PassesLetter line at NoLetterRead = NoLetter line at
+abbrev pub PassesLetter : Bool → List ℕ → ℕ → LetterRead → Type 0
+PassesLetter due line at (Letter l end) = Lettered due l line at end
+PassesLetter due line at NoLetterRead = NoLetter due line at
 
+-- a capital is a token whether an operand is due or not
+abbrev pub LetterAt : List ℕ → ℕ → LetterRead → Type 0
+LetterAt line at r = (due : Bool) → PassesLetter due line at r
+
+-- `<?=` or `+=`; `<`, `==` or `!=`
 pub record NoWrite (line : List ℕ) (at : ℕ) : Type 0 where
   pub none : oneOf writeIn (tokensFrom false line at) ≡ unformed
 

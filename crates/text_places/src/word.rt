@@ -4,15 +4,16 @@ ghost use mathlib.Core.Bool.{false};
 ghost use Prim.Native.Nat.{_≤_};
 ghost use lib.ListN.{length};
 ghost use Rattle.text_places.specs.Place.{tokensFrom};
-ghost use Rattle.text_places.specs.Word.{PassesLetter, PassesWrite, PassesComparison, PassesAssigned, isEmpty};
+ghost use Rattle.text_places.specs.Word.{LetterAt, PassesWrite, PassesComparison, PassesAssigned, isEmpty};
 use crate::place;
+use chain_text::letters;
 use program::rule::Comparison;
 use program::rule::Sort;
 use text_lexer::lexer;
 use text_words::token::Place;
 use text_words::token::Token;
 
-// A capital and the place behind it; or none stands there.
+// A capital and the place behind it; or none stands there. It is one byte and needs no lexer.
 pub enum LetterRead {
     Letter(u8, usize),
     Nothing,
@@ -20,14 +21,16 @@ pub enum LetterRead {
 
 pub fn letter(line: &[u8], at: usize) -> LetterRead
     requires { ⌜ at ≤ length (now line) ⌝ }
-    ensures { λ r. ⌜ PassesLetter (now (line .entry)) at r ⌝ }
+    ensures { λ r. ⌜ LetterAt (now (line .entry)) at r ⌝ }
 {
-    let read = lexer::next_token(line, at, false);
-    let token = read.token;
-    let Token::Letter(letter) = token else {
+    if line.len() <= at {
         return LetterRead::Nothing;
-    };
-    LetterRead::Letter(letter, read.end)
+    }
+    let b = line[at];
+    if !letters::is_capital(b) {
+        return LetterRead::Nothing;
+    }
+    LetterRead::Letter(b, lexer::skip_spaces(line, at + 1))
 }
 
 // `<?=` or `+=` and the place behind it; or none stands there.

@@ -16,17 +16,14 @@ use Rattle.text_syntax.specs.Kind.{kind, letterIn, fixedIn, same, is}
 use Rattle.text_syntax.specs.Form.{Form, formed, unformed, oneOf, held, past, then}
 use Rattle.text_syntax.specs.Grammar.{chainForm}
 use Rattle.text_syntax.specs.Flat.{closedChain, chainFrom}
-use Rattle.text_syntax.proofs.TokenKinds.{letter-token}
 use Rattle.text_syntax.proofs.Chains.{chain-own, chain-letter, chain-none}
 use Rattle.text_syntax.proofs.Scans.{chain-start, chain-opens, chain-within}
-use Rattle.text_words.specs.Tokens.{tokenCode}
-use Rattle.text_lexer.specs.Lexeme.{Lexed}
-use Rattle.text_lexer.specs.declared.lexer.Lexeme.{Lexeme}
 use Rattle.text_terms.specs.declared.chains.ChainRead.{ChainRead}
 use Rattle.text_terms.specs.declared.chains.ChainRead.the-variants.{Chain, NoForm}
+use Rattle.text_places.specs.Word.{NoLetter}
 use Rattle.text_places.specs.Place.{tokensFrom, Behind, begins, Passing, Absent}
 use Rattle.text_terms.specs.Chain.{Opens, NoChain, Closes, Unclosed, ChainFormed, ChainAt, ClosedBy, EndsInside}
-use Rattle.text_places.proofs.Places.{behind-behind, absent, none-of, past-absent, letter-capital}
+use Rattle.text_places.proofs.Places.{behind-behind, absent, past-absent, letter-capital}
 
 -- what a chain begins with: a letter and `[`, a letter alone, and neither a letter nor `u`
 module _ (due : Bool) (line : List ℕ) (at i : ℕ) {l : ℕ} (text : tokensFrom due line at ≡ letter l ∷ tokensFrom false line i) where
@@ -40,11 +37,9 @@ module _ (due : Bool) (line : List ℕ) (at i : ℕ) {l : ℕ} (text : tokensFro
   pub link-none : Absent false openSquare line i → NoChain due line at
   link-none w = record { none = ap chainForm text ∙ chain-letter l _ ∙ past-absent openSquare _ _ (w .absent) }
 
-pub link-other : {due : Bool} {line : List ℕ} {at : ℕ} {x : Lexeme} → Lexed due line at x → x .token ≢ tokenCode own →
-    ((l : ℕ) → x .token ≢ tokenCode (letter l))
-    → NoChain due line at
+pub link-other : {due : Bool} {line : List ℕ} {at : ℕ} → NoLetter due line at → Absent due own line at → NoChain due line at
 unfolding held chainForm begins oneOf
-link-other {due} {line} {at} w u n = record { none = go (tokensFrom due line at) (absent w own u .absent) (none-of w letterIn letter letter-token n) }
+link-other {due} {line} {at} n w = record { none = go (tokensFrom due line at) (w .absent) (n .none) }
   where
     kept : (o : Option ℕ) (r : List S.Token) → held o r ≡ unformed → o ≡ none
     kept none r h = refl

@@ -7,10 +7,10 @@ ghost use Rattle.text_terms.specs.Chain.{LinkAt, ChainAt, ClosesAt, Ends
 use chain_text::letters;
 use chain_text::letters::Letters;
 use register::Sizes;
-use text_lexer::lexer;
 use text_places::place;
+use text_places::word;
+use text_places::word::LetterRead;
 use text_words::token::Place;
-use text_words::token::Token;
 
 // What a chain begins with: `u`, or a letter and `[`, and the place behind; or no chain stands there.
 pub enum Link {
@@ -23,15 +23,17 @@ pub fn first_link(line: &[u8], at: usize, due: bool) -> Link
     requires { ⌜ at ≤ length (now line) ⌝ }
     ensures { λ r. ⌜ LinkAt due (now (line .entry)) at r ⌝ }
 {
-    let read = lexer::next_token(line, at, due);
-    let token = read.token;
-    match token {
-        Token::Own => Link::Own(read.end),
-        Token::Letter(letter) => match place::mark(line, read.end, false, place::OPEN_SQUARE) {
-            Place::At(end) => Link::Letter(letter, end),
+    match word::letter(line, at) {
+        LetterRead::Letter(letter, inner) => {
+            match place::mark(line, inner, false, place::OPEN_SQUARE) {
+                Place::At(end) => Link::Letter(letter, end),
+                Place::Nothing => Link::Nothing,
+            }
+        }
+        LetterRead::Nothing => match place::mark(line, at, due, place::OWN) {
+            Place::At(end) => Link::Own(end),
             Place::Nothing => Link::Nothing,
         },
-        _ => Link::Nothing,
     }
 }
 

@@ -24,11 +24,11 @@ enum-told : tie.Need-enum-told
 enum-told c = search needs
 
 returns : tie.Need-returns
-returns c = target-none (subst (PassesLetter _ _) (c .enum-told .given .1) (c .before .before .letter .ensures))
+returns c = target-none (subst (PassesLetter false _ _) (c .enum-told .given .1) (c .before .before .letter .ensures false))
 
 mark-requires : tie.Need-mark-requires
 mark-requires c κs =
-    let l = subst (PassesLetter _ _) (c .before .letter2 .given .1) (c .before .before .before .letter .ensures) in
+    let l = subst (PassesLetter false _ _) (c .before .letter2 .given .1) (c .before .before .before .letter .ensures false) in
     (l .passing .behind .inside, omega arith, omega arith)
 
 enum-known-inner : tie.Need-enum-known-inner
@@ -41,7 +41,7 @@ returns-2 : tie.Need-returns-2
 unfolding operandBehind
 returns-2 c =
     let s = c .before .before .before .before in
-    let l = subst (PassesLetter _ _) (s .letter2 .given .1) (s .before .before .letter .ensures) in
+    let l = subst (PassesLetter false _ _) (s .letter2 .given .1) (s .before .before .letter .ensures false) in
     target-unopened (l .passing)
     (subst (Passes false false openSquare _ _) (c .enum-told2 .given .1) (c .before .before .mark .ensures))
 
@@ -62,7 +62,7 @@ unfolding operandBehind
 returns-3 c =
     let i = c .before .before .before .before in
     let s = i .before .before .before .before in
-    let l = subst (PassesLetter _ _) (s .letter2 .given .1) (s .before .before .letter .ensures) in
+    let l = subst (PassesLetter false _ _) (s .letter2 .given .1) (s .before .before .letter .ensures false) in
     let o = subst (Passes false false openSquare _ _) (i .inner .given .1) (i .before .before .mark .ensures) in
     target-unread (l .passing) o (subst (ChainPartsAt _ false _ _) (c .enum-told3 .given .1) (c .before .before .read-chain .ensures))
 
@@ -83,7 +83,7 @@ returns-4 c =
     let p = c .before .before .before .before in
     let i = p .before .before .before .before in
     let s = i .before .before .before .before in
-    let l = subst (PassesLetter _ _) (s .letter2 .given .1) (s .before .before .letter .ensures) in
+    let l = subst (PassesLetter false _ _) (s .letter2 .given .1) (s .before .before .letter .ensures false) in
     let o = subst (Passes false false openSquare _ _) (i .inner .given .1) (i .before .before .mark .ensures) in
     let w = subst (ChainPartsAt _ false _ _) (p .parts .given .1) (p .before .before .read-chain .ensures) in
     target-unclosed (l .passing) o (w .form-is)
@@ -96,7 +96,7 @@ returns-5 c =
     let p = e .before .before .before .before in
     let i = p .before .before .before .before in
     let s = i .before .before .before .before in
-    let l = subst (PassesLetter _ _) (s .letter2 .given .1) (s .before .before .letter .ensures) in
+    let l = subst (PassesLetter false _ _) (s .letter2 .given .1) (s .before .before .letter .ensures false) in
     let o = subst (Passes false false openSquare _ _) (i .inner .given .1) (i .before .before .mark .ensures) in
     let w = subst (ChainPartsAt _ false _ _) (p .parts .given .1) (p .before .before .read-chain .ensures) in
     let x = subst (Passes false false closeSquare _ _) (e .end .given .1) (e .before .before .mark2 .ensures) in

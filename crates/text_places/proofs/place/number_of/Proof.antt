@@ -3,8 +3,8 @@
 use mathlib.Core.Path.{sym, ap}
 use borrow.Author.Needs.{needs}
 use Rattle.text_words.specs.declared.token.Token.{Token}
-use Rattle.text_places.specs.Place.{markNumber}
-use Rattle.text_places.proofs.Places.{mark-other}
+use Rattle.text_places.specs.Place.{colonNumber}
+use Rattle.text_places.proofs.Places.{colon-other}
 use Rattle.text_places.proofs.place.number_of.Statement.{statement}
 use Rattle.text_places.proofs.place.number_of.Tie as tie
 
@@ -14,54 +14,16 @@ enum-told c = search needs
 enum-told-2 : tie.Need-enum-told-2
 enum-told-2 c = search needs
 
-enum-told-3 : tie.Need-enum-told-3
-enum-told-3 c = search needs
-
-enum-told-4 : tie.Need-enum-told-4
-enum-told-4 c = search needs
-
-enum-told-5 : tie.Need-enum-told-5
-enum-told-5 c = search needs
-
-enum-told-6 : tie.Need-enum-told-6
-enum-told-6 c = search needs
-
-enum-told-7 : tie.Need-enum-told-7
-enum-told-7 c = search needs
-
 returns : tie.Need-returns
-unfolding markNumber
-returns c = sym (ap (λ (k : Token). markNumber k) (c .enum-told .given .1))
+unfolding colonNumber
+returns c = sym (ap (λ (k : Token). colonNumber k) (c .enum-told .given .1))
 
 returns-2 : tie.Need-returns-2
-unfolding markNumber
-returns-2 c = sym (ap (λ (k : Token). markNumber k) (c .enum-told2 .given .1))
+unfolding colonNumber
+returns-2 c = sym (ap (λ (k : Token). colonNumber k) (c .enum-told2 .given .1))
 
 returns-3 : tie.Need-returns-3
-unfolding markNumber
-returns-3 c = sym (ap (λ (k : Token). markNumber k) (c .enum-told3 .given .1))
-
-returns-4 : tie.Need-returns-4
-unfolding markNumber
-returns-4 c = sym (ap (λ (k : Token). markNumber k) (c .enum-told4 .given .1))
-
-returns-5 : tie.Need-returns-5
-unfolding markNumber
-returns-5 c = sym (ap (λ (k : Token). markNumber k) (c .enum-told5 .given .1))
-
-returns-6 : tie.Need-returns-6
-unfolding markNumber
-returns-6 c = sym (ap (λ (k : Token). markNumber k) (c .enum-told6 .given .1))
-
-returns-7 : tie.Need-returns-7
-unfolding markNumber
-returns-7 c = sym (ap (λ (k : Token). markNumber k) (c .enum-told7 .given .1))
-
-returns-8 : tie.Need-returns-8
-returns-8 c = mark-other _ (c .match .keys8)
+returns-3 c = colon-other _ (c .match .keys3)
 
 pub number-of-spec : {M : Type 1} → statement M
-number-of-spec =
-    tie.close
-    (tie.spec enum-told enum-told-2 enum-told-3 enum-told-4 enum-told-5 enum-told-6 enum-told-7
-    returns returns-2 returns-3 returns-4 returns-5 returns-6 returns-7 returns-8)
+number-of-spec = tie.close (tie.spec enum-told enum-told-2 returns returns-2 returns-3)

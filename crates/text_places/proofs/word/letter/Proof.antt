@@ -1,35 +1,43 @@
 -- `text_places::word::letter` meets its contract.
 -- Assumes nothing.
-use mathlib.Core.List.{[], _∷_}
+use mathlib.Core.Path.{sym, _∙_}
+use native.Mathlib.Omega.{arith}
 use borrow.Author.Needs.{needs}
-use Rattle.text_syntax.specs.Token as S
-use Rattle.text_syntax.specs.Kind.{letterIn}
-use Rattle.text_syntax.proofs.TokenKinds.{letter-token}
-use Rattle.text_words.specs.Tokens.{tokenCode}
-use Rattle.text_lexer.proofs.Lexemes.{lexed}
-use Rattle.text_places.proofs.Places.{told, passed, goes-on, none-of, letter-capital}
+use borrow.Author.Tests.{not-true, not-false}
+use Rattle.text_places.proofs.Bytes.{letter-passed, letter-end, letter-absent}
 use Rattle.text_places.proofs.word.letter.Statement.{statement}
 use Rattle.text_places.proofs.word.letter.Tie as tie
 
-next-token-requires : tie.Need-next-token-requires
-next-token-requires c κs = search needs
-
-enum-known-token : tie.Need-enum-known-token
-enum-known-token c = search needs
-
 returns : tie.Need-returns
-unfolding tokenCode
-returns c =
-    record {
-      none = none-of (lexed _ _ _ (c .before .before .before .pre) (c .before .next-token .ensures)) letterIn S.letter letter-token
-          (λ o. told (0 ∷ 1 ∷ 2 ∷ 3 ∷ 4 ∷ 5 ∷ 6 ∷ 8 ∷ 9 ∷ 10 ∷ 11 ∷ 12 ∷ 13 ∷ 14 ∷ 15 ∷ 16 ∷ 17 ∷ 18 ∷ 19 ∷ []) (c .match .keys2) tt);
-    }
+returns c due = letter-end due _ _ (omega arith)
+
+shared-slice-read-b : tie.Need-shared-slice-read-b
+shared-slice-read-b c = search needs
+
+is-capital-requires : tie.Need-is-capital-requires
+is-capital-requires c κs = search needs
 
 returns-2 : tie.Need-returns-2
-returns-2 c =
-    let w = lexed _ _ _ (c .before .before .before .before .before .pre) (c .before .before .before .next-token .ensures) in
-    let e = passed w (c .before .token .given .1) in
-    record { passing = record { text = e; behind = goes-on w _ (c .before .token .given .1) tt }; capital = letter-capital _ _ e }
+returns-2 c due = letter-absent due _ _ (omega arith) (sym (c .before .is-capital .ensures) ∙ not-true _ (c .if2 .taken))
+
+add-skip-spaces : tie.Need-add-skip-spaces
+add-skip-spaces c = search needs
+
+skip-spaces-requires : tie.Need-skip-spaces-requires
+skip-spaces-requires c κs = search needs
+
+returns-3 : tie.Need-returns-3
+returns-3 c due =
+    letter-passed due _ _ (omega arith) (sym (c .before .before .is-capital .ensures) ∙ not-false _ (c .before .if2 .left)) (c .skip-spaces .ensures)
 
 pub letter-spec : {M : Type 1} → statement M
-letter-spec = tie.close (tie.spec next-token-requires enum-known-token returns returns-2)
+letter-spec =
+    tie.close
+    (tie.spec
+    returns
+    shared-slice-read-b
+    is-capital-requires
+    returns-2
+    add-skip-spaces
+    skip-spaces-requires
+    returns-3)

@@ -2,76 +2,83 @@
 -- Assumes nothing.
 use mathlib.Core.Path.{subst}
 use mathlib.Core.Bool.{false}
-use mathlib.Core.List.{[], _∷_}
 use native.Mathlib.Omega.{arith}
 use borrow.Author.Needs.{needs}
 use Rattle.text_syntax.specs.Lexing.{operandBehind}
-use Rattle.text_syntax.specs.Token as S
-use Rattle.text_words.specs.Tokens.{tokenCode}
-use Rattle.text_lexer.proofs.Lexemes.{lexed}
+use Rattle.text_syntax.specs.Token.{own, openSquare}
 use Rattle.text_places.specs.Place.{Passes}
-use Rattle.text_places.proofs.Places.{told, passed, goes-on}
+use Rattle.text_places.specs.Word.{PassesLetter}
 use Rattle.text_terms.proofs.ChainForms.{link-letter, link-none, link-other}
 use Rattle.text_terms.proofs.chains.first_link.Statement.{statement}
 use Rattle.text_terms.proofs.chains.first_link.Tie as tie
 
-next-token-requires : tie.Need-next-token-requires
-next-token-requires c κs = search needs
+letter-requires : tie.Need-letter-requires
+letter-requires c κs = search needs
 
-enum-told : tie.Need-enum-told
-enum-told c = search needs
-
-enum-known-token : tie.Need-enum-known-token
-enum-known-token c = search needs
+enum-known-letter : tie.Need-enum-known-letter
+enum-known-letter c = search needs
 
 mark-requires : tie.Need-mark-requires
-mark-requires c κs = (lexed _ _ _ (c .before .before .before .before .before .pre) (c .before .before .before .next-token .ensures) .inside, omega arith, omega arith)
+mark-requires c κs =
+    let p = subst (PassesLetter false _ _) (c .before .letter2 .given .1) (c .before .before .before .letter .ensures false) in
+    (p .passing .behind .inside, omega arith, omega arith)
 
 enum-known-end : tie.Need-enum-known-end
 enum-known-end c = search needs
 
+enum-told : tie.Need-enum-told
+enum-told c = search needs
+
 enum-told-2 : tie.Need-enum-told-2
 enum-told-2 c = search needs
 
+mark-requires-2 : tie.Need-mark-requires-2
+mark-requires-2 c κs = search needs
+
+enum-known-end-2 : tie.Need-enum-known-end-2
+enum-known-end-2 c = search needs
+
+enum-told-3 : tie.Need-enum-told-3
+enum-told-3 c = search needs
+
 returns : tie.Need-returns
+unfolding operandBehind
 returns c =
-    let w = lexed _ _ _ (c .before .before .before .before .pre) (c .before .before .next-token .ensures) in
-    record { text = passed w (c .enum-told .given .1); behind = goes-on w _ (c .enum-told .given .1) tt }
+    let s = c .before .before .before .before in
+    let p = subst (PassesLetter _ _ _) (s .before .letter2 .given .1) (s .before .before .before .letter .ensures _) in
+    link-letter _ _ _ _ (p .passing .text) (p .passing .behind) (subst (Passes false false openSquare _ _) (c .before .end .given .1) (c .before .before .before .mark .ensures))
 
 returns-2 : tie.Need-returns-2
 unfolding operandBehind
 returns-2 c =
-    let w = lexed _ _ _ (c .before .before .before .before .before .before .before .before .before .pre)
-    (c .before .before .before .before .before .before .before .next-token .ensures) in
-    link-letter _ _ _ _ (passed w (c .before .before .before .before .before .token .given .1))
-    (goes-on w _ (c .before .before .before .before .before .token .given .1) tt)
-    (subst (Passes false false S.openSquare _ _) (c .before .end .given .1) (c .before .before .before .mark .ensures))
+    let s = c .before .before .before in
+    let p = subst (PassesLetter _ _ _) (s .before .letter2 .given .1) (s .before .before .before .letter .ensures _) in
+    link-none _ _ _ _ (p .passing .text) (subst (Passes false false openSquare _ _) (c .enum-told .given .1) (c .before .before .mark .ensures))
 
 returns-3 : tie.Need-returns-3
 unfolding operandBehind
-returns-3 c =
-    let w = lexed _ _ _ (c .before .before .before .before .before .before .before .before .pre)
-    (c .before .before .before .before .before .before .next-token .ensures) in
-    link-none _ _ _ _ (passed w (c .before .before .before .before .token .given .1))
-    (subst (Passes false false S.openSquare _ _) (c .enum-told2 .given .1) (c .before .before .mark .ensures))
+returns-3 c = subst (Passes _ false own _ _) (c .before .end2 .given .1) (c .before .before .before .mark2 .ensures)
 
 returns-4 : tie.Need-returns-4
-unfolding tokenCode
+unfolding operandBehind
 returns-4 c =
-    link-other (lexed _ _ _ (c .before .before .before .pre) (c .before .next-token .ensures))
-    (told (0 ∷ 1 ∷ 2 ∷ 3 ∷ 4 ∷ 5 ∷ 8 ∷ 9 ∷ 10 ∷ 11 ∷ 12 ∷ 13 ∷ 14 ∷ 15 ∷ 16 ∷ 17 ∷ 18 ∷ 19 ∷ []) (c .match .keys3) tt)
-    (λ l. told (0 ∷ 1 ∷ 2 ∷ 3 ∷ 4 ∷ 5 ∷ 8 ∷ 9 ∷ 10 ∷ 11 ∷ 12 ∷ 13 ∷ 14 ∷ 15 ∷ 16 ∷ 17 ∷ 18 ∷ 19 ∷ []) (c .match .keys3) tt)
+    let s = c .before .before .before in
+    link-other (subst (PassesLetter _ _ _) (s .enum-told2 .given .1) (s .before .before .letter .ensures _))
+    (subst (Passes _ false own _ _) (c .enum-told3 .given .1) (c .before .before .mark2 .ensures))
 
 pub first-link-spec : {M : Type 1} → statement M
 first-link-spec =
     tie.close
     (tie.spec
-    next-token-requires
-    enum-told
-    enum-known-token
+    letter-requires
+    enum-known-letter
     mark-requires
     enum-known-end
+    enum-told
     enum-told-2
+    mark-requires-2
+    enum-known-end-2
+    enum-told-3
     returns
     returns-2
     returns-3
