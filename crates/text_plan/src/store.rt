@@ -5,20 +5,59 @@ ghost use lib.ListN.{length};
 ghost use Rattle.plan_lines.specs.Held.{planOf};
 ghost use Rattle.text_growth.specs.Growth.{Sound, addedOf};
 ghost use Rattle.text_state.specs.State.{frameOf};
-ghost use Rattle.text_plan.specs.Store.{LineFits, LinePlanned, FrameStored};
+ghost use Rattle.text_plan.specs.Store.{emptySlot, LineFits, LinePlanned, FrameStored};
 use crate::plan_rule;
 use plan_lines::Plan;
 use program::frame::Frame;
 use program::location::Located;
+use program::location::Location;
+use program::location::Locations;
+use program::location::Places;
+use program::rule::Rule;
+use program::rule::Slot;
+use program::rule::Test;
+use program::setting::Setting;
+use program::term::Term;
 use text_rules::line::LineRead;
 use text_state::state;
 use text_state::state::State;
 
-// A rule at its place; the frame of a step, which the line closes or marks as the last of its loop; or nothing.
+// A rule at its place, or the frame of a step: the one that the line closes, or the last of its loop. Any other line leaves
+// the first frame as it is.
 pub enum Store {
     Rule(usize, Located),
-    Frame(usize, bool),
-    Nothing,
+    Frame(usize),
+}
+
+// A place that holds no rule.
+pub fn empty_slot() -> Located
+    ensures { λ r. ⌜ r .slot ≡ emptySlot ⌝ }
+{
+    let slot = Slot {
+        test: Test::Always,
+        rule: Rule::Set(0, Term::Number(0)),
+    };
+    let own = Places {
+        first: Location::Own,
+        second: Location::Own,
+    };
+    let at = Locations {
+        test: own,
+        rule: own,
+    };
+    Located { slot, at }
+}
+
+// The frame of no step.
+pub fn empty_frame() -> Frame {
+    Frame {
+        rules: 0,
+        remote: false,
+        fields: [false; 16],
+        setting: Setting::Single,
+        plan: Plan::empty(),
+        wanted: [false; 64],
+    }
 }
 
 // What a line leaves. The plan of the open step grows by its rule.
@@ -61,11 +100,11 @@ pub fn plan_line(
             );
             Store::Rule(state::place(state), Located { slot, at })
         }
-        LineRead::End => Store::Frame(state.steps, true),
-        LineRead::Done => Store::Frame(state.steps - 1, false),
-        LineRead::Step => Store::Nothing,
-        LineRead::Loop(_, _) => Store::Nothing,
-        LineRead::NoForm => Store::Nothing,
+        LineRead::End => Store::Frame(state.steps),
+        LineRead::Done => Store::Frame(state.steps - 1),
+        LineRead::Step => Store::Frame(0),
+        LineRead::Loop(_, _) => Store::Frame(0),
+        LineRead::NoForm => Store::Frame(0),
     }
 }
 
@@ -99,10 +138,10 @@ fn close(
     frame
 }
 
-// The frame of a step that a line closes, or of the last step of a loop, where `last` is its frame so far.
-pub fn frame(
-    last: Frame,
-    closes: bool,
+// The frame that a line leaves in place of `frame`.
+pub fn frame_behind(
+    frame: Frame,
+    read: LineRead,
     state: State,
     keys: &[u64; 64],
     rounds: &[u8; 64],
@@ -111,12 +150,16 @@ pub fn frame(
     count: &mut usize,
     wanted: &mut [bool; 64],
 ) -> Frame
-    ensures { λ r. ⌜ FrameStored closes last state
+    ensures { λ r. ⌜ FrameStored frame state
         (planOf (now (keys .entry)) (now (rounds .entry)) (now (backs .entry)) (now (reads .entry)) (now (count .entry))) (now (wanted .entry))
-        (now (count .exit)) (now (wanted .exit)) r ⌝ }
+        (now (count .exit)) (now (wanted .exit)) read r ⌝ }
 {
-    if closes {
-        return close(state, keys, rounds, backs, reads, count, wanted);
+    match read {
+        LineRead::Step => frame,
+        LineRead::End => close(state, keys, rounds, backs, reads, count, wanted),
+        LineRead::Done => state::last_frame(frame),
+        LineRead::Loop(_, _) => frame,
+        LineRead::Rule(_, _) => frame,
+        LineRead::NoForm => frame,
     }
-    state::last_frame(last)
 }

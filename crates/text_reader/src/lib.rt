@@ -1,24 +1,12 @@
 // The text reader: one loop over the lines that holds the program and the open step's plan. The arrays for the codes of
 // expressions are lent to it.
-ghost use mathlib.Core.Path.{_≡_};
 ghost use Prim.Native.Nat.{_≤_};
 ghost use lib.ListN.{length};
 ghost use Rattle.program.specs.Code.{codesKept};
 ghost use Rattle.register.specs.Shape.{Limits};
 ghost use Rattle.text_rules.specs.Text.{lines, start as startOf, readFrom};
-ghost use Rattle.text_reader.specs.Answers.{emptySlot, CodeArrays, Answers};
-use plan_lines::Plan;
+ghost use Rattle.text_reader.specs.Answers.{CodeArrays, Answers};
 use program::Program;
-use program::frame::Frame;
-use program::location::Located;
-use program::location::Location;
-use program::location::Locations;
-use program::location::Places;
-use program::rule::Rule;
-use program::rule::Slot;
-use program::rule::Test;
-use program::setting::Setting;
-use program::term::Term;
 use register::Sizes;
 use text_judge::next_line;
 use text_plan::store;
@@ -30,37 +18,6 @@ pub struct Checked {
     pub refusal: u32,
     pub line: usize,
     pub program: Program,
-}
-
-// A place that holds no rule.
-fn empty_slot() -> Located
-    ensures { λ r. ⌜ r .slot ≡ emptySlot ⌝ }
-{
-    let slot = Slot {
-        test: Test::Always,
-        rule: Rule::Set(0, Term::Number(0)),
-    };
-    let own = Places {
-        first: Location::Own,
-        second: Location::Own,
-    };
-    let at = Locations {
-        test: own,
-        rule: own,
-    };
-    Located { slot, at }
-}
-
-// The frame of no step.
-fn empty_frame() -> Frame {
-    Frame {
-        rules: 0,
-        remote: false,
-        fields: [false; 16],
-        setting: Setting::Single,
-        plan: Plan::empty(),
-        wanted: [false; 64],
-    }
 }
 
 // The program of the lines of a text, the codes of its expressions in the lent arrays. The plan of the open step is held
@@ -84,8 +41,8 @@ pub fn read_lines(
     let mut count = 0;
     let mut full = false;
     let mut wanted = [false; 64];
-    let mut slots = [empty_slot(); 1024];
-    let mut frames = [empty_frame(); 32];
+    let mut slots = [store::empty_slot(); 1024];
+    let mut frames = [store::empty_frame(); 32];
     let mut state = state::start();
     let mut codes = 0;
     let mut at = 0;
@@ -115,10 +72,10 @@ pub fn read_lines(
         );
         match stores {
             Store::Rule(place, located) => slots[place] = located,
-            Store::Frame(step, closes) => {
-                frames[step] = store::frame(
+            Store::Frame(step) => {
+                frames[step] = store::frame_behind(
                     frames[step],
-                    closes,
+                    read,
                     state,
                     &keys,
                     &rounds,
@@ -128,7 +85,6 @@ pub fn read_lines(
                     &mut wanted,
                 )
             }
-            Store::Nothing => {}
         }
         state = state::advance(state, lines, read);
         codes = next.codes;
