@@ -53,7 +53,7 @@ pub record PlanSame (p : Added) (wanted : List Bool) (places : List ℕ) (p′ :
   pub same-places : places′ ≡ places
 
 module _ (kinds chains : List ℕ) (x : State) (p : Added) (wanted : List Bool) (places : List ℕ) (p′ : Added) (wanted′ : List Bool) (places′ : List ℕ) where
-  -- `end` closes the open step, and `done` marks the last one
+  -- `end` closes the open step, and `done` marks the last step of its loop; where no frame changes, the first one is named
   abbrev pub LineLeaves : LineRead → Store → Type 0
   LineLeaves L.Step r = PlanSame p wanted places p′ wanted′ places′ (W.Frame 0) r
   LineLeaves L.End r = PlanSame p wanted places p′ wanted′ places′ (W.Frame (x .steps)) r

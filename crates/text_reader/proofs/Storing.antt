@@ -24,7 +24,8 @@ use Rattle.text_state.specs.State.{advanceOf}
 use Rattle.text_state.specs.declared.state.State as S
 use Rattle.text_reader.specs.Answers.{CodeArrays}
 use Rattle.text_reader.proofs.Arms.{Behind}
-use Rattle.text_reader.proofs.Reading.{Read, Passes, small, arm-step, arm-loop, arm-none, arm-end-steps, arm-end, arm-done-steps, arm-done, arm-steps, arm-rules, arm-short, arm-inside, arm-rule}
+use Rattle.text_reader.proofs.Reading.{Read, Passes, small, arm-step, arm-loop, arm-none, arm-end-steps, arm-end, arm-done-steps, arm-done}
+use Rattle.text_reader.proofs.Reading.{arm-steps, arm-rules, arm-short, arm-inside, arm-rule}
 
 -- a rule and a frame are not the same
 no-rule : {A : Type 0} {v : Store} {i j : ℕ} {y : Located} → v ≡ W.Rule i y → v ≡ W.Frame j → A
