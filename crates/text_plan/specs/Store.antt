@@ -1,7 +1,7 @@
 -- What a line that has passed leaves to be stored.
 use Prim.Native.Nat.{ℕ, _+_, _-_, _*_, _≤_}
 use mathlib.Core.Path.{_≡_}
-use mathlib.Core.Bool.{Bool}
+use mathlib.Core.Bool.{Bool, true, false}
 use mathlib.Core.List.{List}
 use lib.IntN.{pos}
 use lib.ListN.{length}
@@ -53,27 +53,19 @@ pub record PlanSame (p : Added) (wanted : List Bool) (places : List ℕ) (p′ :
   pub same-places : places′ ≡ places
 
 module _ (kinds chains : List ℕ) (x : State) (p : Added) (wanted : List Bool) (places : List ℕ) (p′ : Added) (wanted′ : List Bool) (places′ : List ℕ) where
-  -- `end` closes the open step, and `done` marks the last step of its loop; where no frame changes, the first one is named
+  -- `end` closes the open step, and `done` marks the last step of its loop
   abbrev pub LineLeaves : LineRead → Store → Type 0
-  LineLeaves L.Step r = PlanSame p wanted places p′ wanted′ places′ (W.Frame 0) r
-  LineLeaves L.End r = PlanSame p wanted places p′ wanted′ places′ (W.Frame (x .steps)) r
-  LineLeaves L.Done r = PlanSame p wanted places p′ wanted′ places′ (W.Frame (x .steps - 1)) r
-  LineLeaves (L.Loop f named) r = PlanSame p wanted places p′ wanted′ places′ (W.Frame 0) r
+  LineLeaves L.Step r = PlanSame p wanted places p′ wanted′ places′ W.Nothing r
+  LineLeaves L.End r = PlanSame p wanted places p′ wanted′ places′ (W.Frame (x .steps) true) r
+  LineLeaves L.Done r = PlanSame p wanted places p′ wanted′ places′ (W.Frame (x .steps - 1) false) r
+  LineLeaves (L.Loop f named) r = PlanSame p wanted places p′ wanted′ places′ W.Nothing r
   LineLeaves (L.Rule y c) r = RuleStored kinds chains x p wanted places p′ wanted′ places′ y r
-  LineLeaves L.NoForm r = PlanSame p wanted places p′ wanted′ places′ (W.Frame 0) r
+  LineLeaves L.NoForm r = PlanSame p wanted places p′ wanted′ places′ W.Nothing r
 
   pub record LinePlanned (l : LineRead) (r : Store) : Type 0 where
     pub leaves : LineLeaves l r
 
--- a line that leaves a frame, and what is planned and wanted, as they are
-abbrev FrameSame : Frame → Plan → List Bool → ℕ → List Bool → Frame → Type 0
-FrameSame f plan wanted n marks r = (r ≡ f) × (n ≡ plan .count) × (marks ≡ wanted)
-
--- the frame in place of f; n and marks are what is planned and wanted behind it
-abbrev pub FrameStored : Frame → State → Plan → List Bool → ℕ → List Bool → LineRead → Frame → Type 0
-FrameStored f x plan wanted n marks L.Step r = FrameSame f plan wanted n marks r
-FrameStored f x plan wanted n marks L.End r = (r ≡ frameOf x plan wanted) × (n ≡ 0) × (length marks ≡ 64)
-FrameStored f x plan wanted n marks L.Done r = FrameSame (lastFrame f) plan wanted n marks r
-FrameStored f x plan wanted n marks (L.Loop g named) r = FrameSame f plan wanted n marks r
-FrameStored f x plan wanted n marks (L.Rule y c) r = FrameSame f plan wanted n marks r
-FrameStored f x plan wanted n marks L.NoForm r = FrameSame f plan wanted n marks r
+-- the frame that is stored; n and marks are what is planned and wanted behind it
+abbrev pub FrameStored : Bool → Frame → State → Plan → List Bool → ℕ → List Bool → Frame → Type 0
+FrameStored true last x plan wanted n marks r = (r ≡ frameOf x plan wanted) × (n ≡ 0) × (length marks ≡ 64)
+FrameStored false last x plan wanted n marks r = (r ≡ lastFrame last) × (n ≡ plan .count) × (marks ≡ wanted)

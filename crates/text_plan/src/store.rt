@@ -22,11 +22,11 @@ use text_rules::line::LineRead;
 use text_state::state;
 use text_state::state::State;
 
-// A rule at its place, or the frame of a step: the one that the line closes, or the last of its loop. Any other line leaves
-// the first frame as it is.
+// A rule at its place; the frame of a step, which the line closes or marks as the last of its loop; or nothing.
 pub enum Store {
     Rule(usize, Located),
-    Frame(usize),
+    Frame(usize, bool),
+    Nothing,
 }
 
 // A place that holds no rule.
@@ -100,11 +100,11 @@ pub fn plan_line(
             );
             Store::Rule(state::place(state), Located { slot, at })
         }
-        LineRead::End => Store::Frame(state.steps),
-        LineRead::Done => Store::Frame(state.steps - 1),
-        LineRead::Step => Store::Frame(0),
-        LineRead::Loop(_, _) => Store::Frame(0),
-        LineRead::NoForm => Store::Frame(0),
+        LineRead::End => Store::Frame(state.steps, true),
+        LineRead::Done => Store::Frame(state.steps - 1, false),
+        LineRead::Step => Store::Nothing,
+        LineRead::Loop(_, _) => Store::Nothing,
+        LineRead::NoForm => Store::Nothing,
     }
 }
 
@@ -138,10 +138,10 @@ fn close(
     frame
 }
 
-// The frame that a line leaves in place of `frame`.
-pub fn frame_behind(
-    frame: Frame,
-    read: LineRead,
+// The frame of a step that a line closes, or of the last step of a loop, where `last` is its frame so far.
+pub fn frame(
+    last: Frame,
+    closes: bool,
     state: State,
     keys: &[u64; 64],
     rounds: &[u8; 64],
@@ -150,16 +150,12 @@ pub fn frame_behind(
     count: &mut usize,
     wanted: &mut [bool; 64],
 ) -> Frame
-    ensures { λ r. ⌜ FrameStored frame state
+    ensures { λ r. ⌜ FrameStored closes last state
         (planOf (now (keys .entry)) (now (rounds .entry)) (now (backs .entry)) (now (reads .entry)) (now (count .entry))) (now (wanted .entry))
-        (now (count .exit)) (now (wanted .exit)) read r ⌝ }
+        (now (count .exit)) (now (wanted .exit)) r ⌝ }
 {
-    match read {
-        LineRead::Step => frame,
-        LineRead::End => close(state, keys, rounds, backs, reads, count, wanted),
-        LineRead::Done => state::last_frame(frame),
-        LineRead::Loop(_, _) => frame,
-        LineRead::Rule(_, _) => frame,
-        LineRead::NoForm => frame,
+    if closes {
+        return close(state, keys, rounds, backs, reads, count, wanted);
     }
+    state::last_frame(last)
 }

@@ -72,10 +72,10 @@ pub fn read_lines(
         );
         match stores {
             Store::Rule(place, located) => slots[place] = located,
-            Store::Frame(step) => {
-                frames[step] = store::frame_behind(
+            Store::Frame(step, closes) => {
+                frames[step] = store::frame(
                     frames[step],
-                    read,
+                    closes,
                     state,
                     &keys,
                     &rounds,
@@ -85,6 +85,7 @@ pub fn read_lines(
                     &mut wanted,
                 )
             }
+            Store::Nothing => {}
         }
         state = state::advance(state, lines, read);
         codes = next.codes;

@@ -18,7 +18,7 @@ use Rattle.text_reader.specs.Answers.{CodeArrays}
 use Rattle.text_reader.proofs.Opening.{none-held}
 use Rattle.text_reader.proofs.Arms.{Behind}
 use Rattle.text_reader.proofs.Reading.{Read, Passes, passes, stopped, small, room, again, answer-refused, answer-read, begun}
-use Rattle.text_reader.proofs.Storing.{fits, rule-below, frame-below, behind-rule, behind-frame}
+use Rattle.text_reader.proofs.Storing.{fits, rule-below, frame-below, behind-rule, behind-frame, behind-none}
 use Rattle.text_refusals.proofs.Refusals.{or-first, or-none}
 use borrow.Author.Needs.{needs}
 use Rattle.text_reader.proofs.read_lines.Statement.{statement}
@@ -137,7 +137,8 @@ joined c =
     let n = so-far d .loop .count in
     let h = a .plan-line .ensures in
     ⊎-elim (λ w. rw (w .3, w .4, w .5, w .6) (behind-rule (limits d) (passed d) n h (w .1 .given .1)))
-    (λ w. rw (w .11, w .12, w .13, w .14) (behind-frame (limits d) (passed d) n h (w .1 .given .1) _ _ (w .10 .ensures)))
+    (⊎-elim (λ w. rw (w .11, w .12, w .13, w .14) (behind-frame (limits d) (passed d) n h (w .1 .given .1) _ _ (w .10 .ensures)))
+    (λ w. rw (w .2, w .3, w .4, w .5) (behind-none (limits d) (passed d) n h (w .1 .given .1))))
     (c .match .came)
 
 empty-slot-requires : tie.Need-empty-slot-requires Inv-loop μ-loop
@@ -179,20 +180,23 @@ array-set-from-slots c = rule-place (c .before)
 enum-known-stores-2 : tie.Need-enum-known-stores-2 Inv-loop μ-loop
 enum-known-stores-2 c = search needs
 
-mul-frame-behind : tie.Need-mul-frame-behind Inv-loop μ-loop
-mul-frame-behind c = record { fits = omega (arith, frame-place (c .before)) }
+mul-frame : tie.Need-mul-frame Inv-loop μ-loop
+mul-frame c = record { fits = omega (arith, frame-place (c .before)) }
 
-array-copy-out-frame-behind : tie.Need-array-copy-out-frame-behind Inv-loop μ-loop
-array-copy-out-frame-behind c = frame-place (c .before)
+array-copy-out-frame : tie.Need-array-copy-out-frame Inv-loop μ-loop
+array-copy-out-frame c = frame-place (c .before)
 
-frame-behind-requires : tie.Need-frame-behind-requires Inv-loop μ-loop
-frame-behind-requires c κs = tt
+frame-requires : tie.Need-frame-requires Inv-loop μ-loop
+frame-requires c κs = tt
 
 mul-frames : tie.Need-mul-frames Inv-loop μ-loop
 mul-frames c = record { fits = omega (arith, frame-place (c .before .before .before .before .before .before .before .before .before)) }
 
 array-set-from-frames : tie.Need-array-set-from-frames Inv-loop μ-loop
 array-set-from-frames c = frame-place (c .before .before .before .before .before .before .before .before .before)
+
+enum-told : tie.Need-enum-told Inv-loop μ-loop
+enum-told c = search needs
 
 advance-requires : tie.Need-advance-requires Inv-loop μ-loop
 advance-requires c κs = small (so-far (line-of (plan-at (c .before))) .loop .inv .0)
@@ -271,11 +275,12 @@ read-lines-spec =
     mul-slots
     array-set-from-slots
     enum-known-stores-2
-    mul-frame-behind
-    array-copy-out-frame-behind
-    frame-behind-requires
+    mul-frame
+    array-copy-out-frame
+    frame-requires
     mul-frames
     array-set-from-frames
+    enum-told
     advance-requires
     add-at
     add-line
