@@ -1,6 +1,6 @@
 -- What `finish` leaves on each way.
 use Prim.Native.Nat.{ℕ, _+_}
-use mathlib.Core.Path.{_≡_, refl, sym, _∙_}
+use mathlib.Core.Path.{_≡_, refl, _∙_}
 use mathlib.Core.Bool.{Bool, true}
 use mathlib.Core.List.{List}
 use native.Mathlib.Omega.{arith}
@@ -28,13 +28,13 @@ sends-nowhere (At u c) remote h = true-false h refl
 module _ {m : Machine} {s : Sizes} {at : ℕ} {fields : List Bool} {g : Setting} {begun : Begun} {remote : Bool} {sent : ℕ}
     {values : List ℤ} {marks : List ℕ} {file file′ : List ℕ} {stop : Stop} {run r : Progress} where
   -- the step has stopped before
-  pub stops-before : {u c : ℕ} → stop ≡ At u c → file′ ≡ file → r ≡ stoppedAs stop run
+  pub stops-before : {u c : ℕ} → stop ≡ At u c → file′ ≡ file → r ≡ stoppedAs stop run (run .counts)
       → FinishedBy stop m s at fields g begun remote sent values marks file file′ run r
   stops-before h f q = record { ended = λ e. not-both e h; stays = λ u c e. (f, rw e at q) }
 
   -- a total is out of range
   pub stops-total : (total : Stop) {u c : ℕ} → stop ≡ Nowhere → Committed s (at + s .records) fields values marks file file′ total → total ≡ At u c
-      → r ≡ stoppedAs total run → FinishedBy stop m s at fields g begun remote sent values marks file file′ run r
+      → r ≡ stoppedAs total run (run .counts) → FinishedBy stop m s at fields g begun remote sent values marks file file′ run r
   stops-total total e h t q = record {
     ended = λ n. rw q (record { committed = h; counted = λ w. not-both w t; uncounted = λ u c w. rw w refl });
     stays = λ u c w. not-both e w;

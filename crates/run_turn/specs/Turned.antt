@@ -46,9 +46,9 @@ abbrev pub sendsBy : Stop → Bool → Bool
 sendsBy Nowhere remote = remote
 sendsBy (At u c) remote = false
 
--- a run whose step stops
-abbrev pub stoppedAs : Stop → Progress → Progress
-stoppedAs stop run = record { stop = stop; step = run .step; first = run .first; finished = run .finished; counts = run .counts }
+-- a run whose step stops, with these counts
+abbrev pub stoppedAs : Stop → Progress → Counts → Progress
+stoppedAs stop run counts = record { stop = stop; step = run .step; first = run .first; finished = run .finished; counts = counts }
 
 -- what a step that has not stopped asks for at its end
 pub record Ready (s : Sizes) (at : ℕ) (g : Setting) (begun : Begun) (sent : ℕ) (values : List ℤ) (marks : List ℕ) (file : List ℕ) (run : Progress) : Type 0 where
@@ -79,10 +79,10 @@ pub record Ended (m : Machine) (s : Sizes) (at : ℕ) (fields : List Bool) (g : 
     (values : List ℤ) (marks : List ℕ) (file file′ : List ℕ) (run r : Progress) : Type 0 where
   pub committed : Committed s (at + s .records) fields values marks file file′ (r .stop)
   pub counted : r .stop ≡ Nowhere → Counted m s at g begun remote sent values marks file′ run r
-  pub uncounted : (u c : ℕ) → r .stop ≡ At u c → r ≡ stoppedAs (At u c) run
+  pub uncounted : (u c : ℕ) → r .stop ≡ At u c → r ≡ stoppedAs (At u c) run (run .counts)
 
 -- where the step has not stopped before
 pub record FinishedBy (stop : Stop) (m : Machine) (s : Sizes) (at : ℕ) (fields : List Bool) (g : Setting) (begun : Begun) (remote : Bool) (sent : ℕ)
     (values : List ℤ) (marks : List ℕ) (file file′ : List ℕ) (run r : Progress) : Type 0 where
   pub ended : stop ≡ Nowhere → Ended m s at fields g begun remote sent values marks file file′ run r
-  pub stays : (u c : ℕ) → stop ≡ At u c → (file′ ≡ file) × (r ≡ stoppedAs (At u c) run)
+  pub stays : (u c : ℕ) → stop ≡ At u c → (file′ ≡ file) × (r ≡ stoppedAs (At u c) run (run .counts))

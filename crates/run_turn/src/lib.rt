@@ -100,11 +100,10 @@ pub fn sends(stop: Stop, remote: bool) -> bool
     remote
 }
 
-// A step that stops is not counted.
-fn stopped(stop: Stop, run: Progress) -> Progress
-    ensures { λ r. ⌜ r ≡ stoppedAs stop run ⌝ }
+// A run whose step stops, with the counts of the steps before it.
+fn stopped(stop: Stop, run: Progress, counts: Counts) -> Progress
+    ensures { λ r. ⌜ r ≡ stoppedAs stop run counts ⌝ }
 {
-    let counts = run.counts;
     Progress {
         stop,
         step: run.step,
@@ -134,15 +133,15 @@ pub fn finish(
     ensures { λ r. ⌜ FinishedBy stop machine sizes at fields setting begun remote sent (now (values .entry)) (now (marks .entry))
         (now (out .entry)) (now (out .exit)) run r ⌝ }
 {
+    let before = run.counts;
+    let gathered = begun.gathered;
     if let Stop::At(_, _) = stop {
-        return stopped(stop, run);
+        return stopped(stop, run, before);
     }
     let total = step_commit::commit(out, values, marks, sizes, at + sizes.records, fields);
     if let Stop::At(_, _) = total {
-        return stopped(total, run);
+        return stopped(total, run, before);
     }
-    let before = run.counts;
-    let gathered = begun.gathered;
     let counts = counts::count(machine, before, gathered, remote, sent);
     let first = begun.first;
     let step = run_loop::next(out, values, marks, sizes, at, setting, run.step, first);

@@ -14,7 +14,7 @@ abbrev Local : Type 0
 Local = tie.After-enum-told2
 
 abbrev entry : Local → tie.Start
-entry c = c .before .before .before .before
+entry c = c .before .before .before .before .before .before
 
 at-end : (c : Local) → let a = entry c .args in
     Ready (a .sizes) (a .at) (a .setting) (a .begun) (a .sent) (now (a .values)) (now (a .marks)) (now (a .out)) (a .run)
@@ -28,9 +28,6 @@ abbrev committed : tie.After-slice-known2 → tie.After-commit
 committed c = c .before .before
 
 -- no total is out of range
-abbrev through : tie.After-gathered → tie.After-enum-told4
-through c = c .before .before
-
 abbrev committedOf : tie.After-enum-told4 → tie.After-commit
 committedOf c = committed (c .before .before)
 
@@ -71,11 +68,11 @@ enum-told-4 : tie.Need-enum-told-4
 enum-told-4 c = search needs
 
 count-requires : tie.Need-count-requires
-count-requires c κs = at-end (local (committedOf (through c))) .counts-small
+count-requires c κs = at-end (local (committedOf c)) .counts-small
 
 next-requires : tie.Need-next-requires
 next-requires c κs =
-    let done = committedOf (through (c .before .before)) in
+    let done = committedOf (c .before .before) in
     let r = at-end (local done) in (
       r .limits,
       done .commit .kept .0 ∙ r .whole,
@@ -87,7 +84,7 @@ next-requires c κs =
 
 add-t25 : tie.Need-add-t25
 add-t25 c =
-    let r = at-end (local (committedOf (through (c .before .before .before .before)))) in
+    let r = at-end (local (committedOf (c .before .before .before .before))) in
     record { fits = omega (arith, r .few-finished) }
 
 same-length-2 : tie.Need-same-length-2
@@ -96,7 +93,7 @@ same-length-2 c = search needs
 returns-3 : tie.Need-returns-3
 returns-3 c =
     let counted = c .before .before .before in
-    let told = through (counted .before) in
+    let told = counted .before in
     let done = committedOf told in
     counts-step _ (local done .enum-told2 .given .1) (done .commit .ensures) (told .enum-told4 .given .1) refl
     (record { first-is = refl; finished-is = omega arith; counts-are = counted .count .ensures; next = c .before .next .ensures })
