@@ -1,6 +1,5 @@
 // The run of a program, by either machine: step after step, within the budget.
 ghost use Prim.Native.Nat.{_+_, _*_};
-ghost use mathlib.Core.Path.{_≡_};
 ghost use Rattle.register.specs.File.{cellsOfFile};
 ghost use Rattle.register.specs.Shape.{Register};
 ghost use Rattle.step_cells.specs.Work.{HoldsCells};
