@@ -36,7 +36,7 @@ use Rattle.step_commit.specs.Committed.{isWritten, AllCommitted, Committed}
 use Rattle.step_commit.proofs.Committing.{stop-first, committed-in-range, committed-file}
 use Rattle.run_turn.specs.declared.Progress.{Progress}
 use Rattle.run_turn.specs.declared.Begun.{Begun}
-use Rattle.run_turn.specs.Turned.{sendsBy, Ready, Counted, FinishedBy}
+use Rattle.run_turn.specs.Turned.{sendsBy, EndReady, StepCounted, FinishedBy}
 use Rattle.run_turn.proofs.Turning.{not-both}
 use Rattle.run_steps.specs.Answer.{stoppedAt, Ends}
 use Rattle.run_steps.proofs.Bounds.{few-more, writes-few}
@@ -139,7 +139,7 @@ module _ {m : Machine} {s : Sizes} {codes : Codes} {chained : List ℕ} {p : R.P
     sent-few = writes-few (direct s (rs a) (cells a)) (rs a) (s .records) sent (step-passes a .rules .few) (limits a .records≤) (d .all e .sent-is)
 
     -- what the end of the step asks for
-    pub ready : budget < 65536 → Ready s (at a) (frame a .setting) begun sent values₄ marks₄ out run
+    pub ready : budget < 65536 → EndReady s (at a) (frame a .setting) begun sent values₄ marks₄ out run
     ready h =
         let few = a .stands .few in
         record {
@@ -162,7 +162,7 @@ module _ {m : Machine} {s : Sizes} {codes : Codes} {chained : List ℕ} {p : R.P
 
     -- the step went through, and this is where the run stands then
     next-stands : {r : Progress} {out′ : List ℕ} → AllCommitted s (base a) (frame a .fields) values₄ marks₄ out out′ → length out′ ≡ length out
-        → Counted m s (at a) (frame a .setting) begun (frame a .remote) sent values₄ marks₄ out′ run r
+        → StepCounted m s (at a) (frame a .setting) begun (frame a .remote) sent values₄ marks₄ out′ run r
         → Stands m s (programOf codes p) (at a) budget file (r .step) (r .first) (r .finished) (r .counts) out′ values₄ marks₄
     next-stands h n c =
         let t = a .stands in

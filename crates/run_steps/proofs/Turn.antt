@@ -40,7 +40,7 @@ use Rattle.step_cells.specs.declared.stop.Stop.the-variants.{Nowhere}
 use Rattle.run_loop.specs.Column.{Space}
 use Rattle.run_turn.specs.declared.Progress.{Progress}
 use Rattle.run_turn.specs.declared.Begun.{Begun}
-use Rattle.run_turn.specs.Turned.{Begins}
+use Rattle.run_turn.specs.Turned.{TurnBegun}
 use Rattle.gather_exchanges.specs.Lines.{StepPlanned}
 use Rattle.run_steps.proofs.Arrays.{noFrame, StepAt, step-at, slotsAt, slots-length, slot-at, taken-next}
 use Rattle.run_steps.proofs.Finding.{LinesHold, filled-lines, all-ready}
@@ -198,7 +198,7 @@ module _ {m : Machine} {s : Sizes} {codes : Codes} {chained : List ℕ} {p : R.P
   -- the rules are all taken out, the pass is entered and the readings are gathered
   pub record Prepared (places : List Located) (values₂ : List ℤ) (marks₂ : List ℕ) (begun : Begun) : Type 0 where
     pub taken : Taken (p .slots) (run .step) (frame .rules) places (frame .rules)
-    pub begins : Begins m s at (frame .setting) cells (facts (frame .plan)) (frame .wanted) values marks values₂ marks₂ run begun
+    pub begins : TurnBegun m s at (frame .setting) cells (facts (frame .plan)) (frame .wanted) values marks values₂ marks₂ run begun
 
 -- then the step can be run
 module _ {m : Machine} {s : Sizes} {codes : Codes} {chained : List ℕ} {p : R.Program} {budget : ℕ} {file : List ℕ} {run : Progress}

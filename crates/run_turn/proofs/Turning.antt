@@ -14,7 +14,7 @@ use Rattle.step_cells.specs.declared.stop.Stop.the-variants.{Nowhere, At}
 use Rattle.step_commit.specs.Committed.{Committed}
 use Rattle.run_turn.specs.declared.Progress.{Progress}
 use Rattle.run_turn.specs.declared.Begun.{Begun}
-use Rattle.run_turn.specs.Turned.{sendsBy, stoppedAs, Counted, FinishedBy}
+use Rattle.run_turn.specs.Turned.{sendsBy, stoppedAs, StepCounted, FinishedBy}
 
 -- what stops somewhere does not stop nowhere
 pub not-both : {A : Type 0} {stop : Stop} {u c : ℕ} → stop ≡ Nowhere → stop ≡ At u c → A
@@ -42,7 +42,7 @@ module _ {m : Machine} {s : Sizes} {at : ℕ} {fields : List Bool} {g : Setting}
 
   -- none is
   pub counts-step : (total : Stop) → stop ≡ Nowhere → Committed s (at + s .records) fields values marks file file′ total → total ≡ Nowhere → r .stop ≡ stop
-      → Counted m s at g begun remote sent values marks file′ run r → FinishedBy stop m s at fields g begun remote sent values marks file file′ run r
+      → StepCounted m s at g begun remote sent values marks file′ run r → FinishedBy stop m s at fields g begun remote sent values marks file file′ run r
   counts-step total e h t q c = record {
     ended = λ n. record { committed = rw (q, e) (rw t at h); counted = λ w. c; uncounted = λ u c w. not-both (q ∙ e) w };
     stays = λ u c w. not-both e w;

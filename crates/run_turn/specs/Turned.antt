@@ -33,7 +33,7 @@ pub record GoesOn (run : Progress) (steps budget : ℕ) (r : Bool) : Type 0 wher
   pub ends : r ≡ false → run .stop ≡ Nowhere → run .step < steps → run .finished ≡ budget
 
 -- the pass is entered, and then the readings are gathered
-pub record Begins (m : Machine) (s : Sizes) (at : ℕ) (g : Setting) (cells : List Cell) (l : List Fact) (wanted : List Bool)
+pub record TurnBegun (m : Machine) (s : Sizes) (at : ℕ) (g : Setting) (cells : List Cell) (l : List Fact) (wanted : List Bool)
     (values : List ℤ) (marks : List ℕ) (values′ : List ℤ) (marks′ : List ℕ) (run : Progress) (r : Begun) : Type 0 where
   pub values₁ : List ℤ
   pub marks₁ : List ℕ
@@ -51,7 +51,7 @@ abbrev pub stoppedAs : Stop → Progress → Counts → Progress
 stoppedAs stop run counts = record { stop = stop; step = run .step; first = run .first; finished = run .finished; counts = counts }
 
 -- what a step that has not stopped asks for at its end
-pub record Ready (s : Sizes) (at : ℕ) (g : Setting) (begun : Begun) (sent : ℕ) (values : List ℤ) (marks : List ℕ) (file : List ℕ) (run : Progress) : Type 0 where
+pub record EndReady (s : Sizes) (at : ℕ) (g : Setting) (begun : Begun) (sent : ℕ) (values : List ℤ) (marks : List ℕ) (file : List ℕ) (run : Progress) : Type 0 where
   pub limits : Limits s
   pub whole : length file ≡ 12 + 5 * cellCount s
   pub setting-passes : SettingPasses s g
@@ -64,10 +64,10 @@ pub record Ready (s : Sizes) (at : ℕ) (g : Setting) (begun : Begun) (sent : �
       × (begun .gathered .exchanges ≤ 65536) × (begun .gathered .messages ≤ 1048576) × (sent ≤ 1048576)
 
 abbrev pub AtEnd : Stop → Sizes → ℕ → Setting → Begun → ℕ → List ℤ → List ℕ → List ℕ → Progress → Type 0
-AtEnd stop s at g begun sent values marks file run = stop ≡ Nowhere → Ready s at g begun sent values marks file run
+AtEnd stop s at g begun sent values marks file run = stop ≡ Nowhere → EndReady s at g begun sent values marks file run
 
 -- the step is counted, and the next one found
-pub record Counted (m : Machine) (s : Sizes) (at : ℕ) (g : Setting) (begun : Begun) (remote : Bool) (sent : ℕ)
+pub record StepCounted (m : Machine) (s : Sizes) (at : ℕ) (g : Setting) (begun : Begun) (remote : Bool) (sent : ℕ)
     (values : List ℤ) (marks : List ℕ) (file : List ℕ) (run r : Progress) : Type 0 where
   pub first-is : r .first ≡ begun .first
   pub finished-is : r .finished ≡ suc (run .finished)
@@ -75,14 +75,14 @@ pub record Counted (m : Machine) (s : Sizes) (at : ℕ) (g : Setting) (begun : B
   pub next : NextIs s g (cellsOfFile s file) at values marks (run .step) (begun .first) (r .step)
 
 -- the cells are committed to the file and the step is counted, or a total is out of range
-pub record Ended (m : Machine) (s : Sizes) (at : ℕ) (fields : List Bool) (g : Setting) (begun : Begun) (remote : Bool) (sent : ℕ)
+pub record StepEnded (m : Machine) (s : Sizes) (at : ℕ) (fields : List Bool) (g : Setting) (begun : Begun) (remote : Bool) (sent : ℕ)
     (values : List ℤ) (marks : List ℕ) (file file′ : List ℕ) (run r : Progress) : Type 0 where
   pub committed : Committed s (at + s .records) fields values marks file file′ (r .stop)
-  pub counted : r .stop ≡ Nowhere → Counted m s at g begun remote sent values marks file′ run r
+  pub counted : r .stop ≡ Nowhere → StepCounted m s at g begun remote sent values marks file′ run r
   pub uncounted : (u c : ℕ) → r .stop ≡ At u c → r ≡ stoppedAs (At u c) run (run .counts)
 
 -- where the step has not stopped before
 pub record FinishedBy (stop : Stop) (m : Machine) (s : Sizes) (at : ℕ) (fields : List Bool) (g : Setting) (begun : Begun) (remote : Bool) (sent : ℕ)
     (values : List ℤ) (marks : List ℕ) (file file′ : List ℕ) (run r : Progress) : Type 0 where
-  pub ended : stop ≡ Nowhere → Ended m s at fields g begun remote sent values marks file file′ run r
+  pub ended : stop ≡ Nowhere → StepEnded m s at fields g begun remote sent values marks file file′ run r
   pub stays : (u c : ℕ) → stop ≡ At u c → (file′ ≡ file) × (r ≡ stoppedAs (At u c) run (run .counts))

@@ -9,7 +9,7 @@ ghost use Rattle.plan_lines.specs.Held.{factsIn, planOf};
 ghost use Rattle.program.specs.Passed.{SettingPasses};
 ghost use Rattle.gather_exchanges.specs.Lines.{StepPlanned};
 ghost use Rattle.run_loop.specs.Column.{Space};
-ghost use Rattle.run_turn.specs.Turned.{GoesOn, Begins, sendsBy, stoppedAs, AtEnd, FinishedBy};
+ghost use Rattle.run_turn.specs.Turned.{GoesOn, TurnBegun, sendsBy, stoppedAs, AtEnd, FinishedBy};
 use gather;
 use gather::counts;
 use gather::counts::Counts;
@@ -70,7 +70,7 @@ pub fn begin<'a>(
     requires { ⌜ Register sizes (now out) × SettingPasses sizes setting × Space sizes at (now values) (now marks)
         × StepPlanned sizes (planOf (now keys) (now rounds) (now backs) (now reads) count) × (length (now wanted) ≡ 64)
         × (count * sizes .records ≤ length (now values)) × (count * sizes .records ≤ length (now marks)) ⌝ }
-    ensures { λ r. ⌜ Begins machine sizes at setting (cellsOfFile sizes (now (out .entry))) (factsIn (now (keys .entry)) count) (now (wanted .entry))
+    ensures { λ r. ⌜ TurnBegun machine sizes at setting (cellsOfFile sizes (now (out .entry))) (factsIn (now (keys .entry)) count) (now (wanted .entry))
         (now (values .entry)) (now (marks .entry)) (now (values .exit)) (now (marks .exit)) run r ⌝ }
 {
     let first = run_loop::enter(out, values, marks, sizes, at, setting, run.step, run.first);

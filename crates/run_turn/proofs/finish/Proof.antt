@@ -4,7 +4,7 @@ use mathlib.Core.Path.{refl, _∙_}
 use native.Mathlib.Omega.{arith}
 use borrow.Author.Needs.{needs}
 use denote.Ref.{now}
-use Rattle.run_turn.specs.Turned.{Ready}
+use Rattle.run_turn.specs.Turned.{EndReady}
 use Rattle.run_turn.proofs.Turning.{stops-before, stops-total, counts-step}
 use Rattle.run_turn.proofs.finish.Statement.{statement}
 use Rattle.run_turn.proofs.finish.Tie as tie
@@ -17,7 +17,7 @@ abbrev entry : Local → tie.Start
 entry c = c .before .before .before .before .before .before
 
 at-end : (c : Local) → let a = entry c .args in
-    Ready (a .sizes) (a .at) (a .setting) (a .begun) (a .sent) (now (a .values)) (now (a .marks)) (now (a .out)) (a .run)
+    EndReady (a .sizes) (a .at) (a .setting) (a .begun) (a .sent) (now (a .values)) (now (a .marks)) (now (a .out)) (a .run)
 at-end c = entry c .pre (c .enum-told2 .given .1)
 
 -- the cells are committed
