@@ -2,20 +2,25 @@
 use Prim.Native.Nat.{ℕ, suc, _-_, _+_, _≤_, _<_}
 use mathlib.Core.Path.{_≡_, refl, sym, _∙_}
 use mathlib.Core.List.{List}
+use mathlib.Core.Option.{some}
 use native.Mathlib.Omega.{arith}
 use lib.IntN.{ℤ}
 use lib.ListN.{length, getD, take}
 use Rattle.register.specs.declared.Sizes.{Sizes}
 use Rattle.register.specs.declared.cells.Cell.{Cell}
+use Rattle.program.specs.Program.{Rule}
 use Rattle.program.specs.declared.location.Located.{Located}
 use Rattle.program.specs.Code.{Codes}
 use Rattle.program.specs.Stored.{rulesIn}
+use Rattle.machine.specs.Step.{sumOffence}
+use Rattle.step_terms.specs.Found.{followed}
 use Rattle.step_cells.specs.Work.{Same}
 use Rattle.step_cells.specs.declared.stop.Stop.{Stop}
 use Rattle.step_cells.specs.declared.stop.Stop.the-variants.{Nowhere, At}
 use Rattle.step_cells.proofs.Working.{same-refl, same-then}
-use Rattle.step_rules.specs.Ready.{LocalRule, LocalDone, LocalAnswer}
+use Rattle.step_rules.specs.Ready.{LocalRule, LocalDone}
 use Rattle.step_rules.proofs.Locals.{RecordDone, ruleAt, record-start, record-more, record-stops, records-start, records-more, records-all}
+use Rattle.run_turn.proofs.Turning.{not-both}
 use Rattle.run_steps.proofs.Arrays.{placesOf}
 
 -- a loop that counts up to n comes to its end
@@ -70,22 +75,36 @@ module _ {s : Sizes} {cells : List Cell} {base : ℕ} {codes : Codes} {rules : L
           u≤ = omega arith;
         }
 
-  -- what the loops leave: all records are done, or one rule's sum is out of range
-  module _ {values′ : List ℤ} {marks′ : List ℕ} {stop : Stop} {u : ℕ} (a : RecordsDone s cells base codes rules used values marks values′ marks′ stop u)
-      {valuesₑ : List ℤ} {marksₑ : List ℕ} {stopₑ r : Stop} (e : stopₑ ≡ r) where
-    pub left-behind : s .records ≤ u → valuesₑ ≡ values′ → marksₑ ≡ marks′ → stopₑ ≡ stop
-        → LocalAnswer s cells base (rulesIn codes used rules) values marks valuesₑ marksₑ r
-    left-behind h v m t = rw (sym e ∙ t ∙ a .nowhere, v, m) (a .same, records-all (omega (arith, a .u≤)) (a .done))
+-- what the loops leave: all records are done, or one rule's sum is out of range
+pub record LocalsLeft (s : Sizes) (cells : List Cell) (base : ℕ) (rs : List Rule) (values : List ℤ) (marks : List ℕ)
+    (values′ : List ℤ) (marks′ : List ℕ) (stop : Stop) : Type 0 where
+  pub same : Same base values marks values′ marks′
+  pub all : stop ≡ Nowhere → LocalDone s cells base rs (s .records) values marks values′ marks′
+  pub stops : (u c : ℕ) → stop ≡ At u c → sumOffence s (followed s cells) rs ≡ some (record { row = u; column = c })
 
-    pub left-within : {values″ values‴ : List ℤ} {marks″ marks‴ : List ℕ} {stop′ stop″ : Stop} {k v c : ℕ} → u < s .records
-        → RulesDone s cells base codes rules used u values′ marks′ values″ marks″ stop′ k → k < used → used ≤ length rules
-        → stop″ ≡ At v c → valuesₑ ≡ values‴ → marksₑ ≡ marks‴ → stopₑ ≡ stop″
-        → (x : Located) → LocalRule s cells base u (ruleAt codes (getD rules k x)) values″ marks″ values‴ marks‴ stop″
-        → LocalAnswer s cells base (rulesIn codes used rules) values marks valuesₑ marksₑ r
-    left-within {k = k} row b h fits o vₑ mₑ t x rule =
-        let inside : k < length rules = omega arith in
-        let stops = rw o at rule in
-        rw (sym e ∙ t ∙ o, vₑ, mₑ) (
-          same-then (same-then (a .same) (b .done .same)) (stops .0),
-          record-stops codes rules k x inside h row (a .done .in-range) (b .done .in-range) (stops .1),
-        )
+module _ {s : Sizes} {cells : List Cell} {base : ℕ} {codes : Codes} {rules : List Located} {used : ℕ} {values values′ : List ℤ} {marks marks′ : List ℕ}
+    {stop : Stop} {u : ℕ} (a : RecordsDone s cells base codes rules used values marks values′ marks′ stop u)
+    {valuesₑ : List ℤ} {marksₑ : List ℕ} {stopₑ : Stop} where
+  pub left-behind : s .records ≤ u → valuesₑ ≡ values′ → marksₑ ≡ marks′ → stopₑ ≡ stop
+      → LocalsLeft s cells base (rulesIn codes used rules) values marks valuesₑ marksₑ stopₑ
+  left-behind h v m t =
+      rw (v, m) (record {
+        same = a .same;
+        all = λ e. records-all (omega (arith, a .u≤)) (a .done);
+        stops = λ u c e. not-both (t ∙ a .nowhere) e;
+      })
+
+  pub left-within : {values″ values‴ : List ℤ} {marks″ marks‴ : List ℕ} {stop′ stop″ : Stop} {k v c : ℕ} → u < s .records
+      → RulesDone s cells base codes rules used u values′ marks′ values″ marks″ stop′ k → k < used → used ≤ length rules
+      → stop″ ≡ At v c → valuesₑ ≡ values‴ → marksₑ ≡ marks‴ → stopₑ ≡ stop″
+      → (x : Located) → LocalRule s cells base u (ruleAt codes (getD rules k x)) values″ marks″ values‴ marks‴ stop″
+      → LocalsLeft s cells base (rulesIn codes used rules) values marks valuesₑ marksₑ stopₑ
+  left-within {k = k} row b h fits o vₑ mₑ t x rule =
+      let inside : k < length rules = omega arith in
+      let stops = rw o at rule in
+      rw (vₑ, mₑ) (record {
+        same = same-then (same-then (a .same) (b .done .same)) (stops .0);
+        all = λ e. not-both e (t ∙ o);
+        stops = λ u c e.
+            record-stops codes rules k x inside h row (a .done .in-range) (b .done .in-range) ((rw (sym t ∙ e) at rule) .1);
+      })

@@ -1,15 +1,17 @@
 -- Where the run's loop stands: the register in the output, the column of the loop around in the buffers, and how it ends.
-use Prim.Native.Nat.{ℕ, suc, _+_, _*_, _≤_, _<_}
+use Prim.Native.Nat.{ℕ, suc, _-_, _+_, _*_, _≤_, _<_}
 use mathlib.Core.Path.{_≡_, refl, sym, ap, ap₂, subst, _∙_}
-use mathlib.Core.Bool.{true, false, cond}
+use mathlib.Core.Bool.{Bool, true, false, cond}
 use mathlib.Core.List.{List, [], _∷_, _++_}
 use mathlib.Core.Option.{Option, none, some}
+use mathlib.Core.Logic.{⊎-elim}
 use native.Mathlib.Omega.{arith}
 use native.Mathlib.Nat.{mul-comm, mul-add, mul-le-mul-right}
 use lib.IntN.{ℤ}
 use lib.ListN.{length, getD, drop}
 use lib.Seq.{drop-cons}
 use Rattle.laws.proofs.Bools.{true-false}
+use Rattle.laws.proofs.Cases.{lt-or-le}
 use Rattle.register.specs.File.{width, cellCount, fileOf, cellsOfFile}
 use Rattle.register.specs.Shape.{Register}
 use Rattle.register.specs.declared.Sizes.{Sizes}
@@ -30,8 +32,13 @@ use Rattle.step_rules.specs.Stepped.{GoesThrough}
 use Rattle.run_loop.specs.Column.{LoopColumn, InPass, HasPass, Entered, NextIs}
 use Rattle.machine_messages.specs.declared.Machine.{Machine}
 use Rattle.gather.specs.Counted.{noCounts}
-use Rattle.run_steps.specs.Answer.{countsOf, endedWith, stoppedAt, Scratch, Ends}
+use Rattle.run_steps.specs.Answer.{countsOf, endedWith, stoppedAt, AnswerIs, Scratch, Ends}
+use Rattle.run_steps.specs.declared.RunAnswer.{RunAnswer}
 use Rattle.gather.specs.declared.counts.Counts.{Counts}
+use Rattle.step_cells.specs.declared.stop.Stop.{Stop}
+use Rattle.step_cells.specs.declared.stop.Stop.the-variants.{Nowhere, At}
+use Rattle.run_turn.specs.declared.Progress.{Progress}
+use Rattle.run_turn.specs.Turned.{GoesOn}
 use Rattle.run_steps.proofs.Counting.{counts-none}
 use Rattle.run_steps.proofs.Bounds.{Few}
 
@@ -147,10 +154,9 @@ module _ {m : Machine} {s : Sizes} {p : Program} {at budget : ℕ} {file : List 
           go (Looped f false last) e h = t .column f e
 
       -- one step is done: its pass was entered, its rules run, and the next step found
-      module _ {g : Setting} {out′ : List ℕ} {values₁ values₂ : List ℤ} {marks₁ marks₂ : List ℕ} {sent : ℕ} (q : here .setting ≡ g)
+      module _ {g : Setting} {values₁ values₂ : List ℤ} {marks₁ marks₂ : List ℕ} (q : here .setting ≡ g)
           (entered : Entered s g (cellsOfFile s out) at values marks values₁ marks₁)
-          (kept : (u : ℕ) → u < s .records → Kept (at + u) values₁ marks₁ values₂ marks₂)
-          (through : GoesThrough s (direct s (here .rules) (cellsOfFile s out)) (here .rules) out out′ (at + s .records) values₂ marks₂ sent) where
+          (kept : (u : ℕ) → u < s .records → Kept (at + u) values₁ marks₁ values₂ marks₂) where
         abbrev before′ : List Cell
         before′ = cond (begins g) (cellsOfFile s out) (t .before)
 
@@ -169,12 +175,13 @@ module _ {m : Machine} {s : Sizes} {p : Program} {at budget : ℕ} {file : List 
         behind-column (Looped f first true) i o h = absurd (let z : _≡_ {A = ℕ} 0 1 = cc in omega arith)
         behind-column (Looped f first false) i o h = subst (λ (j : ℕ). LoopColumn s j before′ at values₂ marks₂) (some-is o) h
 
-        pub stands-next : finished < budget → ProgramPasses s p → length out′ ≡ length out → Behind s at values₂ marks₂
-            → {first′ next finished′ : ℕ} {counts′ : Counts} → first′ ≡ cond (begins g) step first
+        pub stands-next : {out′ : List ℕ} {sent : ℕ}
+            → GoesThrough s (direct s (here .rules) (cellsOfFile s out)) (here .rules) out out′ (at + s .records) values₂ marks₂ sent
+            → finished < budget → ProgramPasses s p → length out′ ≡ length out → Behind s at values₂ marks₂ → {first′ next finished′ : ℕ} {counts′ : Counts} → first′ ≡ cond (begins g) step first
             → NextIs s g (cellsOfFile s out′) at values₂ marks₂ step first′ next → finished′ ≡ suc finished
             → counts′ ≡ countsOf m s trace′ → Few (suc finished) counts′
             → Stands m s p at budget file next first′ finished′ counts′ out′ values₂ marks₂
-        stands-next b k n room {first′} {next} {finished′} f follows c counted few =
+        stands-next {out′} through b k n room {first′} {next} {finished′} f follows c counted few =
             let cells = cellsOfFile s out in
             let after = stepCells s (direct s (here .rules) cells) (here .rules) cells in
             let first-is = cond (begins g) step first in
@@ -204,3 +211,42 @@ module _ {m : Machine} {s : Sizes} {p : Program} {at budget : ℕ} {file : List 
               room = room;
               column = λ i o. behind-column g i o stepped-pass;
             }
+
+-- how far the run has come: it stands before a step, or has stopped at one
+pub record StandsBy (m : Machine) (s : Sizes) (p : Program) (at budget : ℕ) (file : List ℕ) (run : Progress) (out : List ℕ) (values : List ℤ) (marks : List ℕ)
+    : Type 0 where
+  pub stands : run .stop ≡ Nowhere → Stands m s p at budget file (run .step) (run .first) (run .finished) (run .counts) out values marks
+  pub stopped : (u c : ℕ) → run .stop ≡ At u c → Ends m s p budget file out (stoppedAt (run .finished) (run .counts) u c)
+
+-- the turns that the budget allows
+abbrev turnsLeft : Stop → ℕ → ℕ
+turnsLeft Nowhere n = suc n
+turnsLeft (At u c) n = 0
+
+abbrev pub turns : ℕ → Progress → ℕ
+turns budget run = turnsLeft (run .stop) (budget - run .finished)
+
+pub turns-nearer : (budget : ℕ) (run r : Progress) → run .stop ≡ Nowhere → run .finished < budget → (r .stop ≡ Nowhere → r .finished ≡ suc (run .finished))
+    → turns budget r < turns budget run
+turns-nearer budget run r n l f = rw n (go (r .stop) refl)
+  where
+    go : (x : Stop) → r .stop ≡ x → turnsLeft x (budget - r .finished) < suc (budget - run .finished)
+    go Nowhere e = omega (arith, f e, l)
+    go (At u c) e = omega arith
+
+-- there is no further turn: the run has stopped, no step is left, or the budget is spent
+module _ {m : Machine} {s : Sizes} {p : Program} {at budget : ℕ} {file : List ℕ} {run : Progress} {out : List ℕ} {values : List ℤ} {marks : List ℕ}
+    (a : StandsBy m s p at budget file run out values marks) {steps : ℕ} (n : steps ≡ length p) {goes : Bool} (g : GoesOn run steps budget goes)
+    (f : goes ≡ false) where
+  pub ends-by : {r : RunAnswer} → AnswerIs (run .stop) (run .step) steps (run .finished) (run .counts) r → Ends m s p budget file out r
+  ends-by {r} h = go (run .stop) refl
+    where
+      go : (x : Stop) → run .stop ≡ x → Ends m s p budget file out r
+      go Nowhere e =
+          let (more, complete) = rw e at h in
+          let t = a .stands e in
+          ⊎-elim
+          (λ l. rw (more l) (stands-exhausted t (omega (arith, n)) (g .ends f e l)))
+          (λ l. rw (complete l) (stands-complete t (omega (arith, n))))
+          (lt-or-le (run .step) steps)
+      go (At u c) e = rw (rw e at h) (a .stopped u c e)

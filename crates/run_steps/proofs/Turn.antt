@@ -7,7 +7,7 @@ use native.Mathlib.Omega.{arith}
 use native.Mathlib.Nat.{mul-le-mul-right}
 use lib.IntN.{ℤ}
 use lib.ListN.{length, getD, take, set, length-set}
-use lib.Seq.{take-suc-set}
+use lib.Seq.{getD-set-same, take-suc-set}
 use Rattle.laws.proofs.Bools.{and-both}
 use Rattle.laws.proofs.Lists.{each-append}
 use Rattle.step_tests.specs.Plain.{plainSlot}
@@ -33,16 +33,18 @@ use Rattle.scratch.proofs.Placed.{kept-again}
 use Rattle.gather_follow.specs.Filled.{Filled}
 use Rattle.step_cells.specs.Work.{Room, HoldsCells, Same, Small}
 use Rattle.step_cells.proofs.Working.{room-same, small-held}
-use Rattle.step_rules.specs.Ready.{RuleReady, AllReady, AllPlain, LocalDone, LocalAnswer}
+use Rattle.step_rules.specs.Ready.{RuleReady, AllReady, AllPlain, LocalDone}
 use Rattle.step_rules.proofs.Locals.{ready-at}
 use Rattle.step_cells.specs.declared.stop.Stop.{Stop}
-use Rattle.run_loop.specs.Column.{Space, Entered}
+use Rattle.step_cells.specs.declared.stop.Stop.the-variants.{Nowhere}
+use Rattle.run_loop.specs.Column.{Space}
+use Rattle.run_turn.specs.declared.Progress.{Progress}
+use Rattle.run_turn.specs.declared.Begun.{Begun}
+use Rattle.run_turn.specs.Turned.{TurnBegun}
 use Rattle.gather_exchanges.specs.Lines.{StepPlanned}
-use Rattle.gather.specs.Gathered.{GatheredBy}
-use Rattle.gather.specs.declared.counts.Counts.{Counts}
 use Rattle.run_steps.proofs.Arrays.{noFrame, StepAt, step-at, slotsAt, slots-length, slot-at, taken-next}
 use Rattle.run_steps.proofs.Finding.{LinesHold, filled-lines, all-ready}
-use Rattle.run_steps.proofs.Loops.{Taken}
+use Rattle.run_steps.proofs.Loops.{Taken, LocalsLeft}
 use Rattle.run_steps.proofs.Standing.{noStep, Stands, here, comes}
 
 -- no step has more lines than the most
@@ -79,27 +81,29 @@ abbrev IsPlain : Located → Type 0
 IsPlain x = plainSlot (x .slot) ≡ true
 
 -- one plain rule more
-pub plain-more : {plain plain′ : Bool} (rules : List Located) (k : ℕ) (x : Located) → k < length rules → plain′ ≡ plain && plainSlot (x .slot)
+pub plain-more : {plain plain′ : Bool} (rules : List Located) (k : ℕ) (x y : Located) → k < length rules → plain′ ≡ plain && plainSlot (getD (set rules k x) k y .slot)
     → AllPlain plain (take k rules) → AllPlain plain′ (take (k + 1) (set rules k x))
-plain-more {plain} rules k x h q a e =
+plain-more {plain} rules k x y h q a e =
     let next : k + 1 ≡ suc k = omega arith in
-    let (before, here) = and-both plain (plainSlot (x .slot)) (sym q ∙ e) in
-    rw (next, take-suc-set rules k x h) (each-append IsPlain (take k rules) (x ∷ []) (a before) (here, tt))
+    let same = getD-set-same rules k x y h in
+    let (before, here) = and-both plain (plainSlot (getD (set rules k x) k y .slot)) (sym q ∙ e) in
+    rw (next, take-suc-set rules k x h) (each-append IsPlain (take k rules) (x ∷ []) (a before) (subst IsPlain same here, tt))
 
--- The loop's turn for step `step` of the program p: the run stands before it, and the budget allows it.
-pub record Turn (m : Machine) (s : Sizes) (codes : Codes) (chained : List ℕ) (p : R.Program) (budget : ℕ) (file : List ℕ) (step first finished : ℕ) (counts : Counts)
+-- The loop's turn for the step of the program p that comes next: the run stands before it, and the budget allows it.
+pub record Turn (m : Machine) (s : Sizes) (codes : Codes) (chained : List ℕ) (p : R.Program) (budget : ℕ) (file : List ℕ) (run : Progress)
     (out : List ℕ) (values : List ℤ) (marks : List ℕ) (f : Frame) : Type 0 where
-  pub held : f ≡ getD (p .frames) step noFrame
+  pub nowhere : run .stop ≡ Nowhere
+  pub held : f ≡ getD (p .frames) (run .step) noFrame
   pub complete : Complete codes chained p
   pub passes : ProgramPasses s (programOf codes p)
   pub few-lines : p .lines ≤ 64
   pub whole : length file ≡ 12 + 5 * cellCount s
-  pub stands : Stands m s (programOf codes p) (p .lines * s .records) budget file step first finished counts out values marks
-  pub more : step < p .steps
-  pub later : finished < budget
+  pub stands : Stands m s (programOf codes p) (p .lines * s .records) budget file (run .step) (run .first) (run .finished) (run .counts) out values marks
+  pub more : run .step < p .steps
+  pub later : run .finished < budget
 
-module _ {m : Machine} {s : Sizes} {codes : Codes} {chained : List ℕ} {p : R.Program} {budget : ℕ} {file : List ℕ} {step first finished : ℕ} {counts : Counts}
-    {out : List ℕ} {values : List ℤ} {marks : List ℕ} {f : Frame} (a : Turn m s codes chained p budget file step first finished counts out values marks f) where
+module _ {m : Machine} {s : Sizes} {codes : Codes} {chained : List ℕ} {p : R.Program} {budget : ℕ} {file : List ℕ} {run : Progress}
+    {out : List ℕ} {values : List ℤ} {marks : List ℕ} {f : Frame} (a : Turn m s codes chained p budget file run out values marks f) where
   abbrev pub frame : Frame
   frame = f
 
@@ -112,7 +116,7 @@ module _ {m : Machine} {s : Sizes} {codes : Codes} {chained : List ℕ} {p : R.P
   abbrev pub cells : List Cell
   cells = cellsOfFile s out
 
-  abbrev t : Stands m s (programOf codes p) at budget file step first finished counts out values marks
+  abbrev t : Stands m s (programOf codes p) at budget file (run .step) (run .first) (run .finished) (run .counts) out values marks
   t = a .stands
 
   pub limits : Limits s
@@ -124,21 +128,21 @@ module _ {m : Machine} {s : Sizes} {codes : Codes} {chained : List ℕ} {p : R.P
   pub out-length : length out ≡ length file
   out-length = out-whole ∙ sym (a .whole)
 
-  pub inside : step < length (programOf codes p)
+  pub inside : run .step < length (programOf codes p)
   inside = omega (arith, a .more, a .complete .steps-are)
 
-  pub few-steps : step < 32
+  pub few-steps : run .step < 32
   few-steps = omega (arith, inside, a .passes .few)
 
-  -- the step, its frame and its rules
+  -- the (run .step), its frame and its rules
   abbrev pub stepHere : Step
   stepHere = here t inside
 
   abbrev pub rs : List Rule
   rs = stepHere .rules
 
-  pub at-step : StepAt codes chained p step frame stepHere
-  at-step = rw (a .held) (step-at codes chained p step noStep noFrame (a .complete) (a .more))
+  pub at-step : StepAt codes chained p (run .step) frame stepHere
+  at-step = rw (a .held) (step-at codes chained p (run .step) noStep noFrame (a .complete) (a .more))
 
   pub step-passes : StepPasses s stepHere
   step-passes = running-passes (t .running) (comes t inside) (a .passes)
@@ -150,16 +154,16 @@ module _ {m : Machine} {s : Sizes} {codes : Codes} {chained : List ℕ} {p : R.P
   setting-passes = subst (SettingPasses s) (at-step .setting-is) (step-passes .field)
 
   -- the rules as they are taken out, one by one
-  pub taken-first : (places : List Located) → length places ≡ 32 → Taken (p .slots) step (frame .rules) places 0
+  pub taken-first : (places : List Located) → length places ≡ 32 → Taken (p .slots) (run .step) (frame .rules) places 0
   taken-first places n = record { so-far = refl; length-is = n; k≤ = omega arith }
 
-  pub taken-more : {places : List Located} {k : ℕ} → Taken (p .slots) step (frame .rules) places k → k < frame .rules → (d : Located)
-      → Taken (p .slots) step (frame .rules) (set places k (getD (p .slots) (32 * step + k) d)) (k + 1)
+  pub taken-more : {places : List Located} {k : ℕ} → Taken (p .slots) (run .step) (frame .rules) places k → k < frame .rules → (d : Located)
+      → Taken (p .slots) (run .step) (frame .rules) (set places k (getD (p .slots) (32 * run .step + k) d)) (k + 1)
   taken-more {places} {k} h l d =
-      let slot = getD (p .slots) (32 * step + k) d in
+      let slot = getD (p .slots) (32 * run .step + k) d in
       record {
-        so-far = taken-next k (slotsAt p step) places d (omega (arith, few-rules, slots-length p step (a .complete) few-steps))
-            (omega (arith, few-rules, h .length-is)) (sym (slot-at p step (a .complete) few-steps k d (omega (arith, few-rules)))) (h .so-far);
+        so-far = taken-next k (slotsAt p (run .step)) places d (omega (arith, few-rules, slots-length p (run .step) (a .complete) few-steps))
+            (omega (arith, few-rules, h .length-is)) (sym (slot-at p (run .step) (a .complete) few-steps k d (omega (arith, few-rules)))) (h .so-far);
         length-is = length-set places k slot ∙ h .length-is;
         k≤ = omega arith;
       }
@@ -181,35 +185,25 @@ module _ {m : Machine} {s : Sizes} {codes : Codes} {chained : List ℕ} {p : R.P
 
   lines-room : frame .plan .count * s .records ≤ at
   lines-room =
-      let most = lines-most (programOf codes p) step noStep inside in
+      let most = lines-most (programOf codes p) (run .step) noStep inside in
       let count : frame .plan .count ≤ p .lines = omega (arith, holds-count (at-step .frame .holds), most, a .complete .lines-are) in
       mul-le-mul-right (s .records) count
 
-  module _ {values₁ : List ℤ} {marks₁ : List ℕ} (e : Entered s (frame .setting) cells at values marks values₁ marks₁) where
-    pub lines-values : frame .plan .count * s .records ≤ length values₁
-    lines-values = omega (arith, lines-room, t .room .values-room, e .behind .values-length)
+  pub lines-values : frame .plan .count * s .records ≤ length values
+  lines-values = omega (arith, lines-room, t .room .values-room)
 
-    pub lines-marks : frame .plan .count * s .records ≤ length marks₁
-    lines-marks = omega (arith, lines-room, t .room .marks-room, e .behind .marks-length)
+  pub lines-marks : frame .plan .count * s .records ≤ length marks
+  lines-marks = omega (arith, lines-room, t .room .marks-room)
 
   -- the rules are all taken out, the pass is entered and the readings are gathered
-  pub record Prepared (places : List Located) (values₁ : List ℤ) (marks₁ : List ℕ) (values₂ : List ℤ) (marks₂ : List ℕ) (r : Counts) : Type 0 where
-    pub taken : Taken (p .slots) step (frame .rules) places (frame .rules)
-    pub entered : Entered s (frame .setting) cells at values marks values₁ marks₁
-    pub gathered : GatheredBy m s cells (facts (frame .plan)) (frame .wanted) values₁ marks₁ values₂ marks₂ r
-
-  pub prepares : {places : List Located} {k : ℕ} {values₁ values₂ : List ℤ} {marks₁ marks₂ : List ℕ} {r : Counts}
-      → Taken (p .slots) step (frame .rules) places k → frame .rules ≤ k
-      → Entered s (frame .setting) cells at values marks values₁ marks₁
-      → GatheredBy m s cells (facts (frame .plan)) (frame .wanted) values₁ marks₁ values₂ marks₂ r → Prepared places values₁ marks₁ values₂ marks₂ r
-  prepares {places} {k} h l e g =
-      let all : k ≡ frame .rules = omega (arith, h .k≤) in
-      record { taken = subst (Taken (p .slots) step (frame .rules) places) all h; entered = e; gathered = g }
+  pub record Prepared (places : List Located) (values₂ : List ℤ) (marks₂ : List ℕ) (begun : Begun) : Type 0 where
+    pub taken : Taken (p .slots) (run .step) (frame .rules) places (frame .rules)
+    pub begins : TurnBegun m s at (frame .setting) cells (facts (frame .plan)) (frame .wanted) values marks values₂ marks₂ run begun
 
 -- then the step can be run
-module _ {m : Machine} {s : Sizes} {codes : Codes} {chained : List ℕ} {p : R.Program} {budget : ℕ} {file : List ℕ} {step first finished : ℕ} {counts : Counts}
-    {out : List ℕ} {values : List ℤ} {marks : List ℕ} {f : Frame} {a : Turn m s codes chained p budget file step first finished counts out values marks f}
-    {places : List Located} {values₁ values₂ : List ℤ} {marks₁ marks₂ : List ℕ} {r : Counts} (b : Prepared a places values₁ marks₁ values₂ marks₂ r) where
+module _ {m : Machine} {s : Sizes} {codes : Codes} {chained : List ℕ} {p : R.Program} {budget : ℕ} {file : List ℕ} {run : Progress}
+    {out : List ℕ} {values : List ℤ} {marks : List ℕ} {f : Frame} {a : Turn m s codes chained p budget file run out values marks f}
+    {places : List Located} {values₂ : List ℤ} {marks₂ : List ℕ} {begun : Begun} (b : Prepared a places values₂ marks₂ begun) where
   abbrev n : ℕ
   n = frame a .rules
 
@@ -227,18 +221,18 @@ module _ {m : Machine} {s : Sizes} {codes : Codes} {chained : List ℕ} {p : R.P
   pub rules-fit : n ≤ length places
   rules-fit = omega (arith, few-rules a, b .taken .length-is)
 
-  pub filled : Filled s held (stepPlan (rs a)) (frame a .wanted) (length (stepPlan (rs a))) values₁ marks₁ values₂ marks₂
-  filled = rw (at-step a .frame .holds .facts-are) at (b .gathered .filled)
+  pub filled : Filled s held (stepPlan (rs a)) (frame a .wanted) (length (stepPlan (rs a))) (b .begins .values₁) (b .begins .marks₁) values₂ marks₂
+  filled = rw (at-step a .frame .holds .facts-are) at (b .begins .gathered .filled)
 
   pub lines-before : length (stepPlan (rs a)) * s .records ≤ at a
   lines-before = rw (holds-count (at-step a .frame .holds)) (lines-room a)
 
   -- the buffers keep their lengths
   pub values-length : length values₂ ≡ length values
-  values-length = filled .values-length ∙ b .entered .behind .values-length
+  values-length = filled .values-length ∙ b .begins .entered .behind .values-length
 
   pub marks-length : length marks₂ ≡ length marks
-  marks-length = filled .marks-length ∙ b .entered .behind .marks-length
+  marks-length = filled .marks-length ∙ b .begins .entered .behind .marks-length
 
   pub step-room : Room (base a) (cellCount s) values₂ marks₂
   step-room =
@@ -250,9 +244,9 @@ module _ {m : Machine} {s : Sizes} {codes : Codes} {chained : List ℕ} {p : R.P
       }
 
   -- so many messages are sent for the readings at most
-  pub lines-few : r .messages ≤ 262144
+  pub lines-few : begun .gathered .messages ≤ 262144
   lines-few =
-      let few = rw (at-step a .frame .holds .facts-are) at (b .gathered .few-messages) in
+      let few = rw (at-step a .frame .holds .facts-are) at (b .begins .gathered .few-messages) in
       omega (arith, few, mul-le-mul-right (s .records) (step-passes a .fits), limits a .records≤)
 
   -- the lines that are read hold what is had by following
@@ -264,7 +258,7 @@ module _ {m : Machine} {s : Sizes} {codes : Codes} {chained : List ℕ} {p : R.P
 
   -- the working cells are those of the register still, and every rule can be run
   kept-cell : (j : ℕ) → Kept (base a + j) values marks values₂ marks₂
-  kept-cell j = kept-again (b .entered .behind .kept (base a + j) (omega arith)) (filled .behind (base a + j) (omega (arith, lines-before)))
+  kept-cell j = kept-again (b .begins .entered .behind .kept (base a + j) (omega arith)) (filled .behind (base a + j) (omega (arith, lines-before)))
 
   pub step-working : HoldsCells (base a) held values₂ marks₂
   step-working =
@@ -277,7 +271,7 @@ module _ {m : Machine} {s : Sizes} {codes : Codes} {chained : List ℕ} {p : R.P
   step-ready =
       let located = rw (at-step a .frame .holds .facts-are, at-step a .rules-are) at (at-step a .located) in
       rw (b .taken .so-far)
-      (all-ready s codes chained n (slotsAt p step) (rw (← at-step a .rules-are) (step-passes a .rules)) (frame a .wanted) located
+      (all-ready s codes chained n (slotsAt p (run .step)) (rw (← at-step a .rules-are) (step-passes a .rules)) (frame a .wanted) located
       (rw (at-step a .rules-are) at lines) (a .stands .register .valid))
 
   pub step-sends : frame a .remote ≡ hasRemote ls
@@ -285,7 +279,7 @@ module _ {m : Machine} {s : Sizes} {codes : Codes} {chained : List ℕ} {p : R.P
 
   -- what the local rules leave, with where they stop
   abbrev pub Applied : List ℤ → List ℕ → Stop → Type 0
-  Applied = LocalAnswer s held (base a) ls values₂ marks₂
+  Applied = LocalsLeft s held (base a) ls values₂ marks₂
 
   -- what a rule asks for, over what stands below the working cells
   module _ {values′ : List ℤ} {marks′ : List ℕ} (same : Same (base a) values₂ marks₂ values′ marks′) where

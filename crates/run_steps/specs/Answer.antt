@@ -8,6 +8,9 @@ use Rattle.register.specs.File.{fileOf, cellsOfFile}
 use Rattle.register.specs.declared.Sizes.{Sizes}
 use Rattle.register.specs.declared.cells.Cell.{Cell}
 use Rattle.program.specs.Program.{Step, Program}
+use Rattle.program.specs.declared.location.Located.{Located}
+use Rattle.program.specs.declared.frame.Frame.{Frame}
+use Rattle.program.specs.declared.Program as R
 use Rattle.machine.specs.Run.{Ending, complete, exhausted, offended, Run, direct, run, scratch}
 use Rattle.machine_messages.specs.By.{exchangesBy, messagesBy}
 use Rattle.machine_messages.specs.declared.Machine.{Machine}
@@ -28,6 +31,10 @@ stoppedAt finished counts row column = record { refusal = 21; line = 0; finished
 abbrev pub AnswerIs : Stop → ℕ → ℕ → ℕ → Counts → RunAnswer → Type 0
 AnswerIs Nowhere step steps finished counts r = (step < steps → r ≡ endedWith 20 finished counts) × (steps ≤ step → r ≡ endedWith 0 finished counts)
 AnswerIs (At row column) step steps finished counts r = r ≡ stoppedAt finished counts row column
+
+-- the program that these arrays hold
+abbrev pub inArrays : List Located → List Frame → ℕ → ℕ → R.Program
+inArrays slots frames steps lines = record { slots = slots; frames = frames; steps = steps; lines = lines }
 
 -- the buffers are long enough for plans of this many lines
 pub record Scratch (s : Sizes) (lines : ℕ) (values : List ℤ) (marks : List ℕ) : Type 0 where

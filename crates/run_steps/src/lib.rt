@@ -1,23 +1,23 @@
 // The run of a program, by either machine: step after step, within the budget.
 ghost use Prim.Native.Nat.{_+_, _*_};
-ghost use mathlib.Core.Path.{_≡_};
 ghost use Rattle.register.specs.File.{cellsOfFile};
 ghost use Rattle.register.specs.Shape.{Register};
 ghost use Rattle.step_cells.specs.Work.{HoldsCells};
 ghost use Rattle.program.specs.Code.{codesKept};
 ghost use Rattle.program.specs.Passed.{ProgramPasses};
 ghost use Rattle.program.specs.Kept.{programOf, Complete};
-ghost use Rattle.run_steps.specs.Answer.{AnswerIs, Scratch, Ends};
-use gather;
+ghost use Rattle.run_steps.specs.Answer.{AnswerIs, inArrays, Scratch, Ends};
 use gather::counts;
 use gather::counts::Counts;
 use machine_messages::Machine;
 use program::Program;
+use program::frame::Frame;
+use program::location::Located;
 use register::Sizes;
-use run_loop;
+use run_turn;
+use run_turn::Progress;
 use step_cells;
 use step_cells::stop::Stop;
-use step_commit;
 use step_rules::local;
 use step_rules::remote;
 use step_tests::stay_plain;
@@ -34,9 +34,12 @@ pub struct RunAnswer {
 }
 
 // What a run answers that stops before a step: at a sum or total, or where a step is left and the budget spent, or at its end.
-fn answer(stop: Stop, step: usize, steps: usize, finished: u16, counts: Counts) -> RunAnswer
-    ensures { λ r. ⌜ AnswerIs stop step steps finished counts r ⌝ }
+fn answer(run: Progress, steps: usize) -> RunAnswer
+    ensures { λ r. ⌜ AnswerIs (run .stop) (run .step) steps (run .finished) (run .counts) r ⌝ }
 {
+    let stop = run.stop;
+    let finished = run.finished;
+    let counts = run.counts;
     if let Stop::At(row, column) = stop {
         return RunAnswer {
             refusal: 21,
@@ -48,7 +51,7 @@ fn answer(stop: Stop, step: usize, steps: usize, finished: u16, counts: Counts) 
         };
     }
     let mut refusal = 0;
-    if step < steps {
+    if run.step < steps {
         refusal = 20;
     }
     RunAnswer {
@@ -72,51 +75,53 @@ fn run_steps(
     numbers: &[i32],
     chains: &[u64],
     places: &[u8],
-    program: Program,
+    slots: [Located; 1024],
+    frames: [Frame; 32],
+    steps: usize,
+    lines: usize,
     machine: Machine,
     budget: u16,
 ) -> RunAnswer
-    requires { ⌜ Register sizes (now out) × Scratch sizes (program .lines) (now values) (now marks) × Complete (codesKept (now kinds) (now numbers) (now chains)) (now places) program
-        × ProgramPasses sizes (programOf (codesKept (now kinds) (now numbers) (now chains)) program)
-        × HoldsCells (program .lines * sizes .records + sizes .records) (cellsOfFile sizes (now out)) (now values) (now marks) ⌝ }
-    ensures { λ r. ⌜ Ends machine sizes (programOf (codesKept (now (kinds .entry)) (now (numbers .entry)) (now (chains .entry))) program) budget
-        (now (out .entry)) (now (out .exit)) r ⌝ }
+    requires { ⌜ Register sizes (now out) × Scratch sizes lines (now values) (now marks)
+        × Complete (codesKept (now kinds) (now numbers) (now chains)) (now places) (inArrays slots frames steps lines)
+        × ProgramPasses sizes (programOf (codesKept (now kinds) (now numbers) (now chains)) (inArrays slots frames steps lines))
+        × HoldsCells (lines * sizes .records + sizes .records) (cellsOfFile sizes (now out)) (now values) (now marks) ⌝ }
+    ensures { λ r. ⌜ Ends machine sizes (programOf (codesKept (now (kinds .entry)) (now (numbers .entry)) (now (chains .entry))) (inArrays slots frames steps lines))
+        budget (now (out .entry)) (now (out .exit)) r ⌝ }
 {
-    let slots = program.slots;
-    let frames = program.frames;
-    let steps = program.steps;
-    let at = program.lines * sizes.records;
+    let at = lines * sizes.records;
     let base = at + sizes.records;
     let mut rules = [slots[0]; 32];
     let mut frame = frames[0];
     let mut plain = true;
     let mut taken = steps;
-    let mut step = 0;
-    let mut first = steps;
-    let mut finished = 0;
-    let mut counts = counts::NONE;
-    while step < steps {
-        if finished == budget {
-            break;
-        }
+    let mut run = Progress {
+        stop: Stop::Nowhere,
+        step: 0,
+        first: steps,
+        finished: 0,
+        counts: counts::NONE,
+    };
+    while run_turn::goes_on(run, steps, budget) {
+        let step = run.step;
         if taken != step {
             frame = frames[step];
             plain = true;
             for k in 0..frame.rules {
-                let rule = slots[32 * step + k];
-                rules[k] = rule;
-                plain = stay_plain(plain, rule);
+                rules[k] = slots[32 * step + k];
+                plain = stay_plain(plain, rules[k]);
             }
             taken = step;
         }
         let setting = frame.setting;
         let used = frame.rules;
-        first = run_loop::enter(out, values, marks, sizes, at, setting, step, first);
-        let gathered = gather::gather(
+        let begun = run_turn::begin(
             out,
             values,
             marks,
             sizes,
+            at,
+            setting,
             machine,
             &frame.plan.keys,
             &frame.plan.rounds,
@@ -124,6 +129,7 @@ fn run_steps(
             &frame.plan.reads,
             &frame.wanted,
             frame.plan.count,
+            run,
         );
         let mut stop = Stop::Nowhere;
         'records: for u in 0..sizes.records {
@@ -147,11 +153,8 @@ fn run_steps(
                 }
             }
         }
-        if let Stop::At(_, _) = stop {
-            return answer(stop, step, steps, finished, counts);
-        }
         let mut sent = 0;
-        if frame.remote {
+        if run_turn::sends(stop, frame.remote) {
             sent = remote::apply(
                 out,
                 values,
@@ -168,15 +171,23 @@ fn run_steps(
             );
         }
         let fields = frame.fields;
-        let total = step_commit::commit(out, values, marks, sizes, base, fields);
-        if let Stop::At(_, _) = total {
-            return answer(total, step, steps, finished, counts);
-        }
-        counts = counts::count(machine, counts, gathered, frame.remote, sent);
-        finished += 1;
-        step = run_loop::next(out, values, marks, sizes, at, setting, step, first);
+        run = run_turn::finish(
+            out,
+            values,
+            marks,
+            sizes,
+            at,
+            fields,
+            setting,
+            machine,
+            begun,
+            frame.remote,
+            sent,
+            stop,
+            run,
+        );
     }
-    answer(Stop::Nowhere, step, steps, finished, counts)
+    answer(run, steps)
 }
 
 // The program over the register in `out`.
@@ -200,6 +211,8 @@ pub fn run_program(
 {
     let at = program.lines * sizes.records;
     step_cells::begin(out, values, marks, sizes, at + sizes.records);
+    let slots = program.slots;
+    let frames = program.frames;
     run_steps(
         out,
         values,
@@ -209,7 +222,10 @@ pub fn run_program(
         numbers,
         chains,
         places,
-        program,
+        slots,
+        frames,
+        program.steps,
+        program.lines,
         machine,
         budget,
     )

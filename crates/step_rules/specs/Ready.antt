@@ -2,7 +2,7 @@
 use mathlib.Core.Path.{_≡_}
 use mathlib.Core.Bool.{Bool, true, false}
 use mathlib.Core.List.{List}
-use mathlib.Core.Option.{none, some}
+use mathlib.Core.Option.{none}
 use Prim.Native.Nat.{ℕ, _<_}
 use lib.IntN.{ℤ}
 use lib.ListN.{length}
@@ -18,7 +18,6 @@ use Rattle.program.specs.Code.{Codes}
 use Rattle.program.specs.declared.rule.Slot.{Slot}
 use Rattle.program.specs.Stored.{targetIn, ruleIn}
 use Rattle.machine.specs.Local.{offends, localRule, localRecords, sumColumn}
-use Rattle.machine.specs.Step.{sumOffence}
 use Rattle.step_terms.specs.Found.{followed, RuleReads}
 use Rattle.step_tests.specs.Plain.{plainSlot, PlainReads}
 use Rattle.step_effects.specs.Answers.{writeOf}
@@ -95,10 +94,3 @@ pub record LocalDone (s : Sizes) (cells : List Cell) (base : ℕ) (rs : List Rul
   pub in-range : (u : ℕ) → u < n → sumColumn s (followed s cells u) rs ≡ none
   pub holds : (d : List Cell) → length d ≡ cellCount s → HoldsCells base d values marks → HoldsCells base (localRecords s (followed s cells) rs n d) values′ marks′
   pub small : Small 2147483648 base (cellCount s) values marks → Small 2147483648 base (cellCount s) values′ marks′
-
--- or where they stop: the first local sum that is out of range
-abbrev pub LocalAnswer : Sizes → List Cell → ℕ → List Rule → List ℤ → List ℕ → List ℤ → List ℕ → Stop → Type 0
-LocalAnswer s cells base rs values marks values′ marks′ Nowhere =
-    Same base values marks values′ marks′ × LocalDone s cells base rs (s .records) values marks values′ marks′
-LocalAnswer s cells base rs values marks values′ marks′ (At u c) =
-    Same base values marks values′ marks′ × (sumOffence s (followed s cells) rs ≡ some (record { row = u; column = c }))

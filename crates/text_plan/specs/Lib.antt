@@ -1,2 +1,3 @@
--- What planning one more rule does.
+-- What planning one more rule does, and what a line leaves to be stored.
 pub mod Planned
+pub mod Store

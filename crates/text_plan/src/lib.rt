@@ -10,6 +10,9 @@ ghost use Rattle.text_readings.specs.Readings.{codeWords, Short};
 ghost use Rattle.text_growth.specs.Growth.{Sound, addedOf, termWords, testWords, ruleWords, slotWords};
 ghost use Rattle.text_locations.specs.Listed.{WordFound, Finds};
 ghost use Rattle.text_plan.specs.Planned.{RulePlanned};
+
+pub mod store;
+
 use program::location::Location;
 use program::location::Locations;
 use program::location::Places;

@@ -6,3 +6,4 @@ pub mod Opening
 pub mod Forms
 pub mod Arms
 pub mod Reading
+pub mod Storing

@@ -32,7 +32,7 @@ use Rattle.text_rules.proofs.Passing.{Reached, start-reached, advance-reached}
 use Rattle.text_next.specs.Front.{lineBytes, firstForm, CodeRoom, LineNext}
 use Rattle.program.specs.Stored.{rulesIn}
 use Rattle.program.specs.Kept.{stepsIn, programOf}
-use Rattle.text_reader.specs.Answers.{emptySlot, CodeArrays, checkOutcome, Answers}
+use Rattle.text_reader.specs.Answers.{CodeArrays, checkOutcome, Answers}
 use Rattle.program.specs.declared.location.Located.{Located}
 use Rattle.program.specs.declared.location.Locations.{Locations}
 use Rattle.program.specs.Code.{Codes}
@@ -41,6 +41,7 @@ use Rattle.program.specs.Terms.{SlotTerms, TermInside}
 use Rattle.text_growth.specs.Growth.{slotWords, addedOf}
 use Rattle.text_readings.specs.Readings.{Short}
 use Rattle.text_plan.specs.Planned.{RulePlanned}
+use Rattle.text_plan.specs.Store.{emptySlot}
 use Rattle.text_growth.proofs.Rules.{slot-words}
 use Rattle.text_state.specs.State.{noRules, startState, frameOf, lastFrame, advanceOf}
 use Rattle.text_refusals.specs.Refusal.{refusalOf, lastRefusal}

@@ -2,21 +2,13 @@
 use Prim.Native.Nat.{ℕ}
 use mathlib.Core.Path.{_≡_}
 use mathlib.Core.List.{List}
-use lib.IntN.{ℤ, pos}
+use lib.IntN.{ℤ}
 use lib.ListN.{length}
 use Rattle.laws.specs.Outcome.{Outcome, done, unless}
-use Rattle.program.specs.declared.term.Term.the-variants.{Number}
-use Rattle.program.specs.declared.rule.Test.the-variants.{Always}
-use Rattle.program.specs.declared.rule.Rule.the-variants.{Set}
-use Rattle.program.specs.declared.rule.Slot.{Slot}
 use Rattle.program.specs.Program.{Program}
 use Rattle.program.specs.Code.{Codes}
 use Rattle.program.specs.Kept.{programOf, Complete}
 use Rattle.text_reader.specs.declared.Checked.{Checked}
-
--- a place that holds no rule
-abbrev pub emptySlot : Slot
-emptySlot = record { test = Always; rule = Set 0 (Number (pos 0)) }
 
 -- the arrays that are lent for the codes of a text: a place for each of its at most 8,192 bytes
 pub record CodeArrays (kinds : List ℕ) (numbers : List ℤ) (chains places : List ℕ) : Type 0 where

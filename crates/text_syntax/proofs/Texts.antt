@@ -5,9 +5,8 @@ use mathlib.Core.Logic.{_↔_}
 use mathlib.Core.Bool.{false}
 use mathlib.Core.List.{List}
 use mathlib.Core.Option.{some}
-use Rattle.laws.specs.Lists.{Each}
 use Rattle.text_syntax.specs.Lexing.{tokens}
-use Rattle.text_syntax.specs.Spelling.{Spells, Known}
+use Rattle.text_syntax.specs.Spelling.{Spells}
 use Rattle.text_syntax.specs.Written.{Line}
 use Rattle.text_syntax.specs.Grammar.{lineForm}
 use Rattle.text_syntax.specs.Printed.{printedLine, Proper}

@@ -12,7 +12,7 @@ abbrev entry : tie.After-struct-known3 → tie.Start
 entry c = c .before .before .before .before .before .before .before .before .before .before .before
 
 abbrev begun : tie.After-run-steps-arg3 → tie.After-begin
-begun c = c .before .before .before .before .before .before
+begun c = c .before .before .before .before .before .before .before .before
 
 at≤ : (c : tie.Start) → c .args .program .lines * c .args .sizes .records ≤ 262144
 at≤ c = lines-end (c .args .sizes) (c .pre .1 .lines≤) (c .pre .0 .valid .limits .records≤)

@@ -45,7 +45,7 @@ fn proving(folder: &Folder, says: &str) -> Said {
     for name in ["scripts", "bin"] {
         let _ = fs::create_dir(folder.at(name));
     }
-    for name in ["scripts/proving", "scripts/temporary"] {
+    for name in ["scripts/proving", "scripts/environment"] {
         folder.write(name, fs::read(root().join(name)).expect("it is there"));
     }
     folder.write("crates.txt", "# room\none:\ntwo: one io\nother: two\n");
