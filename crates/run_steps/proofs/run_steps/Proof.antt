@@ -20,7 +20,8 @@ use Rattle.step_cells.proofs.Working.{same-then}
 use Rattle.step_rules.specs.Ready.{AllPlain}
 use Rattle.step_rules.proofs.Locals.{plain-at}
 use Rattle.run_steps.proofs.Loops.{nearer, Taken, RulesDone, RecordsDone, rules-first, rules-next, records-first, records-next, left-behind}
-use Rattle.run_steps.proofs.Loops.{left-within}
+use Rattle.run_steps.proofs.Loops.{local-as, left-within}
+use Rattle.laws.proofs.Bools.{true-false}
 use Rattle.run_steps.proofs.Standing.{lines-end, scratch-behind, stands-start, StandsBy, turns, ends-by}
 use Rattle.run_steps.proofs.Arrays.{noFrame}
 use Rattle.run_steps.proofs.Turn.{Held, held-anew, held-still, plain-more, Turn, base, limits, out-whole, out-length, at-step, few-steps, few-rules, setting-passes}
@@ -147,17 +148,17 @@ abbrev holdingOfRuling : Ruling → Holding
 holdingOfRuling c = holdingOfBegun (begun (records c))
 
 abbrev ruling : Of tie.After-apply-arg3 → Ruling
-ruling c = c .before .before .before
+ruling c = c .before .before .before .before
+
+abbrev rulingCoded : Of tie.After-apply-arg7 → Ruling
+rulingCoded c = c .before .before .before .before
 
 -- it is done, and its sum is in range
 abbrev Ruled : Type 0
 Ruled = Of tie.After-enum-told2
 
-abbrev ruled : Ruled → Of tie.After-apply
-ruled c = c .before .before .before .before .before
-
 abbrev rulingOfRuled : Ruled → Ruling
-rulingOfRuled c = ruling (ruled c .before .before)
+rulingOfRuled c = c .before .before .before
 
 -- the loops over records and rules are left
 abbrev Left : Type 0
@@ -173,12 +174,12 @@ holdingOfLeft c = holdingOfBegun (begunOfLeft c)
 abbrev Seen : Type 0
 Seen = Of tie.After-sends
 
-abbrev seen : Of tie.After-apply-arg7 → Seen
+abbrev seen : Of tie.After-apply-arg11 → Seen
 seen c = c .before .before .before .before
 
 -- they are done, where there are any
 abbrev Joined : Type 0
-Joined = Of tie.Joined3
+Joined = Of tie.Joined4
 
 abbrev left : Joined → Left
 left c = c .before .before
@@ -393,7 +394,23 @@ apply-requires c κs =
     let same = same-then (records r .records .inv .same) (r .before .loop3 .inv .done .same) in
     let inside : r .before .loop3 .k < length (h .if2 .rules) = omega (arith, at-hand r, held h .rules-are .length-is) in (
       (limits t, out-whole t, r .before .before .records-test .taken, room-still (prepared g) same),
-      (rule-ready (prepared g) same _ _ (r .loop3-test .taken), plain-at (codesKept [] [] []) _ _ _ inside (r .loop3-test .taken) (held h .plain-are)),
+      (rule-ready (prepared g) same _ _ (r .loop3-test .taken), λ e. plain-at (codesKept [] [] []) _ _ _ inside (r .loop3-test .taken) (held h .plain-are) (c .before .before .before .before .if3 .taken)),
+    )
+
+mul-apply-2 : Of tie.Need-mul-apply-2
+mul-apply-2 c = record { fits = omega (arith, at-hand (rulingCoded c)) }
+
+array-copy-out-apply-2 : Of tie.Need-array-copy-out-apply-2
+array-copy-out-apply-2 c = omega (arith, at-hand (rulingCoded c))
+
+apply-requires-2 : Of tie.Need-apply-requires-2
+apply-requires-2 c κs =
+    let r = rulingCoded (c .before) in
+    let g = begun (records r) in
+    let t = turn (holdingOfRuling r) in
+    let same = same-then (records r .records .inv .same) (r .before .loop3 .inv .done .same) in (
+      (limits t, out-whole t, r .before .before .records-test .taken, room-still (prepared g) same),
+      (rule-ready (prepared g) same _ _ (r .loop3-test .taken), λ e. true-false e refl),
     )
 
 enum-told : Of tie.Need-enum-told
@@ -414,7 +431,7 @@ loop3-again : Of tie.Need-loop3-again
 loop3-again c =
     let r = rulingOfRuled c in
     rules-next (r .before .loop3 .inv) (r .loop3-test .taken) (rules-fit (prepared (begun (records r)))) (c .enum-told2 .given .1) _
-    (ruled c .apply .ensures) (omega arith)
+    (⊎-elim (λ w. local-as _ _ _ _ _ _ _ (w .9) (w .10) (w .11) (w .5 .ensures)) (λ w. local-as _ _ _ _ _ _ _ (w .9) (w .10) (w .11) (w .5 .ensures)) (c .before .before .if3 .came)) (omega arith)
 
 add-u : Of tie.Need-add-u
 add-u c =
@@ -438,7 +455,8 @@ applied c =
     ⊎-elim
     (λ w. left-behind i (w .0 .left) (w .1) (w .2) (w .3))
     (λ w.
-    left-within i (w .0 .taken) (w .1 .inv) (w .2 .taken) (rules-fit b) (w .12 .given .1) (w .13) (w .14) (w .15) _ (w .7 .ensures))
+    left-within i (w .0 .taken) (w .1 .inv) (w .2 .taken) (rules-fit b) (w .5 .given .1) (w .6) (w .7) (w .8) _
+    (⊎-elim (λ v. local-as _ _ _ _ _ _ _ (v .9) (v .10) (v .11) (v .5 .ensures)) (λ v. local-as _ _ _ _ _ _ _ (v .9) (v .10) (v .11) (v .5 .ensures)) (w .3 .came)))
     (c .records-test .came)
 
 -- The remote writes, where there are any and no local sum is out of range.
@@ -446,26 +464,26 @@ applied c =
 sends-requires : Of tie.Need-sends-requires
 sends-requires c κs = tt
 
-apply-requires-2 : Of tie.Need-apply-requires-2
-apply-requires-2 c κs =
+apply-requires-3 : Of tie.Need-apply-requires-3
+apply-requires-3 c κs =
     let s = seen c in
     let l = applied (s .before) in
     let b = prepared (begunOfLeft (s .before)) in
     let h = holdingOfLeft (s .before) in
     let t = turn h in
-    let all = l .all (sends-nowhere _ _ (sym (s .sends .ensures) ∙ c .before .before .before .if3 .taken)) in (
+    let all = l .all (sends-nowhere _ _ (sym (s .sends .ensures) ∙ c .before .before .before .if4 .taken)) in (
       (limits t, out-whole t, room-still b (l .same), few-rules t, b .taken .length-is),
       ((ready-still b (l .same), all .in-range), (small-still b (l .same) all, held h .plain-are)),
     )
 
 -- all rules are done, remote ones too: `w` has what is known behind the call, or that there are none
-done : (c : Joined) → Done (prepared (begunOfLeft (left c))) (left c .records-test .stop) (c .if3 .values) (c .if3 .marks) (c .if3 .sent)
+done : (c : Joined) → Done (prepared (begunOfLeft (left c))) (left c .records-test .stop) (c .if4 .values) (c .if4 .marks) (c .if4 .sent)
 done c =
     let l = applied (left c) in
     ⊎-elim
     (λ w. done-remote l (w .4 .ensures) (w .8) (w .9) (w .10))
     (λ w. done-local l (sym (c .before .sends .ensures) ∙ w .0 .left) (w .1) (w .2) (w .3))
-    (c .if3 .came)
+    (c .if4 .came)
 
 -- The turn is finished.
 
@@ -520,5 +538,5 @@ run-steps-spec =
     Inv-loop2 μ-loop2 Inv-loop3 μ-loop3 Inv-records μ-records Inv-loop μ-loop mul-at add-base array-copy-out-rules array-copy-out-frame loop-holds
     goes-on-requires mul-frame array-copy-out-frame-2 loop2-holds mul-rules add-rules mul-rules-2 array-copy-out-rules-2 mul-rules-3
     array-set-from-rules mul-stay-plain array-copy-out-stay-plain stay-plain-requires add-k loop2-less loop2-again begin-requires records-holds
-    loop3-holds mul-apply array-copy-out-apply apply-requires enum-told enum-told-2 add-k-2 loop3-less loop3-again add-u records-less records-again
-    sends-requires apply-requires-2 finish-requires loop-less loop-again answer-requires same-length same-length-2 same-length-3 returns)
+    loop3-holds mul-apply array-copy-out-apply apply-requires mul-apply-2 array-copy-out-apply-2 apply-requires-2 enum-told enum-told-2 add-k-2 loop3-less loop3-again add-u records-less records-again
+    sends-requires apply-requires-3 finish-requires loop-less loop-again answer-requires same-length same-length-2 same-length-3 returns)
