@@ -135,22 +135,9 @@ fn run_steps(
         'records: for u in 0..sizes.records {
             for k in 0..used {
                 if plain {
-                    stop = local::apply(
-                        out,
-                        values,
-                        marks,
-                        sizes,
-                        base,
-                        u,
-                        kinds,
-                        numbers,
-                        chains,
-                        places,
-                        rules[k],
-                        true,
-                    );
+                    stop = local::apply_plain(out, values, marks, sizes, base, u, rules[k]);
                 } else {
-                    stop = local::apply(
+                    stop = local::apply_rule(
                         out,
                         values,
                         marks,
@@ -162,7 +149,6 @@ fn run_steps(
                         chains,
                         places,
                         rules[k],
-                        false,
                     );
                 }
                 if let Stop::At(_, _) = stop {
