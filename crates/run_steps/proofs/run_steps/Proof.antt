@@ -395,7 +395,7 @@ apply-plain-requires c κs =
     let inside : r .before .loop3 .k < length (h .if2 .rules) = omega (arith, at-hand r, held h .rules-are .length-is) in (
       (limits t, out-whole t, r .before .before .records-test .taken, room-still (prepared g) same),
       plain-ready (plain-at (codesKept [] [] []) _ _ _ inside (r .loop3-test .taken) (held h .plain-are) (c .before .before .before .before .if3 .taken))
-      (rule-ready (prepared g) same _ _ (r .loop3-test .taken)),
+          (rule-ready (prepared g) same _ _ (r .loop3-test .taken)),
     )
 
 mul-apply-rule : Of tie.Need-mul-apply-rule
