@@ -75,6 +75,12 @@ module _ {s : Sizes} {cells : List Cell} {base : ℕ} {codes : Codes} {rules : L
           u≤ = omega arith;
         }
 
+-- what a rule left, where two ways have met
+pub local-as : (s : Sizes) (cells : List Cell) (base u : ℕ) (r : Rule) (values : List ℤ) (marks : List ℕ)
+    {values′ values″ : List ℤ} {marks′ marks″ : List ℕ} {stop stop′ : Stop} → values″ ≡ values′ → marks″ ≡ marks′ → stop′ ≡ stop → LocalRule s cells base u r values marks values′ marks′ stop
+    → LocalRule s cells base u r values marks values″ marks″ stop′
+local-as s cells base u r values marks v m t rule = rw (v, m, t) rule
+
 -- what the loops leave: all records are done, or one rule's sum is out of range
 pub record LocalsLeft (s : Sizes) (cells : List Cell) (base : ℕ) (rs : List Rule) (values : List ℤ) (marks : List ℕ)
     (values′ : List ℤ) (marks′ : List ℕ) (stop : Stop) : Type 0 where

@@ -134,20 +134,23 @@ fn run_steps(
         let mut stop = Stop::Nowhere;
         'records: for u in 0..sizes.records {
             for k in 0..used {
-                stop = local::apply(
-                    out,
-                    values,
-                    marks,
-                    sizes,
-                    base,
-                    u,
-                    kinds,
-                    numbers,
-                    chains,
-                    places,
-                    rules[k],
-                    plain,
-                );
+                if plain {
+                    stop = local::apply_plain(out, values, marks, sizes, base, u, rules[k]);
+                } else {
+                    stop = local::apply_rule(
+                        out,
+                        values,
+                        marks,
+                        sizes,
+                        base,
+                        u,
+                        kinds,
+                        numbers,
+                        chains,
+                        places,
+                        rules[k],
+                    );
+                }
                 if let Stop::At(_, _) = stop {
                     break 'records;
                 }

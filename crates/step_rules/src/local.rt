@@ -10,7 +10,6 @@ ghost use Rattle.program.specs.Code.{codesKept};
 ghost use Rattle.program.specs.Stored.{ruleIn};
 ghost use Rattle.register.specs.declared.cells.Cell.the-variants.{WorkedOut};
 ghost use Rattle.step_cells.specs.Work.{Room, Put};
-ghost use Rattle.step_tests.specs.Plain.{plainSlot};
 ghost use Rattle.step_rules.specs.Ready.{RuleReady, PlainReady, LocalRule, WritesField, Performed, PlainLocal};
 use chain::follow;
 use program::location::Located;
@@ -124,45 +123,4 @@ pub fn apply_plain(
         rule,
     );
     perform(values, marks, sizes, base, u, write)
-}
-
-// One rule at record u by either way, as it is known to be plain or not.
-pub fn apply(
-    out: &[u8],
-    values: &mut [i64],
-    marks: &mut [u8],
-    sizes: Sizes,
-    base: usize,
-    u: usize,
-    kinds: &[u8],
-    numbers: &[i32],
-    chains: &[u64],
-    places: &[u8],
-    rule: Located,
-    plain: bool,
-) -> Stop
-    requires { ⌜ Limits sizes × (length (now out) ≡ 12 + 5 * cellCount sizes) × (u < sizes .records) × Room base (cellCount sizes) (now values) (now marks) ⌝ }
-    requires { ⌜ RuleReady sizes (cellsOfFile sizes (now out)) (take base (now values)) (take base (now marks))
-        (codesKept (now kinds) (now numbers) (now chains)) (now places) rule
-        × (plain ≡ true → plainSlot (rule .slot) ≡ true) ⌝ }
-    ensures { λ r. ⌜ LocalRule sizes (cellsOfFile sizes (now (out .entry))) base u
-        (ruleIn (codesKept (now (kinds .entry)) (now (numbers .entry)) (now (chains .entry))) (rule .slot))
-        (now (values .entry)) (now (marks .entry)) (now (values .exit)) (now (marks .exit)) r ⌝ }
-{
-    if plain {
-        return apply_plain(out, values, marks, sizes, base, u, rule);
-    }
-    apply_rule(
-        out,
-        values,
-        marks,
-        sizes,
-        base,
-        u,
-        kinds,
-        numbers,
-        chains,
-        places,
-        rule,
-    )
 }

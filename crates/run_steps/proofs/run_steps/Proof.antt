@@ -20,7 +20,8 @@ use Rattle.step_cells.proofs.Working.{same-then}
 use Rattle.step_rules.specs.Ready.{AllPlain}
 use Rattle.step_rules.proofs.Locals.{plain-at}
 use Rattle.run_steps.proofs.Loops.{nearer, Taken, RulesDone, RecordsDone, rules-first, rules-next, records-first, records-next, left-behind}
-use Rattle.run_steps.proofs.Loops.{left-within}
+use Rattle.run_steps.proofs.Loops.{local-as, left-within}
+use Rattle.step_rules.proofs.Locals.{plain-ready}
 use Rattle.run_steps.proofs.Standing.{lines-end, scratch-behind, stands-start, StandsBy, turns, ends-by}
 use Rattle.run_steps.proofs.Arrays.{noFrame}
 use Rattle.run_steps.proofs.Turn.{Held, held-anew, held-still, plain-more, Turn, base, limits, out-whole, out-length, at-step, few-steps, few-rules, setting-passes}
@@ -146,18 +147,18 @@ records c = c .before .before .before
 abbrev holdingOfRuling : Ruling → Holding
 holdingOfRuling c = holdingOfBegun (begun (records c))
 
-abbrev ruling : Of tie.After-apply-arg3 → Ruling
-ruling c = c .before .before .before
+abbrev ruling : Of tie.After-apply-plain-arg3 → Ruling
+ruling c = c .before .before .before .before
+
+abbrev rulingCoded : Of tie.After-apply-rule-arg3 → Ruling
+rulingCoded c = c .before .before .before .before
 
 -- it is done, and its sum is in range
 abbrev Ruled : Type 0
 Ruled = Of tie.After-enum-told2
 
-abbrev ruled : Ruled → Of tie.After-apply
-ruled c = c .before .before .before .before .before
-
 abbrev rulingOfRuled : Ruled → Ruling
-rulingOfRuled c = ruling (ruled c .before .before)
+rulingOfRuled c = c .before .before .before
 
 -- the loops over records and rules are left
 abbrev Left : Type 0
@@ -173,12 +174,12 @@ holdingOfLeft c = holdingOfBegun (begunOfLeft c)
 abbrev Seen : Type 0
 Seen = Of tie.After-sends
 
-abbrev seen : Of tie.After-apply-arg7 → Seen
+abbrev seen : Of tie.After-apply-arg3 → Seen
 seen c = c .before .before .before .before
 
 -- they are done, where there are any
 abbrev Joined : Type 0
-Joined = Of tie.Joined3
+Joined = Of tie.Joined4
 
 abbrev left : Joined → Left
 left c = c .before .before
@@ -378,14 +379,14 @@ loop3-holds c = rules-first (c .before .records .inv .nowhere)
 at-hand : (r : Ruling) → r .before .loop3 .k < 32
 at-hand r = omega (arith, few-rules (turn (holdingOfRuling r)), r .loop3-test .taken)
 
-mul-apply : Of tie.Need-mul-apply
-mul-apply c = record { fits = omega (arith, at-hand (ruling c)) }
+mul-apply-plain : Of tie.Need-mul-apply-plain
+mul-apply-plain c = record { fits = omega (arith, at-hand (ruling c)) }
 
-array-copy-out-apply : Of tie.Need-array-copy-out-apply
-array-copy-out-apply c = omega (arith, at-hand (ruling c))
+array-copy-out-apply-plain : Of tie.Need-array-copy-out-apply-plain
+array-copy-out-apply-plain c = omega (arith, at-hand (ruling c))
 
-apply-requires : Of tie.Need-apply-requires
-apply-requires c κs =
+apply-plain-requires : Of tie.Need-apply-plain-requires
+apply-plain-requires c κs =
     let r = ruling (c .before) in
     let g = begun (records r) in
     let h = holdingOfRuling r in
@@ -393,7 +394,24 @@ apply-requires c κs =
     let same = same-then (records r .records .inv .same) (r .before .loop3 .inv .done .same) in
     let inside : r .before .loop3 .k < length (h .if2 .rules) = omega (arith, at-hand r, held h .rules-are .length-is) in (
       (limits t, out-whole t, r .before .before .records-test .taken, room-still (prepared g) same),
-      (rule-ready (prepared g) same _ _ (r .loop3-test .taken), plain-at (codesKept [] [] []) _ _ _ inside (r .loop3-test .taken) (held h .plain-are)),
+      plain-ready (plain-at (codesKept [] [] []) _ _ _ inside (r .loop3-test .taken) (held h .plain-are) (c .before .before .before .before .if3 .taken))
+          (rule-ready (prepared g) same _ _ (r .loop3-test .taken)),
+    )
+
+mul-apply-rule : Of tie.Need-mul-apply-rule
+mul-apply-rule c = record { fits = omega (arith, at-hand (rulingCoded c)) }
+
+array-copy-out-apply-rule : Of tie.Need-array-copy-out-apply-rule
+array-copy-out-apply-rule c = omega (arith, at-hand (rulingCoded c))
+
+apply-rule-requires : Of tie.Need-apply-rule-requires
+apply-rule-requires c κs =
+    let r = rulingCoded (c .before) in
+    let g = begun (records r) in
+    let t = turn (holdingOfRuling r) in
+    let same = same-then (records r .records .inv .same) (r .before .loop3 .inv .done .same) in (
+      (limits t, out-whole t, r .before .before .records-test .taken, room-still (prepared g) same),
+      rule-ready (prepared g) same _ _ (r .loop3-test .taken),
     )
 
 enum-told : Of tie.Need-enum-told
@@ -414,7 +432,7 @@ loop3-again : Of tie.Need-loop3-again
 loop3-again c =
     let r = rulingOfRuled c in
     rules-next (r .before .loop3 .inv) (r .loop3-test .taken) (rules-fit (prepared (begun (records r)))) (c .enum-told2 .given .1) _
-    (ruled c .apply .ensures) (omega arith)
+    (⊎-elim (λ w. local-as _ _ _ _ _ _ _ (w .9) (w .10) (w .11) (w .5 .ensures _)) (λ w. local-as _ _ _ _ _ _ _ (w .9) (w .10) (w .11) (w .5 .ensures)) (c .before .before .if3 .came)) (omega arith)
 
 add-u : Of tie.Need-add-u
 add-u c =
@@ -438,7 +456,8 @@ applied c =
     ⊎-elim
     (λ w. left-behind i (w .0 .left) (w .1) (w .2) (w .3))
     (λ w.
-    left-within i (w .0 .taken) (w .1 .inv) (w .2 .taken) (rules-fit b) (w .12 .given .1) (w .13) (w .14) (w .15) _ (w .7 .ensures))
+    left-within i (w .0 .taken) (w .1 .inv) (w .2 .taken) (rules-fit b) (w .5 .given .1) (w .6) (w .7) (w .8) _
+    (⊎-elim (λ v. local-as _ _ _ _ _ _ _ (v .9) (v .10) (v .11) (v .5 .ensures _)) (λ v. local-as _ _ _ _ _ _ _ (v .9) (v .10) (v .11) (v .5 .ensures)) (w .3 .came)))
     (c .records-test .came)
 
 -- The remote writes, where there are any and no local sum is out of range.
@@ -446,26 +465,26 @@ applied c =
 sends-requires : Of tie.Need-sends-requires
 sends-requires c κs = tt
 
-apply-requires-2 : Of tie.Need-apply-requires-2
-apply-requires-2 c κs =
+apply-requires : Of tie.Need-apply-requires
+apply-requires c κs =
     let s = seen c in
     let l = applied (s .before) in
     let b = prepared (begunOfLeft (s .before)) in
     let h = holdingOfLeft (s .before) in
     let t = turn h in
-    let all = l .all (sends-nowhere _ _ (sym (s .sends .ensures) ∙ c .before .before .before .if3 .taken)) in (
+    let all = l .all (sends-nowhere _ _ (sym (s .sends .ensures) ∙ c .before .before .before .if4 .taken)) in (
       (limits t, out-whole t, room-still b (l .same), few-rules t, b .taken .length-is),
       ((ready-still b (l .same), all .in-range), (small-still b (l .same) all, held h .plain-are)),
     )
 
 -- all rules are done, remote ones too: `w` has what is known behind the call, or that there are none
-done : (c : Joined) → Done (prepared (begunOfLeft (left c))) (left c .records-test .stop) (c .if3 .values) (c .if3 .marks) (c .if3 .sent)
+done : (c : Joined) → Done (prepared (begunOfLeft (left c))) (left c .records-test .stop) (c .if4 .values) (c .if4 .marks) (c .if4 .sent)
 done c =
     let l = applied (left c) in
     ⊎-elim
     (λ w. done-remote l (w .4 .ensures) (w .8) (w .9) (w .10))
     (λ w. done-local l (sym (c .before .sends .ensures) ∙ w .0 .left) (w .1) (w .2) (w .3))
-    (c .if3 .came)
+    (c .if4 .came)
 
 -- The turn is finished.
 
@@ -520,5 +539,5 @@ run-steps-spec =
     Inv-loop2 μ-loop2 Inv-loop3 μ-loop3 Inv-records μ-records Inv-loop μ-loop mul-at add-base array-copy-out-rules array-copy-out-frame loop-holds
     goes-on-requires mul-frame array-copy-out-frame-2 loop2-holds mul-rules add-rules mul-rules-2 array-copy-out-rules-2 mul-rules-3
     array-set-from-rules mul-stay-plain array-copy-out-stay-plain stay-plain-requires add-k loop2-less loop2-again begin-requires records-holds
-    loop3-holds mul-apply array-copy-out-apply apply-requires enum-told enum-told-2 add-k-2 loop3-less loop3-again add-u records-less records-again
-    sends-requires apply-requires-2 finish-requires loop-less loop-again answer-requires same-length same-length-2 same-length-3 returns)
+    loop3-holds mul-apply-plain array-copy-out-apply-plain apply-plain-requires mul-apply-rule array-copy-out-apply-rule apply-rule-requires enum-told enum-told-2 add-k-2 loop3-less loop3-again add-u records-less records-again
+    sends-requires apply-requires finish-requires loop-less loop-again answer-requires same-length same-length-2 same-length-3 returns)
