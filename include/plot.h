@@ -18,7 +18,7 @@
  * - Nobody else writes what is lent, or reads what is written, during the call.
  *   The library keeps no pointer and no state: calls on different memory may run
  *   at the same time.
- * - A call needs up to about 900 KB of stack. A thread that makes one has 1 MiB left.
+ * - A call needs up to about 750 KB of stack. A thread that makes one has 1 MiB left.
  */
 #ifndef PLOT_H
 #define PLOT_H

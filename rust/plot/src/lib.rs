@@ -28,7 +28,7 @@
 //! # Ok::<(), plot::Refusal>(())
 //! ```
 //!
-//! A call needs up to about 900 KB of stack; the main thread and a thread that Rust
+//! A call needs up to about 750 KB of stack; the main thread and a thread that Rust
 //! starts by default have more.
 //!
 //! The module [`lent`] has the library's own functions, one for one, with the

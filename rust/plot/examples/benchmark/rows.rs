@@ -15,8 +15,8 @@ pub fn rows() -> Vec<Row> {
     vec![
         load(),
         path_of_16_hops(),
-        check_text("check 8,192 bytes, plain", 1.5, plain_text()),
-        check_text("check 8,192 bytes, dense", 1.5, dense_text()),
+        check_text("check 8,192 bytes, plain", 1.2, plain_text()),
+        check_text("check 8,192 bytes, dense", 1.2, dense_text()),
         check_text("check 8,192 bytes, expressions", 1.2, expression_text()),
     ]
 }
