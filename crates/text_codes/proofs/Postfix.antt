@@ -15,16 +15,17 @@ use Rattle.program.specs.Code.{Code, codeOf, postfix}
 use Rattle.text_syntax.specs.Written.{Term, chain, number, Expression, term, group, operation}
 use Rattle.text_syntax.specs.Parts.{everyTerm, termNamed, termKinded, termShort, termInRange}
 use Rattle.text_syntax.specs.Tree.{termTree, treeOf}
-use Rattle.text_codes.specs.Coded.{kindOf, numberOf, packedOf}
+use Rattle.text_codes.specs.Coded.{termCode}
 use Rattle.text_codes.specs.Codes.{writtenCodes}
 
 module _ (s : Sizes) (l : Limits s) where
   term-postfix : (x : Term) → termNamed s x ≡ true → termKinded x ≡ true → termShort x ≡ true → termInRange x ≡ true
-      → codeOf (kindOf x) (numberOf x) (packedOf x) ∷ [] ≡ postfix (termTree x)
-  unfolding codeOf kindOf numberOf packedOf postfix termTree termNamed termKinded termShort termInRange sumOf
+      → codeOf (termCode x) ∷ [] ≡ postfix (termTree x)
+  unfolding termCode postfix termTree termNamed termKinded termShort termInRange sumOf
   term-postfix (chain ls) n k h r =
-      ap (λ (w : List ℕ). P.chain w ∷ []) (letters-unpacked s ls n k l (le-ltb 16 (length ls) (leb-true (length ls) 16 h)))
-  term-postfix (number negative x) n k h r = rw r
+      ap (λ (c : Code). c ∷ [])
+      (chain-coded _ ∙ ap P.chain (letters-unpacked s ls n k l (le-ltb 16 (length ls) (leb-true (length ls) 16 h))))
+  term-postfix (number negative x) n k h r = rw r (ap (λ (c : Code). c ∷ []) (number-coded _ (range-fits _ r)))
 
   pub codes-postfix : (e : Expression) → everyTerm (termNamed s) e ≡ true → everyTerm termKinded e ≡ true → everyTerm termShort e ≡ true
       → everyTerm termInRange e ≡ true → writtenCodes e ≡ postfix (treeOf e)
