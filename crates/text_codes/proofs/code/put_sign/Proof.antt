@@ -12,4 +12,4 @@ returns-2 : tie.Need-returns-2
 returns-2 c = sign-some _ _ _ (c .before .pre) (c .if1 .left)
 
 pub put-sign-spec : {M : Type 1} → statement M
-put-sign-spec = tie.close (tie.spec returns (λ c. search needs) (λ c. search needs) (λ c. search needs) returns-2)
+put-sign-spec = tie.close (tie.spec returns (λ c. search needs) (λ c. search needs) (λ c. search needs) (λ c. search needs) returns-2)
