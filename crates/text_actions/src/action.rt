@@ -49,10 +49,7 @@ fn read_local(
 ) -> ActionRead
     requires { ⌜ Limits sizes × (at ≤ length (now line)) × (isCapital letter ≡ true)
         × Roomy (now codes) (now line) at count × (length (now codes) ≤ 65536) ⌝ }
-    ensures { λ r.
-        ⌜ ActionAt sizes (now (line .entry)) at (localForm (T.letter letter ∷ tokensFrom false (now (line .entry)) at))
-        (now (codes .entry))
-        (now (codes .exit)) count r ⌝ }
+    ensures { λ r. ⌜ ActionAt sizes (now (line .entry)) at (localForm (T.letter letter ∷ tokensFrom false (now (line .entry)) at)) (now (codes .entry)) (now (codes .exit)) count r ⌝ }
 {
     let Place::At(start) = word::assigned(line, at) else {
         return ActionRead::NoForm;
@@ -108,10 +105,7 @@ fn read_sent(
 ) -> ActionRead
     requires { ⌜ Limits sizes × (at ≤ length (now line)) × (isCapital letter ≡ true)
         × Roomy (now codes) (now line) at count × (length (now codes) ≤ 65536) ⌝ }
-    ensures { λ r.
-        ⌜ SentBehind sizes (now (line .entry)) at letter parts
-        (now (codes .entry))
-        (now (codes .exit)) count r ⌝ }
+    ensures { λ r. ⌜ SentBehind sizes (now (line .entry)) at letter parts (now (codes .entry)) (now (codes .exit)) count r ⌝ }
 {
     let WriteRead::Write(sort, start) = word::write(line, at) else {
         return ActionRead::NoForm;
@@ -134,12 +128,8 @@ fn read_sent(
 
 // The rule at `at`, by its first token.
 pub fn read(line: &[u8], at: usize, sizes: Sizes, codes: &mut [u64], count: usize) -> ActionRead
-    requires { ⌜ Limits sizes × (at ≤ length (now line)) × Roomy (now codes) (now line) at count
-        × (length (now codes) ≤ 65536) ⌝ }
-    ensures { λ r.
-        ⌜ ActionAt sizes (now (line .entry)) at (actionForm (tokensFrom false (now (line .entry)) at))
-        (now (codes .entry))
-        (now (codes .exit)) count r ⌝ }
+    requires { ⌜ Limits sizes × (at ≤ length (now line)) × Roomy (now codes) (now line) at count × (length (now codes) ≤ 65536) ⌝ }
+    ensures { λ r. ⌜ ActionAt sizes (now (line .entry)) at (actionForm (tokensFrom false (now (line .entry)) at)) (now (codes .entry)) (now (codes .exit)) count r ⌝ }
 {
     let first = lexer::next_token(line, at, false);
     let token = first.token;

@@ -7,7 +7,6 @@ ghost use Rattle.text_terms.specs.Term.{NoTerm};
 ghost use Rattle.text_codes.specs.Codes.{Roomy};
 ghost use Rattle.text_expressions.specs.Reading.{ReadingAt};
 use register::Sizes;
-use text_codes::code;
 use text_codes::summary;
 use text_codes::summary::Summary;
 use text_joins::Joining;
@@ -30,10 +29,7 @@ pub fn read_expression(
 ) -> Reading
     requires { ⌜ Limits sizes × (room ≤ 8) × (at ≤ length (now line)) × (before .operators ≤ at) ⌝ }
     requires { ⌜ Roomy (now codes) (now line) at count ⌝ }
-    ensures { λ r.
-        ⌜ ReadingAt expression sizes room before (now (line .entry)) at
-        (now (codes .entry))
-        (now (codes .exit)) count r ⌝ }
+    ensures { λ r. ⌜ ReadingAt expression sizes room before (now (line .entry)) at (now (codes .entry)) (now (codes .exit)) count r ⌝ }
 {
     let mut next = Pending {
         at,
@@ -65,10 +61,7 @@ fn read_minimum(
 ) -> Reading
     requires { ⌜ Limits sizes × (room ≤ 8) × (at ≤ length (now line)) × (before .operators ≤ at) ⌝ }
     requires { ⌜ Roomy (now codes) (now line) at count ⌝ }
-    ensures { λ r.
-        ⌜ ReadingAt minimum sizes room before (now (line .entry)) at
-        (now (codes .entry))
-        (now (codes .exit)) count r ⌝ }
+    ensures { λ r. ⌜ ReadingAt minimum sizes room before (now (line .entry)) at (now (codes .entry)) (now (codes .exit)) count r ⌝ }
 {
     let mut next = Pending {
         at,
@@ -100,15 +93,12 @@ fn read_operand(
 ) -> Reading
     requires { ⌜ Limits sizes × (room ≤ 8) × (at ≤ length (now line)) × (before .operators ≤ at) ⌝ }
     requires { ⌜ Roomy (now codes) (now line) at count ⌝ }
-    ensures { λ r.
-        ⌜ ReadingAt operand sizes room before (now (line .entry)) at
-        (now (codes .entry))
-        (now (codes .exit)) count r ⌝ }
+    ensures { λ r. ⌜ ReadingAt operand sizes room before (now (line .entry)) at (now (codes .entry)) (now (codes .exit)) count r ⌝ }
 {
     let TermRead::Parts(parts, end) = term::read_term(line, at, sizes) else {
         return read_group(line, at, sizes, room, before, codes, count);
     };
-    code::put(codes, count, parts.code);
+    codes[count] = parts.code;
     Reading::Read(summary::with_term(8 - room, before, parts), end, count + 1)
 }
 
@@ -124,10 +114,7 @@ fn read_group(
 ) -> Reading
     requires { ⌜ Limits sizes × (room ≤ 8) × (at ≤ length (now line)) × (before .operators ≤ at) ⌝ }
     requires { ⌜ Roomy (now codes) (now line) at count × NoTerm (now line) at ⌝ }
-    ensures { λ r.
-        ⌜ ReadingAt operand sizes room before (now (line .entry)) at
-        (now (codes .entry))
-        (now (codes .exit)) count r ⌝ }
+    ensures { λ r. ⌜ ReadingAt operand sizes room before (now (line .entry)) at (now (codes .entry)) (now (codes .exit)) count r ⌝ }
 {
     let Place::At(inner) = place::mark(line, at, true, place::OPEN_ROUND) else {
         return Reading::NoForm;

@@ -27,8 +27,7 @@ pub fn next_line(
     full: bool,
 ) -> Next
     requires { ⌜ Limits sizes × (at < length (now text)) × (used ≤ at) × CodeRoom (length (now text)) (now codes) ⌝ }
-    ensures { λ r. ⌜ Judged sizes (now (text .entry)) at state full (now (codes .entry))
-        (now (codes .exit)) used r ⌝ }
+    ensures { λ r. ⌜ Judged sizes (now (text .entry)) at state full (now (codes .entry)) (now (codes .exit)) used r ⌝ }
 {
     let end = text_next::line_end(text, at);
     let first = text_next::read_first(text, at, end, sizes, codes, used);

@@ -79,12 +79,8 @@ fn read_ruled(
     codes: &mut [u64],
     count: usize,
 ) -> LineParts
-    requires { ⌜ Limits sizes × (at ≤ length (now line)) × Roomy (now codes) (now line) at count
-        × (length (now codes) ≤ 65536) ⌝ }
-    ensures { λ r.
-        ⌜ RuledBehind sizes (now (line .entry)) at test
-        (now (codes .entry))
-        (now (codes .exit)) count r ⌝ }
+    requires { ⌜ Limits sizes × (at ≤ length (now line)) × Roomy (now codes) (now line) at count × (length (now codes) ≤ 65536) ⌝ }
+    ensures { λ r. ⌜ RuledBehind sizes (now (line .entry)) at test (now (codes .entry)) (now (codes .exit)) count r ⌝ }
 {
     let ActionRead::Action(rule, asked, used) = action::read(line, at, sizes, codes, count) else {
         return no_form(count);
@@ -107,12 +103,8 @@ fn read_compared(
     codes: &mut [u64],
     count: usize,
 ) -> LineParts
-    requires { ⌜ Limits sizes × (at ≤ length (now line)) × Roomy (now codes) (now line) at count
-        × (length (now codes) ≤ 65536) ⌝ }
-    ensures { λ r.
-        ⌜ ComparedBehind sizes (now (line .entry)) at first
-        (now (codes .entry))
-        (now (codes .exit)) count r ⌝ }
+    requires { ⌜ Limits sizes × (at ≤ length (now line)) × Roomy (now codes) (now line) at count × (length (now codes) ≤ 65536) ⌝ }
+    ensures { λ r. ⌜ ComparedBehind sizes (now (line .entry)) at first (now (codes .entry)) (now (codes .exit)) count r ⌝ }
 {
     let SideRead::Side(seen, term, end, used) = side::read(line, at, sizes, codes, count) else {
         return no_form(count);
@@ -126,12 +118,8 @@ fn read_compared(
 
 // A test and a rule, behind `if`.
 fn read_tested(line: &[u8], at: usize, sizes: Sizes, codes: &mut [u64], count: usize) -> LineParts
-    requires { ⌜ Limits sizes × (at ≤ length (now line)) × Roomy (now codes) (now line) at count
-        × (length (now codes) ≤ 65536) ⌝ }
-    ensures { λ r.
-        ⌜ LineAt sizes (now (line .entry)) at (testedBehind (tokensFrom true (now (line .entry)) at))
-        (now (codes .entry))
-        (now (codes .exit)) count count r ⌝ }
+    requires { ⌜ Limits sizes × (at ≤ length (now line)) × Roomy (now codes) (now line) at count × (length (now codes) ≤ 65536) ⌝ }
+    ensures { λ r. ⌜ LineAt sizes (now (line .entry)) at (testedBehind (tokensFrom true (now (line .entry)) at)) (now (codes .entry)) (now (codes .exit)) count count r ⌝ }
 {
     let SideRead::Side(seen, term, end, used) = side::read(line, at, sizes, codes, count) else {
         return no_form(count);
@@ -150,10 +138,7 @@ fn read_tested(line: &[u8], at: usize, sizes: Sizes, codes: &mut [u64], count: u
 // A line without its byte 10, the codes of its expressions written from `count` on.
 pub fn read_line(line: &[u8], sizes: Sizes, codes: &mut [u64], count: usize) -> LineParts
     requires { ⌜ Limits sizes × Roomy (now codes) (now line) 0 count × (length (now codes) ≤ 65536) ⌝ }
-    ensures { λ r.
-        ⌜ LineAt sizes (now (line .entry)) 0 (anyForm (tokens (now (line .entry))))
-        (now (codes .entry))
-        (now (codes .exit)) count count r ⌝ }
+    ensures { λ r. ⌜ LineAt sizes (now (line .entry)) 0 (anyForm (tokens (now (line .entry)))) (now (codes .entry)) (now (codes .exit)) count count r ⌝ }
 {
     let first = lexer::next_token(line, 0, false);
     let token = first.token;

@@ -43,10 +43,7 @@ pub fn read_first(
 ) -> LineParts
     requires { ⌜ Limits sizes × (at < length (now text)) × (end ≡ at + length (lineBytes (drop at (now text)))) × (count ≤ at)
         × CodeRoom (length (now text)) (now codes) ⌝ }
-    ensures { λ r.
-        ⌜ LineNext sizes (firstForm (drop at (now (text .entry)))) end
-        (now (codes .entry))
-        (now (codes .exit)) count r ⌝ }
+    ensures { λ r. ⌜ LineNext sizes (firstForm (drop at (now (text .entry)))) end (now (codes .entry)) (now (codes .exit)) count r ⌝ }
 {
     if text.len() <= end {
         return LineParts {

@@ -20,10 +20,7 @@ pub enum ExpressionRead {
 // The expression at `at`, its codes written from `count` on. One that is more than 8 groups deep is passed without codes.
 pub fn read(line: &[u8], at: usize, sizes: Sizes, codes: &mut [u64], count: usize) -> ExpressionRead
     requires { ⌜ Limits sizes × (at ≤ length (now line)) × Roomy (now codes) (now line) at count ⌝ }
-    ensures { λ r.
-        ⌜ ExpressionAt sizes (now (line .entry)) at
-        (now (codes .entry))
-        (now (codes .exit)) count r ⌝ }
+    ensures { λ r. ⌜ ExpressionAt sizes (now (line .entry)) at (now (codes .entry)) (now (codes .exit)) count r ⌝ }
 {
     let before = summary::nothing();
     match reader::read_expression(line, at, sizes, 8, before, codes, count) {

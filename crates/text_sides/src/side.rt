@@ -89,12 +89,8 @@ pub enum SideRead {
 
 // The expression at `at`, as a term.
 pub fn read(line: &[u8], at: usize, sizes: Sizes, codes: &mut [u64], count: usize) -> SideRead
-    requires { ⌜ Limits sizes × (at ≤ length (now line)) × Roomy (now codes) (now line) at count
-        × (length (now codes) ≤ 65536) ⌝ }
-    ensures { λ r.
-        ⌜ SideAt sizes (now (line .entry)) at
-        (now (codes .entry))
-        (now (codes .exit)) count r ⌝ }
+    requires { ⌜ Limits sizes × (at ≤ length (now line)) × Roomy (now codes) (now line) at count × (length (now codes) ≤ 65536) ⌝ }
+    ensures { λ r. ⌜ SideAt sizes (now (line .entry)) at (now (codes .entry)) (now (codes .exit)) count r ⌝ }
 {
     let ExpressionRead::Parts(seen, end, to) = expression::read(line, at, sizes, codes, count)
     else {
