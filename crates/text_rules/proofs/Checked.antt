@@ -28,7 +28,7 @@ use Rattle.program.specs.declared.rule.Sort.{Sort}
 use Rattle.program.specs.declared.rule.Sort.the-variants.{Least, Total}
 use Rattle.program.specs.Program as P
 use Rattle.text_rules.specs.Check.{State, inPlace, hasRoom, sortsAgree, planFits, lineRefusal}
-use Rattle.program.specs.Passed.{isReferenceWord, takesReferences, isReferenceExpression, ExpressionPasses, TestPasses, RemotePasses, TargetPasses, RulePasses}
+use Rattle.program.specs.Passed.{isReferenceWord, takesReferences, isReferenceExpression, ExpressionPasses, TestPasses, TestFew, RemotePasses, TargetPasses, RulePasses}
 use Rattle.laws.proofs.Lists.{each-front, each-back}
 
 -- the tests that a line with no refusal has passed
@@ -233,10 +233,27 @@ kinds-of o x y false w =
 abbrev tree : Expression → P.Expression
 tree e = treeOf e
 
+-- it has the operators that are written
+tree-operators : (e : Expression) → P.operators (treeOf e) ≡ operators e
+unfolding treeOf termTree P.operators operators
+tree-operators (term (chain ls)) = refl
+tree-operators (term (number negative x)) = refl
+tree-operators (group e) = tree-operators e
+tree-operators (operation o x y) = omega (arith, tree-operators x, tree-operators y)
+
+tree-few : {s : Sizes} (e : Expression) → Fine s e → P.operators (treeOf e) ≤ 64
+tree-few e w = omega (arith, tree-operators e, w .few-operators)
+
+test-few : (s : Sizes) (c : W.Condition) → Each (Fine s) (conditionExpressions c) → TestFew (testOf c)
+unfolding conditionExpressions testOf
+test-few s W.always w = tt
+test-few s (W.when x c y) w = (tree-few x (w .0), tree-few y (w .1 .0))
+
 -- what an action adds to its test: the fields of a rule that passes
 record ActionPasses (s : Sizes) (a : W.Action) : Type 0 where
   target : TargetPasses s (targetOf a)
   expression : ExpressionPasses s (sourceOf a)
+  few : P.operators (sourceOf a) ≤ 64
   alike : isReference (P.targetField (targetOf a)) ≡ isReferenceExpression (sourceOf a)
 
 -- an expression that passes has the kind of what it holds
@@ -291,13 +308,14 @@ module _ (s : Sizes) (lim : Limits s) where
   unfolding target actionExpressions actionKinds targetOf sourceOf P.targetField
   action-passes (W.set f e) n w h =
       let t = fine-treed e (w .0) in
-      record { target = tt; expression = t .passes; alike = letter-kind s lim f n ∙ same-is _ _ h ∙ sym (t .kind-is) }
+      record { target = tt; expression = t .passes; few = tree-few e (w .0); alike = letter-kind s lim f n ∙ same-is _ _ h ∙ sym (t .kind-is) }
   action-passes (W.remote Least f c e) n w h =
       let both = and-both (isReferenceTerm (chain c)) (sameKind (isReferenceLetter f) (K.isReference e)) h in
       let t = fine-treed e (w .1 .0) in
       record {
         target = remote-passes Least f c (w .0) (both .0) (λ e. absurd (let z : _≡_ {A = ℕ} 0 1 = cc in omega arith));
         expression = t .passes;
+        few = tree-few e (w .1 .0);
         alike = letter-kind s lim f n ∙ same-is _ _ (both .1) ∙ sym (t .kind-is);
       }
   action-passes (W.remote Total f c e) n w h =
@@ -308,6 +326,7 @@ module _ (s : Sizes) (lim : Limits s) where
       record {
         target = remote-passes Total f c (w .0) (both .0) (λ e. field);
         expression = t .passes;
+        few = tree-few e (w .1 .0);
         alike = field ∙ sym (t .kind-is ∙ not-true _ (measures .1));
       }
 
@@ -327,10 +346,12 @@ module _ (s : Sizes) (lim : Limits s) where
       let both = and-both (conditionKinds c) (actionKinds a) (o .1) in
       let w = rule-fine s st c a k in
       let p = action-passes a (n .0) (each-back (Fine s) (conditionExpressions c) (actionExpressions a) w) (both .1) in
+      let front = each-front (Fine s) (conditionExpressions c) (actionExpressions a) w in
       record {
-        test = test-passes c (each-front (Fine s) (conditionExpressions c) (actionExpressions a) w) (both .0);
+        test = test-passes c front (both .0);
         field = rw (target-field a) (letter-field s lim (target a) (n .0));
         target = p .target;
         expression = p .expression;
+        few = (test-few s c front, p .few);
         alike = p .alike;
       }

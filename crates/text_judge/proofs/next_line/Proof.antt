@@ -17,15 +17,6 @@ read-first-requires c κs =
 refusal-requires : tie.Need-refusal-requires
 refusal-requires c κs = tt
 
-same-length : tie.Need-same-length
-same-length c = search needs
-
-same-length-2 : tie.Need-same-length-2
-same-length-2 c = search needs
-
-same-length-3 : tie.Need-same-length-3
-same-length-3 c = search needs
-
 returns : tie.Need-returns
 returns c =
     let f = c .before .before .before .before .before .before in
@@ -33,4 +24,5 @@ returns c =
     record { end-is = e .line-end .ensures; read = f .read-first .ensures; refusal-is = c .refusal .ensures }
 
 pub next-line-spec : {M : Type 1} → statement M
-next-line-spec = tie.close (tie.spec line-end-requires read-first-requires refusal-requires same-length same-length-2 same-length-3 returns)
+next-line-spec = tie.close
+    (tie.spec line-end-requires read-first-requires refusal-requires (λ c. search needs) (λ c. search needs) (λ c. search needs) returns)

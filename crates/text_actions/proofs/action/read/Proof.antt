@@ -16,12 +16,6 @@ use Rattle.text_actions.proofs.Actions.{roomy-later, action-from}
 use Rattle.text_actions.proofs.action.read.Statement.{statement}
 use Rattle.text_actions.proofs.action.read.Tie as tie
 
-next-token-requires : tie.Need-next-token-requires
-next-token-requires c κs = search needs
-
-enum-known-token : tie.Need-enum-known-token
-enum-known-token c = search needs
-
 read-local-requires : tie.Need-read-local-requires
 read-local-requires c κs =
     let n = c .before .before .before .before .before .before in
@@ -31,18 +25,12 @@ read-local-requires c κs =
     let e = c .before .before .before .before .token .given .1 in
     (p .0, w .inside, letter-capital _ _ (passed w e), roomy-later (goes-on w _ e tt) (p .2), p .3)
 
-enum-told : tie.Need-enum-told
-enum-told c = search needs
-
 read-target-requires : tie.Need-read-target-requires
 read-target-requires c κs =
     let n = c .before .before in
     let i = n .before .before .before .before in
     let w = lexed _ _ _ (i .pre .1) (n .next-token .ensures) in
     (i .pre .0, w .inside)
-
-enum-known-letter : tie.Need-enum-known-letter
-enum-known-letter c = search needs
 
 read-sent-requires : tie.Need-read-sent-requires
 read-sent-requires c κs =
@@ -55,18 +43,6 @@ read-sent-requires c κs =
     let v = behind-behind (goes-on w _ (l .before .before .before .enum-told .given .1) tt) (t .behind) in
     (p .0, t .behind .inside, t .capital, roomy-later v (p .2), p .3)
 
-enum-told-2 : tie.Need-enum-told-2
-enum-told-2 c = search needs
-
-same-length : tie.Need-same-length
-same-length c = search needs
-
-same-length-2 : tie.Need-same-length-2
-same-length-2 c = search needs
-
-same-length-3 : tie.Need-same-length-3
-same-length-3 c = search needs
-
 returns : tie.Need-returns
 returns c =
     let n = c .before .before .before .before .before .before .before .before .before .before .before .before in
@@ -75,15 +51,6 @@ returns c =
     let e = c .before .before .before .before .before .before .before .before .before .before .token .given .1 in
     let r = c .before .before .before .before .before in
     action-from _ _ _ _ _ (goes-on w _ e tt) (ap actionForm (passed w e) ∙ action-local _ _) (r .read-local .result) (r .read-local .ensures)
-
-same-length-4 : tie.Need-same-length-4
-same-length-4 c = search needs
-
-same-length-5 : tie.Need-same-length-5
-same-length-5 c = search needs
-
-same-length-6 : tie.Need-same-length-6
-same-length-6 c = search needs
 
 returns-2 : tie.Need-returns-2
 returns-2 c =
@@ -118,22 +85,6 @@ returns-4 c =
 pub read-spec : {M : Type 1} → statement M
 read-spec =
     tie.close
-    (tie.spec
-    next-token-requires
-    enum-known-token
-    read-local-requires
-    enum-told
-    read-target-requires
-    enum-known-letter
-    read-sent-requires
-    enum-told-2
-    same-length
-    same-length-2
-    same-length-3
-    returns
-    same-length-4
-    same-length-5
-    same-length-6
-    returns-2
-    returns-3
-    returns-4)
+    (tie.spec (λ c κs. search needs) (λ c. search needs) read-local-requires (λ c. search needs) read-target-requires (λ c. search needs)
+    read-sent-requires (λ c. search needs) (λ c. search needs) (λ c. search needs) (λ c. search needs) returns (λ c. search needs) (λ c. search needs)
+    (λ c. search needs) returns-2 returns-3 returns-4)

@@ -13,15 +13,6 @@ use Rattle.text_actions.proofs.Actions.{roomy-later, local-read}
 use Rattle.text_actions.proofs.action.read_local.Statement.{statement}
 use Rattle.text_actions.proofs.action.read_local.Tie as tie
 
-assigned-requires : tie.Need-assigned-requires
-assigned-requires c κs = search needs
-
-enum-known-start : tie.Need-enum-known-start
-enum-known-start c = search needs
-
-enum-told : tie.Need-enum-told
-enum-told c = search needs
-
 returns : tie.Need-returns
 returns c =
     let v = subst (PassesAssigned _ _) (c .enum-told .given .1) (c .before .before .assigned .ensures) in
@@ -35,21 +26,6 @@ read-requires c κs =
     let v = subst (PassesAssigned _ _) (s .start .given .1) (s .before .before .assigned .ensures) in
     (p .0, v .behind .inside, roomy-later (v .behind) (p .3))
 
-enum-known-seen : tie.Need-enum-known-seen
-enum-known-seen c = search needs
-
-enum-told-2 : tie.Need-enum-told-2
-enum-told-2 c = search needs
-
-same-length : tie.Need-same-length
-same-length c = search needs
-
-same-length-2 : tie.Need-same-length-2
-same-length-2 c = search needs
-
-same-length-3 : tie.Need-same-length-3
-same-length-3 c = search needs
-
 returns-2 : tie.Need-returns-2
 returns-2 c =
     let r = c .before .before .before .before .before .before .before in
@@ -62,15 +38,6 @@ ends-requires c κs =
     let k = c .before in
     let w = subst (ExpressionAt _ _ _ _ _ _) (k .seen .given .1) (k .before .before .before .before .before .before .before .read .ensures) in
     w .inside
-
-same-length-4 : tie.Need-same-length-4
-same-length-4 c = search needs
-
-same-length-5 : tie.Need-same-length-5
-same-length-5 c = search needs
-
-same-length-6 : tie.Need-same-length-6
-same-length-6 c = search needs
 
 returns-3 : tie.Need-returns-3
 returns-3 c =
@@ -101,9 +68,6 @@ names-field-requires c κs =
     let i = k .before .before .before .before .before .before .before .before .before .before .before .before .before .before .before .before .before .before in
     (i .pre .0 .references≤, i .pre .0 .measures≤)
 
-local-requires : tie.Need-local-requires
-local-requires c κs = search needs
-
 codes-behind-set-requires : tie.Need-codes-behind-set-requires
 codes-behind-set-requires c κs =
     let k = c .before .before .before .before .before .before .before .before .before .before in
@@ -116,12 +80,6 @@ same-length-7 : tie.Need-same-length-7
 same-length-7 c =
     let k = c .before .before .before .before .before .before .before .before .before .before .before in
     k .before .before .before .before .before .before .before .read .kept .1 .1 .1 .0
-
-same-length-8 : tie.Need-same-length-8
-same-length-8 c = search needs
-
-same-length-9 : tie.Need-same-length-9
-same-length-9 c = search needs
 
 returns-4 : tie.Need-returns-4
 returns-4 c =
@@ -141,29 +99,7 @@ returns-4 c =
 pub read-local-spec : {M : Type 1} → statement M
 read-local-spec =
     tie.close
-    (tie.spec
-    assigned-requires
-    enum-known-start
-    enum-told
-    returns
-    read-requires
-    enum-known-seen
-    enum-told-2
-    same-length
-    same-length-2
-    same-length-3
-    returns-2
-    ends-requires
-    same-length-4
-    same-length-5
-    same-length-6
-    returns-3
-    field-of-requires
-    set-in-requires
-    names-field-requires
-    local-requires
-    codes-behind-set-requires
-    same-length-7
-    same-length-8
-    same-length-9
-    returns-4)
+    (tie.spec (λ c κs. search needs) (λ c. search needs) (λ c. search needs) returns read-requires (λ c. search needs) (λ c. search needs)
+    (λ c. search needs) (λ c. search needs) (λ c. search needs) returns-2 ends-requires (λ c. search needs) (λ c. search needs) (λ c. search needs)
+    returns-3 field-of-requires set-in-requires names-field-requires (λ c κs. search needs) codes-behind-set-requires same-length-7 (λ c. search needs)
+    (λ c. search needs) returns-4)

@@ -11,15 +11,6 @@ use Rattle.text_actions.proofs.Actions.{roomy-later, sent-read}
 use Rattle.text_actions.proofs.action.read_sent.Statement.{statement}
 use Rattle.text_actions.proofs.action.read_sent.Tie as tie
 
-write-requires : tie.Need-write-requires
-write-requires c κs = search needs
-
-enum-known-sort : tie.Need-enum-known-sort
-enum-known-sort c = search needs
-
-enum-told : tie.Need-enum-told
-enum-told c = search needs
-
 returns : tie.Need-returns
 returns c chain e = no-action (not-sent _ chain (subst (PassesWrite _ _) (c .enum-told .given .1) (c .before .before .write .ensures)))
 
@@ -30,21 +21,6 @@ read-requires c κs =
     let p = i .pre in
     let v = subst (PassesWrite _ _) (s .sort .given .1) (s .before .before .write .ensures) in
     (p .0, v .behind .inside, roomy-later (v .behind) (p .3), p .4)
-
-enum-known-seen : tie.Need-enum-known-seen
-enum-known-seen c = search needs
-
-enum-told-2 : tie.Need-enum-told-2
-enum-told-2 c = search needs
-
-same-length : tie.Need-same-length
-same-length c = search needs
-
-same-length-2 : tie.Need-same-length-2
-same-length-2 c = search needs
-
-same-length-3 : tie.Need-same-length-3
-same-length-3 c = search needs
 
 returns-2 : tie.Need-returns-2
 returns-2 c chain e =
@@ -58,15 +34,6 @@ ends-requires c κs =
     let k = c .before in
     let w = subst (SideAt _ _ _ _ _ _) (k .seen .given .1) (k .before .before .before .before .before .before .before .read .ensures) in
     w .inside
-
-same-length-4 : tie.Need-same-length-4
-same-length-4 c = search needs
-
-same-length-5 : tie.Need-same-length-5
-same-length-5 c = search needs
-
-same-length-6 : tie.Need-same-length-6
-same-length-6 c = search needs
 
 returns-3 : tie.Need-returns-3
 returns-3 c chain e =
@@ -88,9 +55,6 @@ names-field-requires c κs =
     let k = c .before .before .before .before in
     let i = k .before .before .before .before .before .before .before .before .before .before .before .before .before .before .before .before .before .before in
     (i .pre .0 .references≤, i .pre .0 .measures≤)
-
-remote-requires : tie.Need-remote-requires
-remote-requires c κs = search needs
 
 same-length-7 : tie.Need-same-length-7
 same-length-7 c =
@@ -123,27 +87,6 @@ returns-4 c chain e =
 pub read-sent-spec : {M : Type 1} → statement M
 read-sent-spec =
     tie.close
-    (tie.spec
-    write-requires
-    enum-known-sort
-    enum-told
-    returns
-    read-requires
-    enum-known-seen
-    enum-told-2
-    same-length
-    same-length-2
-    same-length-3
-    returns-2
-    ends-requires
-    same-length-4
-    same-length-5
-    same-length-6
-    returns-3
-    field-of-requires
-    names-field-requires
-    remote-requires
-    same-length-7
-    same-length-8
-    same-length-9
-    returns-4)
+    (tie.spec (λ c κs. search needs) (λ c. search needs) (λ c. search needs) returns read-requires (λ c. search needs) (λ c. search needs)
+    (λ c. search needs) (λ c. search needs) (λ c. search needs) returns-2 ends-requires (λ c. search needs) (λ c. search needs) (λ c. search needs)
+    returns-3 field-of-requires names-field-requires (λ c κs. search needs) same-length-7 same-length-8 same-length-9 returns-4)

@@ -23,39 +23,21 @@ use Rattle.text_lines.proofs.Lines.{word-at, loop-at, if-line, rule-lin
 use Rattle.text_lines.proofs.line.read_line.Statement.{statement}
 use Rattle.text_lines.proofs.line.read_line.Tie as tie
 
-next-token-requires : tie.Need-next-token-requires
-next-token-requires c κs = search needs
-
 -- the first token of the line
 first : (c : tie.After-next-token) → Lexed false (now (c .before .before .before .before .args .line)) 0 (c .next-token .result)
 first c = lexed _ _ _ (omega arith) (c .next-token .ensures)
 
-enum-told : tie.Need-enum-told
-enum-told c = search needs
-
 word-line-requires : tie.Need-word-line-requires
 word-line-requires c κs = first (c .before .before) .inside
-
-enum-told-2 : tie.Need-enum-told-2
-enum-told-2 c = search needs
 
 word-line-requires-2 : tie.Need-word-line-requires-2
 word-line-requires-2 c κs = first (c .before .before) .inside
 
-enum-told-3 : tie.Need-enum-told-3
-enum-told-3 c = search needs
-
 word-line-requires-3 : tie.Need-word-line-requires-3
 word-line-requires-3 c κs = first (c .before .before) .inside
 
-enum-told-4 : tie.Need-enum-told-4
-enum-told-4 c = search needs
-
 read-loop-requires : tie.Need-read-loop-requires
 read-loop-requires c κs = (c .before .before .before .before .before .before .pre .0, first (c .before .before) .inside)
-
-enum-told-5 : tie.Need-enum-told-5
-enum-told-5 c = search needs
 
 read-tested-requires : tie.Need-read-tested-requires
 read-tested-requires c κs =
@@ -63,35 +45,11 @@ read-tested-requires c κs =
     let h = goes-on (first (c .before .before .before .before .before)) _ (c .before .before .before .enum-told5 .given .1) tt in
     (p .0, h .inside, roomy-later h (p .1), p .2)
 
-same-length : tie.Need-same-length
-same-length c = search needs
-
-same-length-2 : tie.Need-same-length-2
-same-length-2 c = search needs
-
-same-length-3 : tie.Need-same-length-3
-same-length-3 c = search needs
-
 returns : tie.Need-returns
 returns c =
     let r = c .before .before .before .before .before in
     if-line _ _ _ _ (passed (first (r .before .before .before .before .before .before)) (r .before .before .before .before .enum-told5 .given .1))
     (r .read-tested .ensures)
-
-always-requires : tie.Need-always-requires
-always-requires c κs = search needs
-
-read-ruled-requires : tie.Need-read-ruled-requires
-read-ruled-requires c κs = search needs
-
-same-length-4 : tie.Need-same-length-4
-same-length-4 c = search needs
-
-same-length-5 : tie.Need-same-length-5
-same-length-5 c = search needs
-
-same-length-6 : tie.Need-same-length-6
-same-length-6 c = search needs
 
 returns-2 : tie.Need-returns-2
 unfolding tokenCode
@@ -131,29 +89,7 @@ returns-6 c =
 pub read-line-spec : {M : Type 1} → statement M
 read-line-spec =
     tie.close
-    (tie.spec
-    next-token-requires
-    enum-told
-    word-line-requires
-    enum-told-2
-    word-line-requires-2
-    enum-told-3
-    word-line-requires-3
-    enum-told-4
-    read-loop-requires
-    enum-told-5
-    read-tested-requires
-    same-length
-    same-length-2
-    same-length-3
-    returns
-    always-requires
-    read-ruled-requires
-    same-length-4
-    same-length-5
-    same-length-6
-    returns-2
-    returns-3
-    returns-4
-    returns-5
-    returns-6)
+    (tie.spec (λ c κs. search needs) (λ c. search needs) word-line-requires (λ c. search needs) word-line-requires-2 (λ c. search needs)
+    word-line-requires-3 (λ c. search needs) read-loop-requires (λ c. search needs) read-tested-requires (λ c. search needs) (λ c. search needs)
+    (λ c. search needs) returns (λ c κs. search needs) (λ c κs. search needs) (λ c. search needs) (λ c. search needs) (λ c. search needs) returns-2
+    returns-3 returns-4 returns-5 returns-6)

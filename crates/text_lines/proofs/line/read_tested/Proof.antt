@@ -10,27 +10,6 @@ use Rattle.text_lines.proofs.Lines.{no-first, no-comparison, tested}
 use Rattle.text_lines.proofs.line.read_tested.Statement.{statement}
 use Rattle.text_lines.proofs.line.read_tested.Tie as tie
 
-read-requires : tie.Need-read-requires
-read-requires c κs = search needs
-
-enum-known-seen : tie.Need-enum-known-seen
-enum-known-seen c = search needs
-
-enum-told : tie.Need-enum-told
-enum-told c = search needs
-
-no-form-requires : tie.Need-no-form-requires
-no-form-requires c κs = search needs
-
-same-length : tie.Need-same-length
-same-length c = search needs
-
-same-length-2 : tie.Need-same-length-2
-same-length-2 c = search needs
-
-same-length-3 : tie.Need-same-length-3
-same-length-3 c = search needs
-
 returns : tie.Need-returns
 returns c =
     let e = c .before .before .before .before .before .before .before .before in
@@ -42,24 +21,6 @@ comparison-requires c κs =
     let e = c .before .before .before .before .before .before .before .before in
     let d = subst (SideAt _ _ _ _ _ _) (c .before .seen .given .1) (e .read .ensures) in
     d .inside
-
-enum-known-comparison : tie.Need-enum-known-comparison
-enum-known-comparison c = search needs
-
-enum-told-2 : tie.Need-enum-told-2
-enum-told-2 c = search needs
-
-no-form-requires-2 : tie.Need-no-form-requires-2
-no-form-requires-2 c κs = search needs
-
-same-length-4 : tie.Need-same-length-4
-same-length-4 c = search needs
-
-same-length-5 : tie.Need-same-length-5
-same-length-5 c = search needs
-
-same-length-6 : tie.Need-same-length-6
-same-length-6 c = search needs
 
 returns-2 : tie.Need-returns-2
 returns-2 c =
@@ -78,15 +39,6 @@ read-compared-requires c κs =
     let h = subst (PassesComparison _ _) (c .before .before .before .before .comparison2 .given .1) (k .comparison .ensures) in
     (p .0, h .behind .inside, roomy-later (h .behind) (d .roomy), omega (arith, p .3, e .read .kept .1 .1 .1 .0))
 
-same-length-7 : tie.Need-same-length-7
-same-length-7 c = search needs
-
-same-length-8 : tie.Need-same-length-8
-same-length-8 c = search needs
-
-same-length-9 : tie.Need-same-length-9
-same-length-9 c = search needs
-
 returns-3 : tie.Need-returns-3
 returns-3 c =
     let r = c .before .before .before .before .before in
@@ -98,25 +50,6 @@ returns-3 c =
 pub read-tested-spec : {M : Type 1} → statement M
 read-tested-spec =
     tie.close
-    (tie.spec
-    read-requires
-    enum-known-seen
-    enum-told
-    no-form-requires
-    same-length
-    same-length-2
-    same-length-3
-    returns
-    comparison-requires
-    enum-known-comparison
-    enum-told-2
-    no-form-requires-2
-    same-length-4
-    same-length-5
-    same-length-6
-    returns-2
-    read-compared-requires
-    same-length-7
-    same-length-8
-    same-length-9
-    returns-3)
+    (tie.spec (λ c κs. search needs) (λ c. search needs) (λ c. search needs) (λ c κs. search needs) (λ c. search needs) (λ c. search needs)
+    (λ c. search needs) returns comparison-requires (λ c. search needs) (λ c. search needs) (λ c κs. search needs) (λ c. search needs) (λ c. search needs)
+    (λ c. search needs) returns-2 read-compared-requires (λ c. search needs) (λ c. search needs) (λ c. search needs) returns-3)

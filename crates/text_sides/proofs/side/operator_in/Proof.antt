@@ -6,9 +6,6 @@ use Rattle.text_sides.proofs.Sides.{smaller-left}
 use Rattle.text_sides.proofs.side.operator_in.Statement.{statement}
 use Rattle.text_sides.proofs.side.operator_in.Tie as tie
 
-shared-slice-read-kind : tie.Need-shared-slice-read-kind
-shared-slice-read-kind c = search needs
-
 returns : tie.Need-returns
 unfolding operatorOf
 returns c = simp (c .if1 .taken)
@@ -21,4 +18,4 @@ returns-3 : tie.Need-returns-3
 returns-3 c = smaller-left _ (c .before .if1 .left) (c .if2 .left)
 
 pub operator-in-spec : {M : Type 1} → statement M
-operator-in-spec = tie.close (tie.spec shared-slice-read-kind returns returns-2 returns-3)
+operator-in-spec = tie.close (tie.spec (λ c. search needs) returns returns-2 returns-3)
