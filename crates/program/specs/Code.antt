@@ -135,9 +135,9 @@ codesIn codes from to = codesFrom codes from (to - from)
 unfoldable pub treeIn : List ℕ → ℕ → ℕ → Expression
 treeIn codes from to = decoded (codesIn codes from to)
 
--- the same codes below n, wherever their chains are found
+-- the same codes below n, and their chains found where they were
 abbrev pub SameBelow : List ℕ → List ℕ → ℕ → Type 0
-SameBelow codes codes′ n = (i : ℕ) → i < n → codeAt codes i ≡ codeAt codes′ i
+SameBelow codes codes′ n = (i : ℕ) → i < n → getD codes i 0 ≡ getD codes′ i 0
 
 -- P holds of a code that is a chain: of where it is found, and of its word
 abbrev pub IfChain : (Location → List ℕ → Type 0) → ℕ → Type 0

@@ -38,11 +38,12 @@ pub wrote-none : (a : List ℕ) (n : ℕ) → Wrote a a n n []
 wrote-none a n = record { codes-are = codes-none a n n (omega arith); kept = λ i h. refl; size = omega arith; same-length = refl }
 
 pub wrote-then : {a b d : List ℕ} {i j k : ℕ} {cs ds : List Code} → Wrote a b i j cs → Wrote b d j k ds → Wrote a d i k (cs ++ ds)
+unfolding codeAt
 wrote-then {a} {b} {d} {i} {j} {k} {cs} {ds} v w = record {
   codes-are =
       codes-join d i j k (omega (arith, v .size)) (omega (arith, w .size))
       ∙ ap₂ (λ (l m : List Code). l ++ m)
-      (codes-agree d b i (j - i) (λ m p q. sym (w .kept m (omega (arith, q, v .size)))) ∙ v .codes-are)
+      (codes-agree d b i (j - i) (λ m p q. ap codeOf (sym (w .kept m (omega (arith, q, v .size))))) ∙ v .codes-are)
       (w .codes-are);
   kept = λ m h. v .kept m h ∙ w .kept m (omega (arith, h, v .size));
   size = omega (arith, v .size, w .size, length-append cs ds);

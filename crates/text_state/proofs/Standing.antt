@@ -21,7 +21,6 @@ use Rattle.program.specs.declared.rule.Sort.the-variants.{Least, Total}
 use Rattle.program.specs.declared.rule.Rule as C
 use Rattle.program.specs.declared.rule.Rule.the-variants.{Set, Combine, Remote}
 use Rattle.program.specs.declared.rule.Slot.{Slot}
-use Rattle.program.specs.Code.{Codes}
 use Rattle.program.specs.Stored.{targetIn, ruleIn}
 use Rattle.program.specs.Program as P
 use Rattle.program.specs.Program.{Target, Rule, Step, stepPlan, writes, isRemote, hasRemote, mostLines, isLeast, isTotal, someTarget}
@@ -145,7 +144,7 @@ counts-rule {x} {rs} c r h e k = go c e k
         (h .leasts-length) (length-set (x .totals) f true ∙ h .totals-length)
         (sort-same h r isLeast (x .leasts) (h .leasts-are) (λ i. ap (isLeast i) e)) taken)
 
-rule-target : (k : Codes) (x : Slot) (r : Rule) → ruleIn k x ≡ r → r .target ≡ targetIn (x .rule)
+rule-target : (k : List ℕ) (x : Slot) (r : Rule) → ruleIn k x ≡ r → r .target ≡ targetIn (x .rule)
 unfolding ruleIn
 rule-target k x r e = sym (ap (λ (r : Rule). r .target) e)
 
@@ -168,7 +167,7 @@ clean-passes k = rw (k .is-named, k .is-kinded, k .is-short, k .in-range, k .is-
 
 -- behind a line that has passed; n is the number of lines of the open step's plan, y is what was read of the line
 module _ (s : Sizes) (lim : Limits s) {x : State} {st : K.State} (h : Stands x st) (n : ℕ) where
-  pub advance-stands : {codes : Codes} {l : Line} {y : LineRead} → Reads s codes (some l) y → Clean s st l → (l ≡ end → n ≡ length (stepPlan (openRules st)))
+  pub advance-stands : {codes : List ℕ} {l : Line} {y : LineRead} → Reads s codes (some l) y → Clean s st l → (l ≡ end → n ≡ length (stepPlan (openRules st)))
       → Stands (advanceOf x n y) (advance st l)
   unfolding advanceOf standing advance isOpen openRules named fieldNamed
   advance-stands step-line k e = record { steps-are = h .steps-are; lines-are = h .lines-are; around-is = h .around-is; in-step = refl; tally-is = counts-none }
