@@ -59,15 +59,15 @@ module _ {vs : List (List ℕ)} {From : ℕ → Type 0} {Found : Lines → List 
 
 -- one term behind another, and a rule behind its test
 module _ {a b c : Lines} {k k′ k″ : List ℕ} (n : ℕ) where
-  pub walked-terms : {x y : Term} {at : Places} → TermInside n x → TermWalked a k b k′ (at .first) x → TermWalked b k′ c k″ (at .second) y
+  pub walked-terms : (x y : Term) (at : Places) → TermInside n x → TermWalked a k b k′ (at .first) x → TermWalked b k′ c k″ (at .second) y
       → TermsWalked a k c k″ at x y
-  walked-terms {x} {y} {at} t h w =
+  walked-terms x y at t h w =
       walked-as (ap (λ (l : List (List ℕ)). termWords k x ++ l) (term-words-same k k′ (h .same) y)) (λ n f. f) (λ p. p)
       (walked-both (λ f. term-stays w f n (at .first) x t) h w)
 
-  pub walked-slot : {x : Slot} {at : Locations} → TestTerms (TermInside n) (x .test) → TestWalked a k b k′ (at .test) (x .test)
+  pub walked-slot : (x : Slot) (at : Locations) → TestTerms (TermInside n) (x .test) → TestWalked a k b k′ (at .test) (x .test)
       → RuleWalked b k′ c k″ (at .rule) (x .rule) → SlotWalked a k c k″ at x
-  walked-slot {x} {at} t h w =
+  walked-slot x at t h w =
       walked-as (ap (λ (l : List (List ℕ)). testWords k (x .test) ++ l) (rule-words-same k k′ (h .same) (x .rule))) (λ n f. f) (λ p. p)
       (walked-both (λ f. test-stays w f n (at .test) (x .test) t) h w)
 
