@@ -1,9 +1,10 @@
 // What a line that has passed leaves to be stored in the program.
 ghost use mathlib.Core.Path.{_≡_};
+ghost use mathlib.Core.List.{[]};
 ghost use Prim.Native.Nat.{_≤_};
 ghost use lib.ListN.{length};
-ghost use Rattle.plan_lines.specs.Held.{planOf};
-ghost use Rattle.text_growth.specs.Growth.{Sound, addedOf};
+ghost use Rattle.plan_lines.specs.Held.{HoldsLines, planOf};
+ghost use Rattle.text_readings.specs.Readings.{linesOf, Growing};
 ghost use Rattle.text_state.specs.State.{frameOf};
 ghost use Rattle.text_plan.specs.Store.{emptySlot, LineFits, LinePlanned, FrameStored};
 use crate::plan_rule;
@@ -49,7 +50,9 @@ pub fn empty_slot() -> Located
 }
 
 // The frame of no step.
-pub fn empty_frame() -> Frame {
+pub fn empty_frame() -> Frame
+    ensures { λ r. ⌜ (r .rules ≡ 0) × HoldsLines (r .plan) [] ⌝ }
+{
     Frame {
         rules: 0,
         remote: false,
@@ -67,37 +70,20 @@ pub fn plan_line(
     backs: &mut [u8; 64],
     reads: &mut [u8; 64],
     count: &mut usize,
-    full: &mut bool,
     wanted: &mut [bool; 64],
-    kinds: &[u8],
-    chains: &[u64],
-    places: &mut [u8],
+    codes: &mut [u64],
     state: State,
     read: LineRead,
 ) -> Store
-    requires { ⌜ Sound (addedOf (now keys) (now rounds) (now backs) (now reads) (now count) (now full)) × (length (now wanted) ≡ 64)
-        × (state .steps ≤ 32) × (state .tally .rules ≤ 32) × LineFits (now kinds) (now chains) (now places) state read ⌝ }
-    ensures { λ r. ⌜ LinePlanned (now (kinds .entry)) (now (chains .entry)) state
-        (addedOf (now (keys .entry)) (now (rounds .entry)) (now (backs .entry)) (now (reads .entry)) (now (count .entry)) (now (full .entry)))
-        (now (wanted .entry)) (now (places .entry))
-        (addedOf (now (keys .exit)) (now (rounds .exit)) (now (backs .exit)) (now (reads .exit)) (now (count .exit)) (now (full .exit)))
-        (now (wanted .exit)) (now (places .exit)) read r ⌝ }
+    requires { ⌜ Growing (linesOf (now keys) (now rounds) (now backs) (now reads) (now count) (now wanted))
+        × (state .steps ≤ 32) × (state .tally .rules ≤ 32) × LineFits (now codes) state read ⌝ }
+    ensures { λ r. ⌜ LinePlanned state
+        (linesOf (now (keys .entry)) (now (rounds .entry)) (now (backs .entry)) (now (reads .entry)) (now (count .entry)) (now (wanted .entry))) (now (codes .entry))
+        (linesOf (now (keys .exit)) (now (rounds .exit)) (now (backs .exit)) (now (reads .exit)) (now (count .exit)) (now (wanted .exit))) (now (codes .exit)) read r ⌝ }
 {
     match read {
         LineRead::Rule(slot, _) => {
-            let at = plan_rule(
-                keys,
-                rounds,
-                backs,
-                reads,
-                count,
-                full,
-                wanted,
-                kinds,
-                chains,
-                places,
-                slot,
-            );
+            let at = plan_rule(keys, rounds, backs, reads, count, wanted, codes, slot);
             Store::Rule(state::place(state), Located { slot, at })
         }
         LineRead::End => Store::Frame(state.steps, true),

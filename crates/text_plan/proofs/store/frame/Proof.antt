@@ -5,17 +5,11 @@ use borrow.Author.Needs.{needs}
 use Rattle.text_plan.proofs.store.frame.Statement.{statement}
 use Rattle.text_plan.proofs.store.frame.Tie as tie
 
-close-requires : tie.Need-close-requires
-close-requires c κs = search needs
-
 returns : tie.Need-returns
 returns c = rw (c .before .before .before .if1 .taken) (c .close .ensures)
-
-last-frame-requires : tie.Need-last-frame-requires
-last-frame-requires c κs = search needs
 
 returns-2 : tie.Need-returns-2
 returns-2 c = rw (c .before .if1 .left) (c .last-frame .ensures, refl, refl)
 
 pub frame-spec : {M : Type 1} → statement M
-frame-spec = tie.close (tie.spec close-requires returns last-frame-requires returns-2)
+frame-spec = tie.close (tie.spec (λ c κs. search needs) returns (λ c κs. search needs) returns-2)
