@@ -8,7 +8,7 @@ use borrow.Author.Needs.{needs}
 use denote.Ref.{now}
 use Rattle.register.specs.Cells.{cellsOf}
 use Rattle.chain.specs.declared.reading.Reading.{Reading}
-use Rattle.gather_line.specs.Written.{messageAt, LineSent}
+use Rattle.gather_line.specs.Written.{placesOf, messageAt, LineSent}
 use Rattle.gather_line.proofs.Writing.{read-kept, back-kept, message-kept, line-none, line-next}
 use Rattle.gather_line.proofs.Sent.{sent-le, line-below}
 use Rattle.gather_line.proofs.exchange.Statement.{statement}
@@ -16,7 +16,7 @@ use Rattle.gather_line.proofs.exchange.Tie as tie
 
 abbrev Inv-loop : tie.InvT-loop
 Inv-loop cells filled values₀ marks₀ sizes i back read field first sent₀ u₀ u-end values marks sent u =
-    let message = messageAt sizes (cellsOf cells filled) values₀ marks₀ back read field in
+    let message = messageAt sizes (cellsOf cells filled) (placesOf sizes values₀ marks₀) back read field in
     (u ≤ u-end) × LineSent sizes message i u values₀ marks₀ values marks sent
 
 abbrev μ-loop : tie.MeasureT-loop
@@ -50,7 +50,7 @@ start c = at c .before .before .before .before .before
 abbrev messageOf : tie.After-message Inv-loop μ-loop → ℕ → Reading
 messageOf c =
     let a = start c .args in
-    messageAt (a .sizes) (cellsOf (now (a .cells)) (now (a .filled))) (now (a .values)) (now (a .marks)) (a .back) (a .read) (a .field)
+    messageAt (a .sizes) (cellsOf (now (a .cells)) (now (a .filled))) (placesOf (a .sizes) (now (a .values)) (now (a .marks))) (a .back) (a .read) (a .field)
 
 message-is : (c : tie.After-message Inv-loop μ-loop) → c .message .result ≡ messageOf c (at c .loop .u)
 message-is c =

@@ -23,7 +23,7 @@ enum-told : tie.Need-enum-told
 enum-told c = search needs
 
 returns : tie.Need-returns
-returns c = message-none _ _ _ _ _ _ _ _ (sym (c .enum-told .given .1) ∙ c .before .before .writer .ensures)
+returns c = message-none _ _ _ _ _ _ _ (sym (c .enum-told .given .1) ∙ c .before .before .writer .ensures)
 
 -- the writer's number is an index
 number-index : (c : tie.After-known-told) → let z = c .before .number .given .0 .0 in
@@ -47,7 +47,7 @@ known-requires c κs =
 returns-2 : tie.Need-returns-2
 returns-2 c =
     let n = c .before .before .before in
-    c .known .ensures ∙ message-by _ _ _ _ _ _ _ _ _ (sym (n .number .given .1) ∙ n .before .before .writer .ensures) (index-is (c .before))
+    c .known .ensures ∙ message-by _ _ _ _ _ _ _ _ (sym (n .number .given .1) ∙ n .before .before .writer .ensures) (index-is (c .before))
 
 pub message-spec : {M : Type 1} → statement M
 message-spec = tie.close (tie.spec writer-requires enum-known-number enum-told returns index-requires known-requires returns-2)

@@ -12,7 +12,7 @@ of-index-requires : tie.Need-of-index-requires
 of-index-requires c κs = omega arith
 
 returns : tie.Need-returns
-returns c = ap Value (kept (c .of-index .result) (c .of-index .ok) ∙ c .of-index .ensures) ∙ writer-own _ _ _ _ _ (c .before .if1 .taken)
+returns c = ap Value (kept (c .of-index .result) (c .of-index .ok) ∙ c .of-index .ensures) ∙ writer-own _ _ _ (c .before .if1 .taken)
 
 mul-read-at : tie.Need-mul-read-at
 mul-read-at c = record { fits = omega (arith, c .before .before .before .pre .2 .line (c .before .if1 .left) .values-room) }
@@ -27,7 +27,7 @@ read-at-requires c κs =
     (omega (arith, held .values-room), omega (arith, held .marks-room), held .fits (s .args .u) (s .pre .1))
 
 returns-2 : tie.Need-returns-2
-returns-2 c = c .read-at .ensures ∙ writer-told _ _ _ _ _ (c .before .before .if1 .left)
+returns-2 c = c .read-at .ensures ∙ writer-told _ _ _ (c .before .before .if1 .left)
 
 pub writer-spec : {M : Type 1} → statement M
 writer-spec = tie.close (tie.spec of-index-requires returns mul-read-at add-read-at read-at-requires returns-2)
