@@ -23,7 +23,7 @@ use Rattle.gather_exchanges.proofs.Counting.{lines-le}
 use Rattle.gather_exchanges.proofs.Planned.{planned-count, planned-round, planned-lines, planned-has-line, planned-follows, planned-readable, planned-last, planned-rounds}
 use Rattle.gather_exchanges.proofs.Sending.{held-over, messages-over}
 use Rattle.gather_line.proofs.Places.{stored-place, stored-fits}
-use Rattle.gather.specs.Gathered.{GatherReady, AllExchanged, Gathered, GatheredBy}
+use Rattle.gather.specs.Gathered.{GatherReady, Gathered, GatheredBy}
 use Rattle.gather.specs.declared.counts.Counts.{Counts}
 
 module _ {s : Sizes} {p : Plan} (planned : StepPlanned s p) where

@@ -84,7 +84,16 @@ pub fn gather<'a>(
             counts::NONE
         }
         Machine::Messages => exchange_all(
-            cells, filled, values, marks, sizes, keys, rounds, backs, reads, count,
+            cells,
+            filled,
+            values,
+            marks,
+            sizes,
+            keys,
+            rounds,
+            backs,
+            reads,
+            count,
         ),
     }
 }

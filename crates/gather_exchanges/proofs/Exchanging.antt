@@ -19,7 +19,7 @@ use Rattle.plan_lines.specs.declared.Plan.{Plan}
 use Rattle.laws.proofs.Cases.{lt-or-le}
 use Rattle.scratch.specs.Places.{readingMark, Kept}
 use Rattle.scratch.proofs.Placed.{kept-same, kept-again, kept-other}
-use Rattle.gather_line.specs.Written.{ByLine, Stored, LineSent}
+use Rattle.gather_line.specs.Written.{ByLine, LineSent}
 use Rattle.gather_exchanges.specs.Lines.{LinesReady}
 use Rattle.gather_exchanges.specs.Exchanged.{sentBy, heldTo, roundMessages, Agree, Exchanged, ExchangedTo, Cleared}
 use Rattle.gather_line.proofs.Sent.{line-alike}

@@ -14,7 +14,7 @@ use Rattle.laws.specs.Lists.{every}
 use Rattle.laws.proofs.Bools.{and-both}
 use Rattle.laws.proofs.Cases.{lt-or-le}
 use Rattle.laws.proofs.Lists.{each-of}
-use Rattle.plan_theory.specs.Plan.{Fact, back, read, word, hops, front, rest, lineFrom, backNeed, readNeed, round, lastRound, line}
+use Rattle.plan_theory.specs.Plan.{Fact, back, read, word, hops, front, rest, lineFrom, readNeed, round, lastRound, line}
 use Rattle.plan_theory.specs.Promise.{Wanted}
 use Rattle.plan_theory.proofs.Facts.{rest-length, front-rest, needed-hops}
 use Rattle.plan_lines.specs.Held.{facts, lineAt, LineColumn}

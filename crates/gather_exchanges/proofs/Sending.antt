@@ -1,17 +1,15 @@
 -- For a plan that keeps its promise the exchanges send what the message machine sends, over whatever is held.
 use Prim.Native.Nat.{ℕ, zero, suc, _<_}
 use mathlib.Core.Path.{_≡_, refl, sym, ap, _∙_}
-use mathlib.Core.Bool.{Bool, true, false, cond}
 use mathlib.Core.List.{List}
 use native.Mathlib.Omega.{arith}
-use lib.Dec.{eqb}
 use lib.IntN.{natAbs}
 use Rattle.register.specs.Shape.{Valid}
 use Rattle.register.specs.declared.Sizes.{Sizes}
 use Rattle.register.specs.declared.cells.Cell.{Cell}
 use Rattle.chain.specs.declared.reading.Reading.{Reading}
 use Rattle.chain.specs.declared.reading.Reading.the-variants.{Missing, Value}
-use Rattle.plan_theory.specs.Plan.{Fact, round, line}
+use Rattle.plan_theory.specs.Plan.{Fact, line}
 use Rattle.plan_lines.specs.Held.{facts, lineAt}
 use Rattle.plan_lines.specs.Promised.{factAt, Serves}
 use Rattle.plan_lines.specs.declared.Plan.{Plan}

@@ -8,6 +8,7 @@ ghost use Rattle.register.specs.Shape.{Parts, Valid};
 ghost use Rattle.plan_theory.specs.Plan.{hops, lineFrom};
 ghost use Rattle.plan_keys.specs.Keys.{factOf};
 ghost use Rattle.plan_lines.specs.Held.{planOf};
+ghost use Rattle.gather_line.specs.Written.{placesOf, messageAt, LineReady, LineSent};
 ghost use Rattle.gather_exchanges.specs.Lines.{fieldOf, PlanReady};
 ghost use Rattle.gather_exchanges.specs.Exchanged.{ExchangeReady, Exchanged, ExchangedTo, Cleared};
 use chain::packed;
@@ -27,6 +28,37 @@ fn field_of(key: u64) -> usize
         return packed::first_hop(key::chain_of(key)) as usize;
     }
     packed::first_hop(key::chain_of(key::needs_of(key).read)) as usize
+}
+
+// The messages of line i, at its places; how many are sent. Today a line has one kind: it is made from its two needs.
+fn exchange_line(
+    cells: &[u8],
+    filled: &[u8],
+    values: &mut [i64],
+    marks: &mut [u8],
+    sizes: Sizes,
+    i: usize,
+    back: usize,
+    read: usize,
+    key: u64,
+) -> usize
+    requires { ⌜ Parts sizes (now cells) (now filled) × LineReady sizes (now values) (now marks) i back read (fieldOf (factOf key))
+        × (lineFrom (factOf key) ≤ hops (factOf key)) × (hops (factOf key) ≤ 16) ⌝ }
+    ensures { λ r. ⌜ LineSent sizes (messageAt sizes (cellsOf (now (cells .entry)) (now (filled .entry)))
+        (placesOf sizes (now (values .entry)) (now (marks .entry))) back read (fieldOf (factOf key))) i (sizes .records)
+        (now (values .entry)) (now (marks .entry)) (now (values .exit)) (now (marks .exit)) r ⌝ }
+{
+    gather_line::exchange(
+        cells,
+        filled,
+        values,
+        marks,
+        sizes,
+        i,
+        back,
+        read,
+        field_of(key),
+    )
 }
 
 // Exchange t: the lines of round t, in order; how many messages are sent.
@@ -52,7 +84,7 @@ pub fn exchange(
     let mut sent = 0;
     for i in 0..count {
         if rounds[i] == t {
-            sent += gather_line::exchange(
+            sent += exchange_line(
                 cells,
                 filled,
                 values,
@@ -61,7 +93,7 @@ pub fn exchange(
                 i,
                 backs[i] as usize,
                 reads[i] as usize,
-                field_of(keys[i]),
+                keys[i],
             );
         }
     }

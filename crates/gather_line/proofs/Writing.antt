@@ -23,7 +23,7 @@ use Rattle.chain.specs.Word.{readCell, refersTo, readingValue}
 use Rattle.laws.proofs.Cases.{lt-or-le}
 use Rattle.chain.proofs.Following.{own-refers}
 use Rattle.machine_messages.specs.Counts.{isSent}
-use Rattle.scratch.specs.Places.{placeAt, readingMark, Kept}
+use Rattle.scratch.specs.Places.{readingMark, Kept}
 use Rattle.scratch.proofs.Placed.{kept-same, kept-again, kept-other, placeAt-kept}
 use Rattle.gather_line.specs.Written.{ByLine, placesOf, knownAt, writerAt, writtenAt, messageAt, Before, LineHeld, ReadHeld, BackHeld, LineSent}
 use Rattle.gather_line.proofs.Sent.{line-nothing, line-more}

@@ -4,7 +4,6 @@
 use Prim.Native.Nat.{_-_, _≤_, _<_}
 use native.Mathlib.Nat.{mul-le-mul-right}
 use native.Mathlib.Omega.{arith}
-use borrow.Author.Needs.{needs}
 use denote.Ref.{now}
 use mathlib.Core.Path.{_≡_}
 use mathlib.Core.Logic.{⊎-elim}
@@ -46,34 +45,20 @@ inside c = omega (arith, listed c, start c .pre .1 .plan .lines .count≤)
 stands : (c : In) → LineStands (start c .args .sizes) (givenPlan (start c)) (start c .pre .1 .plan .lines .leads) (c .before .loop .i)
 stands c = start c .pre .1 .plan .lines .each _ (listed c)
 
-cast-exchange : tie.Need-cast-exchange Inv-loop μ-loop
-cast-exchange c =
-    let k = c .before .before .before .before .before in
-    record { fits = omega (arith, asked-le _ (inside k) (stands k .back-line)) }
-
-cast-exchange-2 : tie.Need-cast-exchange-2 Inv-loop μ-loop
-cast-exchange-2 c =
-    let k = c .before .before .before .before .before .before in
-    record { fits = omega (arith, asked-le _ (inside k) (stands k .read-line)) }
-
-field-of-requires : tie.Need-field-of-requires Inv-loop μ-loop
-field-of-requires c κs =
-    let k = c .before .before .before .before .before .before .before in
-    (stands k .has-line, stands k .short)
-
-exchange-requires : tie.Need-exchange-requires Inv-loop μ-loop
-exchange-requires c κs =
-    let d = c .before .before .before .before .before .before in
+exchange-line-requires : tie.Need-exchange-line-requires Inv-loop μ-loop
+exchange-line-requires c κs =
+    let d = c .before .before .before .before .before in
     let k = d .before .before in
-    (start k .pre .0, rw (c .field-of .ensures) (turn-ready (start k .pre .1) _ (listed k) (d .if1 .taken) (k .before .loop .inv .1)))
+    let ready = turn-ready (start k .pre .1) _ (listed k) (d .if1 .taken) (k .before .loop .inv .1) in
+    (start k .pre .0, ready, stands k .has-line, stands k .short)
 
 add-sent : tie.Need-add-sent Inv-loop μ-loop
 add-sent c =
     let x = c .before .before .before in
-    let k = x .before .before .before .before .before .before .before .before .before in
+    let k = x .before .before .before .before .before .before .before .before in
     let n = start k .args .sizes .records in
     let so-far = lines-few (k .before .loop .i) (k .before .loop .inv .1) in
-    let here : x .exchange .result ≤ n = line-below _ _ _ (x .exchange .ensures .messages) in
+    let here : x .exchange-line .result ≤ n = line-below _ _ _ (x .exchange-line .ensures .messages) in
     record { fits = omega (arith, mul-le-mul-right n (inside k), start k .pre .0 .limits .records≤) }
 
 loop-again : tie.Need-loop-again Inv-loop μ-loop
@@ -82,7 +67,7 @@ loop-again c =
     let ready = start k .pre .1 in
     let inv = k .before .loop .inv .1 in
     ⊎-elim
-    (λ w. rw (w .11, w .12, w .13) (omega arith, turn-sent ready _ (listed k) (w .0 .taken) inv (rw (w .6 .ensures) at (w .7 .ensures))))
+    (λ w. rw (w .10, w .11, w .12) (omega arith, turn-sent ready _ (listed k) (w .0 .taken) inv (w .6 .ensures)))
     (λ w. rw (w .1, w .2, w .3) (omega arith, lines-other _ inv (w .0 .left)))
     (c .if1 .came)
 
@@ -101,13 +86,12 @@ exchange-spec =
     (λ c. (omega arith, lines-none))
     (λ c. inside c)
     (λ c. inside (c .before .before .before .before))
-    cast-exchange
+    (λ c. record { fits = let k = c .before .before .before .before .before in omega (arith, asked-le _ (inside k) (stands k .back-line)) })
     (λ c. inside (c .before .before .before .before .before))
-    cast-exchange-2
+    (λ c. record { fits = let k = c .before .before .before .before .before .before in omega (arith, asked-le _ (inside k) (stands k .read-line)) })
     (λ c. record { fits = omega (arith, inside (c .before .before .before .before .before .before)) })
     (λ c. inside (c .before .before .before .before .before .before))
-    field-of-requires
-    exchange-requires
+    exchange-line-requires
     add-sent
     (λ c. record { fits = omega (arith, inside (c .before .before)) })
     (λ c. omega (arith, listed (c .before .before)))

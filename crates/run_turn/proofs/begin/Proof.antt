@@ -16,8 +16,8 @@ gather-requires c κs =
     let behind = e .enter .ensures .1 .behind in (
       b .pre .0,
       planned-ready (b .pre .3) (b .args .machine) _ _ _ (b .pre .4)
-      (omega (arith, b .pre .5, behind .values-length))
-      (omega (arith, b .pre .6, behind .marks-length)),
+          (omega (arith, b .pre .5, behind .values-length))
+          (omega (arith, b .pre .6, behind .marks-length)),
     )
 
 returns : tie.Need-returns
