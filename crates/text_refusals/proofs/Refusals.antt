@@ -19,7 +19,6 @@ use Rattle.text_syntax.specs.Tree.{targetOf, ruleOf}
 use Rattle.program.specs.declared.rule.Rule as C
 use Rattle.program.specs.declared.rule.Rule.the-variants.{Set, Combine, Remote}
 use Rattle.program.specs.declared.rule.Slot.{Slot}
-use Rattle.program.specs.Code.{Codes}
 use Rattle.program.specs.Stored.{targetIn, ruleIn}
 use Rattle.text_rules.specs.declared.line.Checks.{Checks}
 use Rattle.text_rules.specs.declared.line.LineRead.{LineRead}
@@ -53,7 +52,7 @@ not-not true = refl
 not-not false = refl
 
 -- where a rule that is read writes
-read-target : {k : Codes} {c : W.Condition} {a : W.Action} {y : Slot} → RuleRead k c a y → targetIn (y .rule) ≡ targetOf a
+read-target : {k : List ℕ} {c : W.Condition} {a : W.Action} {y : Slot} → RuleRead k c a y → targetIn (y .rule) ≡ targetOf a
 unfolding ruleIn ruleOf
 read-target w = ap (λ (r : Rule). r .target) (w .rule-is)
 
@@ -105,17 +104,17 @@ checks-first c n m = go (c .named) (c .kinded) (c .short) (c .ranged) (c .shallo
 
 module _ (s : Sizes) {x : S.State} {st : State} (h : Stands x st) (full : Bool) (f : full ≡ ltb 64 (length (stepPlan (openRules st)))) where
   -- 13 and 14, of a rule that passes what is asked before
-  rule-behind : {k : Codes} (c : W.Condition) (a : W.Action) (y : Slot) → RuleRead k c a y
+  rule-behind : {k : List ℕ} (c : W.Condition) (a : W.Action) (y : Slot) → RuleRead k c a y
       → _≡_ {A = ℕ} (cond (not (ltb (x .tally .rules) 32)) 13 (cond (otherSort (x .tally) (y .rule)) 14 0))
       (cond (not (ltb (length (openRules st)) 32)) 13 (cond (not (oneSort (openRules st) a)) 14 0))
   rule-behind c a y w = rw (target-sort (x .tally) (openRules st) (y .rule) (h .tally-is) a (read-target w), h .tally-is .rules-are)
 
-  rule-number : {k : Codes} (c : W.Condition) (a : W.Action) (y : Slot) → (allPass (lineChecks s (rule c a)) ≡ true → RuleRead k c a y)
+  rule-number : {k : List ℕ} (c : W.Condition) (a : W.Action) (y : Slot) → (allPass (lineChecks s (rule c a)) ≡ true → RuleRead k c a y)
       → ruleRefusal x (y .rule) (lineChecks s (rule c a)) ≡ lineRefusal s st (rule c a)
   unfolding ruleRefusal lineChecks lineRefusal inPlace hasRoom sortsAgree planFits
   rule-number c a y w = rw (h .in-step, checks-first (lineChecks s (rule c a)) _ _ (λ p. rule-behind c a y (w p)))
 
-  pub refusal-is : {k : Codes} {o : Option Line} {y : LineRead} → Reads s k o y → refusalOf x full y ≡ number s st o
+  pub refusal-is : {k : List ℕ} {o : Option Line} {y : LineRead} → Reads s k o y → refusalOf x full y ≡ number s st o
   unfolding refusalOf number lineRefusal stepRefusal endRefusal misplaced doneRefusal loopRefusal inPlace hasRoom sortsAgree planFits named fieldNamed kinded kindsAgree short numbersInRange shallow fewOperators termsPass expressions everyExpression
   refusal-is no-form = refl
   refusal-is step-line = rw (h .in-step, h .steps-are, not-not)
