@@ -34,11 +34,8 @@ use Rattle.text_sides.specs.declared.side.SideRead.the-variants.{Side, N
 unfoldable pub singleOf : ℕ → Term
 singleOf c = cond (eqb (kindIn c) 0) (Chain (chainIn c)) (Number (numberIn c))
 
-unfoldable pub singleIn : List ℕ → ℕ → Term
-singleIn a at = singleOf (getD a at 0)
-
 unfoldable pub termHeld : List ℕ → ℕ → ℕ → Term
-termHeld a from to = cond (eqb to (from + 1)) (singleIn a from) (Tree from to)
+termHeld a from to = cond (eqb to (from + 1)) (singleOf (getD a from 0)) (Tree from to)
 
 -- the operator of a code
 unfoldable pub operatorIn : ℕ → Operator
@@ -47,7 +44,7 @@ operatorIn c = cond (eqb (kindIn c) 2) Plus (cond (eqb (kindIn c) 3) Minus Small
 -- the local rule of the codes from..to: three codes are two terms and their operator
 unfoldable pub ruleHeld : List ℕ → ℕ → ℕ → ℕ → Rule
 ruleHeld a f from to = cond (eqb to (from + 3))
-    (Combine f (operatorIn (getD a (from + 2) 0)) (singleIn a from) (singleIn a (from + 1))) (Set f (termHeld a from to))
+    (Combine f (operatorIn (getD a (from + 2) 0)) (singleOf (getD a from 0)) (singleOf (getD a (from + 1) 0))) (Set f (termHeld a from to))
 
 -- the number of codes then, where `size` codes are given back
 unfoldable pub codesLeft : ℕ → ℕ → ℕ → ℕ

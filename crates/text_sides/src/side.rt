@@ -1,10 +1,10 @@
 // Expressions as the terms of a rule: one term by itself, several by their codes.
 ghost use mathlib.Core.Path.{_≡_};
 ghost use Prim.Native.Nat.{_+_, _≤_, _<_};
-ghost use lib.ListN.{length, getD};
+ghost use lib.ListN.{length};
 ghost use Rattle.register.specs.Shape.{Limits};
 ghost use Rattle.text_codes.specs.Codes.{Roomy};
-ghost use Rattle.text_sides.specs.Side.{operatorIn, singleIn, termHeld, ruleHeld, codesLeft, SideAt};
+ghost use Rattle.text_sides.specs.Side.{operatorIn, singleOf, termHeld, ruleHeld, codesLeft, SideAt};
 use crate::expression;
 use crate::expression::ExpressionRead;
 use program::code;
@@ -14,16 +14,14 @@ use program::term::Term;
 use register::Sizes;
 use text_codes::summary::Summary;
 
-// The term whose one code stands at `at`.
-pub fn single(codes: &[u64], at: usize) -> Term
-    requires { ⌜ at < length (now codes) ⌝ }
-    ensures { λ r. ⌜ r ≡ singleIn (now (codes .entry)) at ⌝ }
+// The term of one code.
+pub fn single(code: u64) -> Term
+    ensures { λ r. ⌜ r ≡ singleOf code ⌝ }
 {
-    let held = codes[at];
-    if code::kind(held) == 0 {
-        return Term::Chain(code::chain(held));
+    if code::kind(code) == 0 {
+        return Term::Chain(code::chain(code));
     }
-    Term::Number(code::number(held))
+    Term::Number(code::number(code))
 }
 
 // The term whose codes stand from..to.
@@ -32,17 +30,16 @@ pub fn term_in(codes: &[u64], from: usize, to: usize) -> Term
     ensures { λ r. ⌜ r ≡ termHeld (now (codes .entry)) from to ⌝ }
 {
     if to == from + 1 {
-        return single(codes, from);
+        return single(codes[from]);
     }
     Term::Tree(from as u16, to as u16)
 }
 
-// The operator whose code stands at `at`.
-pub fn operator_in(codes: &[u64], at: usize) -> Operator
-    requires { ⌜ at < length (now codes) ⌝ }
-    ensures { λ r. ⌜ r ≡ operatorIn (getD (now (codes .entry)) at 0) ⌝ }
+// The operator of a code.
+pub fn operator_in(code: u64) -> Operator
+    ensures { λ r. ⌜ r ≡ operatorIn code ⌝ }
 {
-    let kind = code::kind(codes[at]);
+    let kind = code::kind(code);
     if kind == 2 {
         return Operator::Plus;
     }
@@ -58,9 +55,9 @@ pub fn set_in(codes: &[u64], field: u64, from: usize, to: usize) -> Rule
     ensures { λ r. ⌜ r ≡ ruleHeld (now (codes .entry)) field from to ⌝ }
 {
     if to == from + 3 {
-        let x = single(codes, from);
-        let y = single(codes, from + 1);
-        return Rule::Combine(field, operator_in(codes, from + 2), x, y);
+        let x = single(codes[from]);
+        let y = single(codes[from + 1]);
+        return Rule::Combine(field, operator_in(codes[from + 2]), x, y);
     }
     Rule::Set(field, term_in(codes, from, to))
 }

@@ -18,49 +18,32 @@ use Rattle.text_lexer.proofs.Lexemes.{lexed}
 use Rattle.text_rules.specs.declared.line.LineRead.the-variants.{Step, End, Done}
 use Rattle.text_rules.specs.LineRead.{step-line, end-line, done-line}
 use Rattle.text_places.proofs.Places.{told, passed, goes-on, absent}
-use Rattle.text_actions.proofs.Actions.{roomy-later}
 use Rattle.text_lines.proofs.Lines.{word-at, loop-at, if-line, rule-line-at}
 use Rattle.text_lines.proofs.line.read_line.Statement.{statement}
 use Rattle.text_lines.proofs.line.read_line.Tie as tie
 
 -- the first token of the line
-first : (c : tie.After-next-token) → Lexed false (now (c .before .before .before .before .args .line)) 0 (c .next-token .result)
+first : (c : tie.After-next-token) → Lexed false (now (c .before .before .before .args .line)) 0 (c .next-token .result)
 first c = lexed _ _ _ (omega arith) (c .next-token .ensures)
-
-word-line-requires : tie.Need-word-line-requires
-word-line-requires c κs = first (c .before .before) .inside
-
-word-line-requires-2 : tie.Need-word-line-requires-2
-word-line-requires-2 c κs = first (c .before .before) .inside
-
-word-line-requires-3 : tie.Need-word-line-requires-3
-word-line-requires-3 c κs = first (c .before .before) .inside
-
-read-loop-requires : tie.Need-read-loop-requires
-read-loop-requires c κs = (c .before .before .before .before .before .before .pre .0, first (c .before .before) .inside)
 
 read-tested-requires : tie.Need-read-tested-requires
 read-tested-requires c κs =
-    let p = c .before .before .before .before .before .before .before .before .before .pre in
-    let h = goes-on (first (c .before .before .before .before .before)) _ (c .before .before .before .enum-told5 .given .1) tt in
-    (p .0, h .inside, roomy-later h (p .1), p .2)
+    let p = c .before .before .before .before .before .before .pre in
+    let h = goes-on (first (c .before .before .before)) _ (c .before .enum-told5 .given .1) tt in
+    (p .0, h .inside, omega (arith, h .onward, p .1), p .2)
 
 returns : tie.Need-returns
 returns c =
-    let r = c .before .before .before .before .before in
-    if-line _ _ _ _ (passed (first (r .before .before .before .before .before .before)) (r .before .before .before .before .enum-told5 .given .1))
-    (r .read-tested .ensures)
+    if-line _ _ _ _ (passed (first (c .before .before .before .before .before .before)) (c .before .before .before .before .enum-told5 .given .1)) (c .before .before .read-tested .ensures)
 
 returns-2 : tie.Need-returns-2
 unfolding tokenCode
 returns-2 c =
-    let r = c .before .before .before .before .before in
-    let w = first (r .before .before .before .before .before .before) in
+    let w = first (c .before .before .before .before .before .before) in
     let others : List ℕ = 5 ∷ 6 ∷ 7 ∷ 8 ∷ 9 ∷ 10 ∷ 11 ∷ 12 ∷ 13 ∷ 14 ∷ 15 ∷ 16 ∷ 17 ∷ 18 ∷ 19 ∷ [] in
-    let k = r .before .before .before .before .before .match .keys6 in
+    let k = c .before .before .before .before .before .match .keys6 in
     rule-line-at _ _ _ _ (absent w stepWord (told others k tt)) (absent w endWord (told others k tt)) (absent w doneWord (told others k tt))
-    (absent w loopWord (told others k tt)) (absent w ifWord (told others k tt)) (r .before .before .before .before .always .ensures)
-    (r .read-ruled .ensures)
+    (absent w loopWord (told others k tt)) (absent w ifWord (told others k tt)) (c .before .before .before .before .always .ensures) (c .before .before .read-ruled .ensures)
 
 returns-3 : tie.Need-returns-3
 unfolding tokens
@@ -89,7 +72,7 @@ returns-6 c =
 pub read-line-spec : {M : Type 1} → statement M
 read-line-spec =
     tie.close
-    (tie.spec (λ c κs. search needs) (λ c. search needs) word-line-requires (λ c. search needs) word-line-requires-2 (λ c. search needs)
-    word-line-requires-3 (λ c. search needs) read-loop-requires (λ c. search needs) read-tested-requires (λ c. search needs) (λ c. search needs)
-    (λ c. search needs) returns (λ c κs. search needs) (λ c κs. search needs) (λ c. search needs) (λ c. search needs) (λ c. search needs) returns-2
-    returns-3 returns-4 returns-5 returns-6)
+    (tie.spec (λ c κs. search needs) (λ c. search needs) (λ c κs. first (c .before .before) .inside) (λ c. search needs) (λ c κs. first (c .before .before) .inside)
+    (λ c. search needs) (λ c κs. first (c .before .before) .inside) (λ c. search needs)
+    (λ c κs. (c .before .before .before .before .before .pre .0, first (c .before .before) .inside)) (λ c. search needs) read-tested-requires (λ c. search needs)
+    returns (λ c κs. search needs) (λ c κs. search needs) (λ c. search needs) returns-2 returns-3 returns-4 returns-5 returns-6)

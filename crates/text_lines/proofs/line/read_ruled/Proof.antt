@@ -9,18 +9,14 @@ use Rattle.text_lines.proofs.line.read_ruled.Tie as tie
 
 returns : tie.Need-returns
 returns c =
-    let e = c .before .before .before .before .before .before .before .before in
-    not-ruled _ _ _ _ _ _ _ (c .no-form .ensures) (e .before .before .before .before .before .before .before .pre .1)
-    (subst (ActionAt _ _ _ _ _ _ _) (c .before .enum-told .given .1) (e .read .ensures))
+    not-ruled _ _ _ _ _ _ _ (c .no-form .ensures) (c .before .before .before .before .before .before .before .before .before .pre .1)
+    (subst (ActionAt _ _ _ _ _ _ _) (c .before .enum-told .given .1) (c .before .before .before .before .before .read .ensures))
 
 returns-2 : tie.Need-returns-2
 returns-2 c =
-    ruled _ _ _ _ _ _ _ _ _ _ _ (c .both .ensures)
-    (subst (ActionAt _ _ _ _ _ _ _) (c .before .before .before .rule .given .1)
-    (c .before .before .before .before .before .before .before .before .before .before .read .ensures))
+    ruled _ _ _ _ _ _ _ _ _ _ _ (c .both .ensures) (subst (ActionAt _ _ _ _ _ _ _) (c .before .before .before .rule .given .1) (c .before .before .before .before .before .before .before .read .ensures))
 
 pub read-ruled-spec : {M : Type 1} → statement M
 read-ruled-spec =
     tie.close
-    (tie.spec (λ c κs. search needs) (λ c. search needs) (λ c. search needs) (λ c κs. search needs) (λ c. search needs) (λ c. search needs)
-    (λ c. search needs) returns (λ c κs. search needs) (λ c. search needs) (λ c. search needs) (λ c. search needs) returns-2)
+    (tie.spec (λ c κs. search needs) (λ c. search needs) (λ c. search needs) (λ c κs. search needs) (λ c. search needs) returns (λ c κs. search needs) (λ c. search needs) returns-2)

@@ -9,24 +9,19 @@ use Rattle.text_sides.proofs.side.read.Statement.{statement}
 use Rattle.text_sides.proofs.side.read.Tie as tie
 
 returns : tie.Need-returns
-returns c = subst (ExpressionAt _ _ _ _ _ _) (c .enum-told .given .1) (c .before .before .before .before .before .before .before .read .ensures)
+returns c = subst (ExpressionAt _ _ _ _ _ _) (c .enum-told .given .1) (c .before .before .before .before .read .ensures)
 
 term-in-requires : tie.Need-term-in-requires
 term-in-requires c κs =
-    let k = c .before .before .before .before in
-    let r = k .before .before .before .before .before .before .before in
-    let i = r .before .before .before .before .before .before .before in
-    codes-inside (subst (ExpressionAt _ _ _ _ _ _) (k .seen .given .1) (r .read .ensures)) (omega (arith, i .pre .3, r .read .kept .1 .1 .1 .0))
+    let r = c .before .before .before .before .before .before in
+    codes-inside (subst (ExpressionAt _ _ _ _ _ _) (c .before .before .seen .given .1) (r .read .ensures))
+    (omega (arith, c .before .before .before .before .before .before .before .before .before .before .pre .3, r .read .kept .1 .1 .1 .0))
 
 returns-2 : tie.Need-returns-2
 returns-2 c =
-    let k = c .before .before .before .before .before .before in
-    let r = k .before .before .before .before .before .before .before in
-    let i = r .before .before .before .before .before .before .before in
-    side-formed (subst (ExpressionAt _ _ _ _ _ _) (k .seen .given .1) (r .read .ensures)) (i .pre .0) (c .before .term-in .ensures) (c .codes-left .ensures)
+    side-formed (subst (ExpressionAt _ _ _ _ _ _) (c .before .before .before .before .seen .given .1) (c .before .before .before .before .before .before .before .before .read .ensures)) (c .before .before .before .before .before .before .before .before .before .before .before .before .pre .0)
+    (c .before .term-in .ensures) (c .codes-left .ensures)
 
 pub read-spec : {M : Type 1} → statement M
 read-spec =
-    tie.close
-    (tie.spec (λ c κs. search needs) (λ c. search needs) (λ c. search needs) (λ c. search needs) (λ c. search needs) (λ c. search needs) returns
-    term-in-requires (λ c κs. search needs) (λ c. search needs) (λ c. search needs) (λ c. search needs) returns-2)
+    tie.close (tie.spec (λ c κs. search needs) (λ c. search needs) (λ c. search needs) (λ c. search needs) returns term-in-requires (λ c κs. search needs) (λ c. search needs) returns-2)

@@ -6,8 +6,7 @@ use Rattle.text_sides.proofs.side.set_in.Statement.{statement}
 use Rattle.text_sides.proofs.side.set_in.Tie as tie
 
 returns : tie.Need-returns
-returns c =
-    held-pair _ _ _ _ (c .before .before .before .if1 .taken) (c .before .before .single .ensures) (c .before .single2 .ensures) (c .operator-in .ensures)
+returns c = held-pair _ _ _ _ (c .before .before .before .before .before .before .if1 .taken) (c .before .before .before .before .single .ensures) (c .before .before .single2 .ensures) (c .operator-in .ensures)
 
 returns-2 : tie.Need-returns-2
 returns-2 c = held-set _ _ _ _ (c .before .if1 .left) (c .term-in .ensures)
@@ -15,5 +14,6 @@ returns-2 c = held-set _ _ _ _ (c .before .if1 .left) (c .term-in .ensures)
 pub set-in-spec : {M : Type 1} → statement M
 set-in-spec =
     tie.close
-    (tie.spec (λ c. search needs) (λ c κs. search needs) (λ c. search needs) (λ c κs. search needs) (λ c. search needs) (λ c κs. search needs) returns
-    (λ c κs. search needs) returns-2)
+    (tie.spec (λ c. search needs) (λ c. search needs) (λ c. search needs) (λ c κs. search needs) (λ c. search needs) (λ c. search needs)
+    (λ c. search needs) (λ c κs. search needs) (λ c. search needs) (λ c. search needs) (λ c. search needs)
+    (λ c κs. search needs) returns (λ c κs. search needs) returns-2)
