@@ -1,22 +1,18 @@
 -- What a line that has passed leaves to be stored.
 use Prim.Native.Nat.{ℕ, _+_, _-_, _*_, _≤_}
 use mathlib.Core.Path.{_≡_}
-use mathlib.Core.Bool.{Bool, true, false}
 use mathlib.Core.List.{List}
 use lib.IntN.{pos}
 use lib.ListN.{length}
-use Rattle.plan_lines.specs.declared.Plan.{Plan}
 use Rattle.program.specs.declared.term.Term.the-variants.{Number}
 use Rattle.program.specs.declared.rule.Test.the-variants.{Always}
 use Rattle.program.specs.declared.rule.Rule.the-variants.{Set}
 use Rattle.program.specs.declared.rule.Slot.{Slot}
 use Rattle.program.specs.declared.location.Locations.{Locations}
-use Rattle.program.specs.declared.frame.Frame.{Frame}
 use Rattle.program.specs.Terms.{SlotTerms, TermInside}
 use Rattle.text_rules.specs.declared.line.LineRead.{LineRead}
 use Rattle.text_rules.specs.declared.line.LineRead.the-variants as L
 use Rattle.text_readings.specs.Readings.{Short, Lines}
-use Rattle.text_state.specs.State.{frameOf, lastFrame}
 use Rattle.text_state.specs.declared.state.State.{State}
 use Rattle.text_plan.specs.Walked.{slotWords, SlotWalked}
 use Rattle.text_plan.specs.declared.store.Store.{Store}
@@ -52,16 +48,11 @@ module _ (x : State) (a : Lines) (codes : List ℕ) (b : Lines) (codes′ : List
   -- `end` closes the open step, and `done` marks the last step of its loop
   abbrev pub LineLeaves : LineRead → Store → Type 0
   LineLeaves L.Step r = PlanSame W.Nothing r
-  LineLeaves L.End r = PlanSame (W.Frame (x .steps) true) r
-  LineLeaves L.Done r = PlanSame (W.Frame (x .steps - 1) false) r
+  LineLeaves L.End r = PlanSame (W.Close (x .steps)) r
+  LineLeaves L.Done r = PlanSame (W.Last (x .steps - 1)) r
   LineLeaves (L.Loop f named) r = PlanSame W.Nothing r
   LineLeaves (L.Rule y c) r = RuleStored y r
   LineLeaves L.NoForm r = PlanSame W.Nothing r
 
   pub record LinePlanned (l : LineRead) (r : Store) : Type 0 where
     pub leaves : LineLeaves l r
-
--- the frame that is stored; n and marks are what is planned and wanted behind it
-abbrev pub FrameStored : Bool → Frame → State → Plan → List Bool → ℕ → List Bool → Frame → Type 0
-FrameStored true last x plan wanted n marks r = (r ≡ frameOf x plan wanted) × (n ≡ 0) × (length marks ≡ 64)
-FrameStored false last x plan wanted n marks r = (r ≡ lastFrame last) × (n ≡ plan .count) × (marks ≡ wanted)

@@ -2,11 +2,9 @@
 ghost use mathlib.Core.Path.{_≡_};
 ghost use mathlib.Core.List.{[]};
 ghost use Prim.Native.Nat.{_≤_};
-ghost use lib.ListN.{length};
 ghost use Rattle.plan_lines.specs.Held.{HoldsLines, planOf};
 ghost use Rattle.text_readings.specs.Readings.{linesOf, Growing};
-ghost use Rattle.text_state.specs.State.{frameOf};
-ghost use Rattle.text_plan.specs.Store.{emptySlot, LineFits, LinePlanned, FrameStored};
+ghost use Rattle.text_plan.specs.Store.{emptySlot, LineFits, LinePlanned};
 use crate::plan_rule;
 use plan_lines::Plan;
 use program::frame::Frame;
@@ -23,10 +21,11 @@ use text_rules::line::LineRead;
 use text_state::state;
 use text_state::state::State;
 
-// A rule at its place; the frame of a step, which the line closes or marks as the last of its loop; or nothing.
+// A rule at its place; the frame of a step that the line closes, or marks as the last of its loop; or nothing.
 pub enum Store {
     Rule(usize, Located),
-    Frame(usize, bool),
+    Close(usize),
+    Last(usize),
     Nothing,
 }
 
@@ -86,62 +85,33 @@ pub fn plan_line(
             let at = plan_rule(keys, rounds, backs, reads, count, wanted, codes, slot);
             Store::Rule(state::place(state), Located { slot, at })
         }
-        LineRead::End => Store::Frame(state.steps, true),
-        LineRead::Done => Store::Frame(state.steps - 1, false),
+        LineRead::End => Store::Close(state.steps),
+        LineRead::Done => Store::Last(state.steps - 1),
         LineRead::Step => Store::Nothing,
         LineRead::Loop(_, _) => Store::Nothing,
         LineRead::NoForm => Store::Nothing,
     }
 }
 
-// The frame of the step that is closed. Nothing is planned yet for the next one.
-fn close(
-    state: State,
+// The plan of the open step.
+pub fn plan_of(
     keys: &[u64; 64],
     rounds: &[u8; 64],
     backs: &[u8; 64],
     reads: &[u8; 64],
-    count: &mut usize,
-    wanted: &mut [bool; 64],
-) -> Frame
-    ensures { λ r. ⌜ (r ≡ frameOf state (planOf (now (keys .entry)) (now (rounds .entry)) (now (backs .entry)) (now (reads .entry)) (now (count .entry))) (now (wanted .entry)))
-        × (now (count .exit) ≡ 0) × (length (now (wanted .exit)) ≡ 64) ⌝ }
+    count: usize,
+) -> Plan
+    ensures { λ r. ⌜ r ≡ planOf (now (keys .entry)) (now (rounds .entry)) (now (backs .entry)) (now (reads .entry)) count ⌝ }
 {
     let keys = *keys;
     let rounds = *rounds;
     let backs = *backs;
     let reads = *reads;
-    let plan = Plan {
+    Plan {
         keys,
         rounds,
         backs,
         reads,
-        count: *count,
-    };
-    let frame = state::open_frame(state, plan, *wanted);
-    *count = 0;
-    *wanted = [false; 64];
-    frame
-}
-
-// The frame of a step that a line closes, or of the last step of a loop, where `last` is its frame so far.
-pub fn frame(
-    last: Frame,
-    closes: bool,
-    state: State,
-    keys: &[u64; 64],
-    rounds: &[u8; 64],
-    backs: &[u8; 64],
-    reads: &[u8; 64],
-    count: &mut usize,
-    wanted: &mut [bool; 64],
-) -> Frame
-    ensures { λ r. ⌜ FrameStored closes last state
-        (planOf (now (keys .entry)) (now (rounds .entry)) (now (backs .entry)) (now (reads .entry)) (now (count .entry))) (now (wanted .entry))
-        (now (count .exit)) (now (wanted .exit)) r ⌝ }
-{
-    if closes {
-        return close(state, keys, rounds, backs, reads, count, wanted);
+        count,
     }
-    state::last_frame(last)
 }
