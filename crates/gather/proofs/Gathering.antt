@@ -20,7 +20,8 @@ use Rattle.gather_follow.specs.Filled.{FollowLines, Filled}
 use Rattle.gather_exchanges.specs.Lines.{StepPlanned}
 use Rattle.gather_exchanges.specs.Exchanged.{ExchangedTo}
 use Rattle.gather_exchanges.proofs.Counting.{lines-le}
-use Rattle.gather_exchanges.proofs.Planned.{planned-count, planned-round, planned-lines, planned-has-line, planned-follows, planned-readable, planned-last, planned-rounds}
+use Rattle.gather_exchanges.proofs.Planned.{planned-count, planned-round, planned-lines, planned-rounds}
+use Rattle.gather_exchanges.proofs.Planned.{planned-has-line, planned-follows, planned-readable, planned-last}
 use Rattle.gather_exchanges.proofs.Sending.{held-over, messages-over}
 use Rattle.gather_line.proofs.Places.{stored-place, stored-fits}
 use Rattle.gather.specs.Gathered.{GatherReady, Gathered, GatheredBy}

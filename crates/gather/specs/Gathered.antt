@@ -35,7 +35,8 @@ pub record AllExchanged (s : Sizes) (cells : List Cell) (p : Plan)
 
 -- what each machine makes
 abbrev pub Gathered : Machine → Sizes → List Cell → Plan → List Bool → List ℤ → List ℕ → List ℤ → List ℕ → Counts → Type 0
-Gathered Direct s cells p wanted values marks values′ marks′ r = Filled s cells (facts p) wanted (p .count) values marks values′ marks′ × (r ≡ noCounts)
+Gathered Direct s cells p wanted values marks values′ marks′ r =
+    Filled s cells (facts p) wanted (p .count) values marks values′ marks′ × (r ≡ noCounts)
 Gathered Messages s cells p wanted values marks values′ marks′ r = AllExchanged s cells p values marks values′ marks′ r
 
 -- the exchanges and messages that bring these lines about

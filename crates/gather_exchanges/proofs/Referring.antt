@@ -23,7 +23,8 @@ use Rattle.gather_exchanges.specs.Lines.{fieldOf, LinesReady, LineStands
 use Rattle.gather_exchanges.specs.Exchanged.{sentBy, heldTo}
 
 -- a record's own reference
-cell-refers : {s : Sizes} {cells : List Cell} → Valid s cells → (v f : ℕ) → f < s .references → v < s .records → refersTo (s .records) (readCell s cells v f) ≡ true
+cell-refers : {s : Sizes} {cells : List Cell} → Valid s cells → (v f : ℕ) → f < s .references → v < s .records
+    → refersTo (s .records) (readCell s cells v f) ≡ true
 unfolding hop
 cell-refers valid v f l h = hop-refers valid (Value (pos v)) f l (own-refers _ v h)
 

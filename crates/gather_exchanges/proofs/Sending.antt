@@ -22,7 +22,8 @@ use Rattle.gather_exchanges.specs.Exchanged.{sentBy, heldTo, linesMessag
 use Rattle.gather_exchanges.proofs.Held.{knows-told, writer-one, writer-back}
 use Rattle.gather_exchanges.proofs.Counting.{lines-plan}
 use Rattle.gather_exchanges.proofs.Referring.{held-refers, sender-refers}
-use Rattle.gather_exchanges.proofs.Planned.{planned-count, planned-line, planned-round, planned-lines, back-long, back-short, read-long, read-rest, one-field}
+use Rattle.gather_exchanges.proofs.Planned.{planned-count, planned-line, planned-round, planned-lines}
+use Rattle.gather_exchanges.proofs.Planned.{back-long, back-short, read-long, read-rest, one-field}
 
 module _ {s : Sizes} {p : Plan} (planned : StepPlanned s p) (cells : List Cell) where
   -- what is held for a fact, by its line

@@ -70,7 +70,8 @@ module _ (s : Sizes) (cells : List Cell) (held : ByLine) (read field : ℕ) wher
     unfolding messageAt writtenAt
     message-none e = ap (writtenAt s cells held read field) e
 
-    pub message-by : {z : ℤ} (v : ℕ) → Value z ≡ writerAt held back u → v ≡ natAbs z → knownAt s cells held read field v ≡ messageAt s cells held back read field u
+    pub message-by : {z : ℤ} (v : ℕ) → Value z ≡ writerAt held back u → v ≡ natAbs z
+        → knownAt s cells held read field v ≡ messageAt s cells held back read field u
     unfolding messageAt writtenAt
     message-by v e q = ap (knownAt s cells held read field) q ∙ ap (writtenAt s cells held read field) e
 
@@ -94,7 +95,8 @@ module _ (s : Sizes) (cells : List Cell) (held held′ : ByLine) (back read fiel
   written-alike Missing r = refl
   written-alike (Value z) r = known-alike (natAbs z) (index-is (s .records) z r .1)
 
-  pub message-alike : refersTo (s .records) (writerAt held′ back u) ≡ true → messageAt s cells held back read field u ≡ messageAt s cells held′ back read field u
+  pub message-alike : refersTo (s .records) (writerAt held′ back u) ≡ true
+      → messageAt s cells held back read field u ≡ messageAt s cells held′ back read field u
   unfolding messageAt
   message-alike r = ap (writtenAt s cells held read field) writer-alike ∙ written-alike (writerAt held′ back u) r
 

@@ -37,7 +37,8 @@ fn known(
     field: usize,
 ) -> Reading
     requires { ⌜ Parts sizes (now cells) (now filled) × (v < sizes .records) × ReadHeld sizes (now values) (now marks) read field ⌝ }
-    ensures { λ r. ⌜ r ≡ knownAt sizes (cellsOf (now (cells .entry)) (now (filled .entry))) (placesOf sizes (now (values .entry)) (now (marks .entry))) read field v ⌝ }
+    ensures { λ r. ⌜ r ≡ knownAt sizes (cellsOf (now (cells .entry)) (now (filled .entry)))
+        (placesOf sizes (now (values .entry)) (now (marks .entry))) read field v ⌝ }
 {
     if read == NO_LINE {
         return follow::read_cell(cells, filled, sizes, v, field);
@@ -57,8 +58,10 @@ fn message(
     read: usize,
     field: usize,
 ) -> Reading
-    requires { ⌜ Parts sizes (now cells) (now filled) × (u < sizes .records) × BackHeld sizes (now values) (now marks) back × ReadHeld sizes (now values) (now marks) read field ⌝ }
-    ensures { λ r. ⌜ r ≡ messageAt sizes (cellsOf (now (cells .entry)) (now (filled .entry))) (placesOf sizes (now (values .entry)) (now (marks .entry))) back read field u ⌝ }
+    requires { ⌜ Parts sizes (now cells) (now filled) × (u < sizes .records) × BackHeld sizes (now values) (now marks) back
+        × ReadHeld sizes (now values) (now marks) read field ⌝ }
+    ensures { λ r. ⌜ r ≡ messageAt sizes (cellsOf (now (cells .entry)) (now (filled .entry)))
+        (placesOf sizes (now (values .entry)) (now (marks .entry))) back read field u ⌝ }
 {
     let Reading::Value(number) = writer(values, marks, sizes, u, back) else {
         return Reading::Missing;
@@ -90,8 +93,9 @@ pub fn exchange(
     field: usize,
 ) -> usize
     requires { ⌜ Parts sizes (now cells) (now filled) × LineReady sizes (now values) (now marks) i back read field ⌝ }
-    ensures { λ r. ⌜ LineSent sizes (messageAt sizes (cellsOf (now (cells .entry)) (now (filled .entry))) (placesOf sizes (now (values .entry)) (now (marks .entry))) back read field)
-        i (sizes .records) (now (values .entry)) (now (marks .entry)) (now (values .exit)) (now (marks .exit)) r ⌝ }
+    ensures { λ r. ⌜ LineSent sizes (messageAt sizes (cellsOf (now (cells .entry)) (now (filled .entry)))
+        (placesOf sizes (now (values .entry)) (now (marks .entry))) back read field) i (sizes .records)
+        (now (values .entry)) (now (marks .entry)) (now (values .exit)) (now (marks .exit)) r ⌝ }
 {
     let first = i * sizes.records;
     let mut sent = 0;
