@@ -18,7 +18,7 @@ use Rattle.machine_messages.specs.Counts.{planMessages}
 use Rattle.gather_line.specs.Written.{ByLine, knownAt, writerAt, writtenAt, messageAt}
 use Rattle.gather_line.proofs.Writing.{none-or-line, known-own, known-told, writer-own, writer-told, message-alike}
 use Rattle.gather_exchanges.specs.Lines.{fieldOf, StepPlanned}
-use Rattle.gather_exchanges.specs.Exchanged.{sentBy, heldTo, linesMessages}
+use Rattle.gather_exchanges.specs.Exchanged.{sentBy, heldTo, SendsAlike, linesMessages}
 use Rattle.gather_exchanges.proofs.Held.{knows-told, writer-one, writer-back}
 use Rattle.gather_exchanges.proofs.Counting.{lines-plan}
 use Rattle.gather_exchanges.proofs.Referring.{held-refers, sender-refers}
@@ -58,12 +58,14 @@ module _ {s : Sizes} {p : Plan} (planned : StepPlanned s p) (cells : List Cell) 
         let long = back-long planned i b e in
         sym (writer-told (byLine held) _ u e) ∙ served (planned .promised .each i b .back-line long) u ∙ sym (writer-back held (factAt p i) u long))
 
-    -- over whatever is held for facts: "the writer sends one letter .. if it holds both needed facts and both are filled"
-    pub sent-over : (u : ℕ) → sentBy s cells p (byLine held) i u ≡ sent s cells held (line (facts p) i) u
+    sent-over : (u : ℕ) → sentBy s cells p (byLine held) i u ≡ sent s cells held (line (facts p) i) u
     unfolding sentBy messageAt sent
     sent-over u =
         ap (writtenAt s cells (byLine held) (lineAt p i .read) (fieldOf (factAt p i))) (writer-is u) ∙ written-is (writer held (factAt p i) u)
         ∙ sym (ap (λ f. sent s cells held f u) (planned-line planned i b))
+
+  pub sends-alike : SendsAlike s cells p
+  sends-alike held i u b = sent-over held i b u
 
   module _ (valid : Valid s cells) where
     -- so what the exchanges leave is what it holds
@@ -79,7 +81,7 @@ module _ {s : Sizes} {p : Plan} (planned : StepPlanned s p) (cells : List Cell) 
         (λ e. sym (same _ u (omega (arith, stands .back-line e .before)) h))
         (λ e v l. sym (same _ v (omega (arith, stands .read-line e .before)) l))
         (sender-refers valid (planned-lines planned) (heldTo s cells p t) (held-refers valid (planned-lines planned) t) i b u h))
-        ∙ sent-over (heldAfter s cells t) i b u
+        ∙ sends-alike (heldAfter s cells t) i u b
 
     pub held-over : (t : ℕ) → Same t
     unfolding heldTo heldAfter

@@ -14,9 +14,11 @@ use Rattle.register.specs.declared.Sizes.{Sizes}
 use Rattle.register.specs.declared.cells.Cell.{Cell}
 use Rattle.chain.specs.declared.reading.Reading.the-variants.{Missing}
 use Rattle.chain.specs.Word.{refersTo}
-use Rattle.plan_lines.specs.Held.{lineAt}
+use Rattle.plan_theory.specs.Plan.{line}
+use Rattle.plan_lines.specs.Held.{facts, lineAt}
 use Rattle.plan_lines.specs.Promised.{factAt}
 use Rattle.plan_lines.specs.declared.Plan.{Plan}
+use Rattle.machine_messages.specs.Held.{Held, sent}
 use Rattle.machine_messages.specs.Counts.{lineMessages}
 use Rattle.scratch.specs.Places.{Kept}
 use Rattle.gather_line.specs.Written.{ByLine, placesOf, messageAt, Stored}
@@ -31,6 +33,12 @@ module _ (s : Sizes) (cells : List Cell) (p : Plan) where
   unfoldable pub heldTo : ℕ → ByLine
   heldTo zero i u = Missing
   heldTo (suc t) i u = cond (eqb (lineAt p i .round) (suc t)) (sentBy (heldTo t) i u) (heldTo t i u)
+
+-- over whatever is held for the facts of its lines, a plan's exchanges send what the message machine sends: "the writer sends
+-- one letter .. if it holds both needed facts and both are filled"
+abbrev pub SendsAlike : Sizes → List Cell → Plan → Type 0
+SendsAlike s cells p = (held : Held) (i u : ℕ) → i < p .count
+    → sentBy s cells p (λ j v. held (line (facts p) j) v) i u ≡ sent s cells held (line (facts p) i) u
 
 -- the messages of the first k lines to n origins each; "letters to oneself count" ..
 unfoldable pub linesMessages : ByLine → ℕ → ℕ → ℕ

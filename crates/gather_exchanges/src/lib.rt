@@ -30,7 +30,7 @@ fn field_of(key: u64) -> usize
     packed::first_hop(key::chain_of(key::needs_of(key).read)) as usize
 }
 
-// The messages of line i, at its places; how many are sent. Today a line has one kind: it is made from its two needs.
+// The messages of line i, at its places; how many are sent. Every line is made from its two needs, or from the writer's cells.
 fn exchange_line(
     cells: &[u8],
     filled: &[u8],
