@@ -75,28 +75,8 @@ fn combine(
 {
     let first = at.first;
     let second = at.second;
-    let a = term::term_value(
-        cells,
-        filled,
-        values,
-        marks,
-        sizes,
-        u,
-        codes,
-        x,
-        first,
-    );
-    let b = term::term_value(
-        cells,
-        filled,
-        values,
-        marks,
-        sizes,
-        u,
-        codes,
-        y,
-        second,
-    );
+    let a = term::term_value(cells, filled, values, marks, sizes, u, codes, x, first);
+    let b = term::term_value(cells, filled, values, marks, sizes, u, codes, y, second);
     operation::join(operator, a, b)
 }
 
@@ -191,17 +171,7 @@ pub fn effect(
         Tested::OutOfRange => Evaluated::OutOfRange,
         Tested::Holds => {
             let at = located.at.rule;
-            expression(
-                cells,
-                filled,
-                values,
-                marks,
-                sizes,
-                u,
-                codes,
-                rule,
-                at,
-            )
+            expression(cells, filled, values, marks, sizes, u, codes, rule, at)
         }
     }
 }
@@ -224,15 +194,6 @@ pub fn local_write(
 {
     let slot = located.slot;
     let rule = slot.rule;
-    let value = effect(
-        cells,
-        filled,
-        values,
-        marks,
-        sizes,
-        u,
-        codes,
-        located,
-    );
+    let value = effect(cells, filled, values, marks, sizes, u, codes, located);
     write_value(rule, value)
 }

@@ -17,7 +17,7 @@ use Rattle.program.specs.Stored.{termIn, targetIn, expressionIn, ruleIn}
 use Rattle.program.specs.Terms.{RulePlaced, SlotPlaced}
 use Rattle.machine.specs.Value.{value}
 use Rattle.machine.specs.Remote.{sentTo, ruleMessages}
-use Rattle.step_terms.specs.Found.{foundAt, Told}
+use Rattle.step_terms.specs.Found.{foundAt, Told, TargetFound, Within}
 use Rattle.step_operations.specs.Evaluated.{evaluated}
 use Rattle.step_effects.specs.declared.stored.Write.{Write}
 use Rattle.step_effects.specs.declared.sent.Sent.{Sent}
@@ -34,10 +34,10 @@ module _ (s : Sizes) (cells : List Cell) (values : List ℤ) (marks : List ℕ) 
       × ((codes : List ℕ) → Told s cells values marks u (λ P. SlotPlaced P codes x) (λ read. w ≡ writeOf read (ruleIn codes (x .slot))))
 
   abbrev pub PlainSent : Places → Sort → ℕ → ℕ → Term → Sent → Type 0
-  PlainSent at sort f c x m = GoesTo f (foundAt s cells values marks u (at .first)) m
+  PlainSent at sort f c x m = GoesTo f (λ n. Within n (foundAt s cells values marks u (at .first))) m
       × ((codes : List ℕ) → Told s cells values marks u (λ P. RulePlaced P codes at (Remote sort f c x))
       (λ read. messagesIn m ≡ sentTo sort f (read (unpack c)) (value read (termIn codes x))))
 
   abbrev pub PlainMessages : Located → Sent → Type 0
-  PlainMessages x m = GoesTo (targetField (targetIn (x .slot .rule))) (foundAt s cells values marks u (x .at .rule .first)) m
+  PlainMessages x m = GoesTo (targetField (targetIn (x .slot .rule))) (λ n. TargetFound (Within n) s cells values marks u (x .at .rule) (x .slot .rule)) m
       × ((codes : List ℕ) → Told s cells values marks u (λ P. SlotPlaced P codes x) (λ read. messagesIn m ≡ ruleMessages read (ruleIn codes (x .slot))))

@@ -33,8 +33,8 @@ post-requires c κs =
     let ready = s .pre .1 .0 in
     let a = s .args in
     let within : ℕ → Type 0 = λ n.
-        TargetFound (Within n) (a .sizes) (cellsOf (now (a .cells)) (now (a .filled))) (take (a .base) (now (a .values))) (take (a .base) (now (a .marks))) (a .u)
-        (a .rule .at .rule) (a .rule .slot .rule) in
+    TargetFound (Within n) (a .sizes) (cellsOf (now (a .cells)) (now (a .filled))) (take (a .base) (now (a .values))) (take (a .base) (now (a .marks))) (a .u)
+    (a .rule .at .rule) (a .rule .slot .rule) in
     let addresses = goes-addresses (a .sizes) _ (ready .field) within (ready .targets _ (s .pre .0 .1)) (w .message-of .result) (w .message-of .ensures .0) in
     let count = sym (s .pre .0 .0 .marks-length) in (
       (s .pre .0 .0 .limits, addresses, rw count (s .pre .0 .2)),
