@@ -73,11 +73,7 @@ module _ {m : Machine} {s : Sizes} {codes : List ℕ} {p : R.Program} {budget : 
 
   module _ {b : Prepared a places values₂ marks₂ begun} {stop : Stop} {values₃ values₄ : List ℤ} {marks₃ marks₄ : List ℕ} {sent : ℕ}
       (l : Applied b values₃ marks₃ stop) where
-    -- the messages of the step
-    abbrev sends : List Message
-    sends = recordMessages (followed s (cells a)) (ls b) (s .records)
-
-    delivers : Same (base a) values₃ marks₃ values₄ marks₄ → (stop ≡ Nowhere → Delivers s (base a) sends values₃ marks₃ values₄ marks₄ 0 sent)
+    delivers : Same (base a) values₃ marks₃ values₄ marks₄ → (stop ≡ Nowhere → Delivers s (base a) (recordMessages (followed s (cells a)) (ls b) (s .records)) values₃ marks₃ values₄ marks₄ 0 sent)
         → Done b stop values₄ marks₄ sent
     delivers k d = record {
       same = same-then (l .same) k;

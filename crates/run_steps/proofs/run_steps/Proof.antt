@@ -434,11 +434,10 @@ loop3-again : Of tie.Need-loop3-again
 loop3-again c =
     let r = rulingOfRuled c in
     let b = prepared (begun (records r)) in
-    let agrees = λ x. rule-agrees b (same-here r) _ x (r .loop3-test .taken) _ (r .before .before .records-test .taken) in
     rules-next (r .before .loop3 .inv) (r .loop3-test .taken) (rules-fit b) (c .enum-told2 .given .1) _
     (⊎-elim
-    (λ w. local-as _ _ _ _ _ _ _ (w .9) (w .10) (w .11) (w .5 .ensures _ _ (agrees _)))
-    (λ w. local-as _ _ _ _ _ _ _ (w .9) (w .10) (w .11) (w .5 .ensures _ (agrees _)))
+    (λ w. local-as _ _ _ _ _ _ _ (w .9) (w .10) (w .11) (w .5 .ensures _ _ (rule-agrees b (same-here r) _ _ (r .loop3-test .taken) _ (r .before .before .records-test .taken))))
+    (λ w. local-as _ _ _ _ _ _ _ (w .9) (w .10) (w .11) (w .5 .ensures _ (rule-agrees b (same-here r) _ _ (r .loop3-test .taken) _ (r .before .before .records-test .taken))))
     (c .before .before .if3 .came)) (omega arith)
 
 add-u : Of tie.Need-add-u
@@ -463,11 +462,10 @@ applied c =
     ⊎-elim
     (λ w. left-behind i (w .0 .left) (w .1) (w .2) (w .3))
     (λ w.
-    let agrees = λ x. rule-agrees b (same-then (i .same) (w .1 .inv .done .same)) _ x (w .2 .taken) _ (w .0 .taken) in
     left-within i (w .0 .taken) (w .1 .inv) (w .2 .taken) (rules-fit b) (w .5 .given .1) (w .6) (w .7) (w .8) _
     (⊎-elim
-    (λ v. local-as _ _ _ _ _ _ _ (v .9) (v .10) (v .11) (v .5 .ensures _ _ (agrees _)))
-    (λ v. local-as _ _ _ _ _ _ _ (v .9) (v .10) (v .11) (v .5 .ensures _ (agrees _)))
+    (λ v. local-as _ _ _ _ _ _ _ (v .9) (v .10) (v .11) (v .5 .ensures _ _ (rule-agrees b (same-then (i .same) (w .1 .inv .done .same)) _ _ (w .2 .taken) _ (w .0 .taken))))
+    (λ v. local-as _ _ _ _ _ _ _ (v .9) (v .10) (v .11) (v .5 .ensures _ (rule-agrees b (same-then (i .same) (w .1 .inv .done .same)) _ _ (w .2 .taken) _ (w .0 .taken))))
     (w .3 .came)))
     (c .records-test .came)
 
