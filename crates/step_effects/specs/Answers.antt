@@ -44,11 +44,10 @@ unfoldable pub messagesIn : Sent → List Message
 messagesIn S.Nothing = []
 messagesIn (S.One m) = m ∷ []
 
--- an answer that is for this field, if for any
-abbrev pub WritesTo : ℕ → Write → Type 0
-WritesTo f W.Nothing = Unit {0}
-WritesTo f (W.Store g z) = g ≡ f
-WritesTo f (W.OutOfRange g) = g ≡ f
+-- what is done with some value for this target
+pub record DoneFor (t : Target) (w : Write) : Type 0 where
+  pub value : Evaluated
+  pub is : w ≡ doneBy t value
 
 -- a message to this field of a record that is within all that its target is
 abbrev pub GoesTo : ℕ → (ℕ → Type 0) → Sent → Type 0

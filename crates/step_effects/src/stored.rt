@@ -9,7 +9,7 @@ ghost use Rattle.program.specs.Stored.{ruleIn, targetIn, expressionIn, termIn};
 ghost use Rattle.program.specs.Terms.{RulePlaced, SlotPlaced};
 ghost use Rattle.step_terms.specs.Found.{Told, RuleReaches, SlotReaches};
 ghost use Rattle.step_operations.specs.Evaluated.{evaluated};
-ghost use Rattle.step_effects.specs.Answers.{doneBy, effectOf, writeOf, WritesTo};
+ghost use Rattle.step_effects.specs.Answers.{doneBy, effectOf, writeOf, DoneFor};
 use program::location::Located;
 use program::location::Places;
 use program::rule::Operator;
@@ -188,7 +188,7 @@ pub fn local_write(
     located: Located,
 ) -> Write
     requires { ⌜ Parts sizes (now cells) (now filled) × (u < sizes .records) × SlotReaches sizes (now values) (now marks) u (now codes) located ⌝ }
-    ensures { λ r. ⌜ WritesTo (targetField (targetIn (located .slot .rule))) r
+    ensures { λ r. ⌜ DoneFor (targetIn (located .slot .rule)) r
         × Told sizes (cellsOf (now (cells .entry)) (now (filled .entry))) (now (values .entry)) (now (marks .entry)) u
         (λ P. SlotPlaced P (now (codes .entry)) located) (λ read. r ≡ writeOf read (ruleIn (now (codes .entry)) (located .slot))) ⌝ }
 {

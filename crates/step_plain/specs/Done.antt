@@ -21,16 +21,16 @@ use Rattle.step_terms.specs.Found.{foundAt, Told, TargetFound, Within}
 use Rattle.step_operations.specs.Evaluated.{evaluated}
 use Rattle.step_effects.specs.declared.stored.Write.{Write}
 use Rattle.step_effects.specs.declared.sent.Sent.{Sent}
-use Rattle.step_effects.specs.Answers.{doneBy, writeOf, messagesIn, WritesTo, GoesTo}
+use Rattle.step_effects.specs.Answers.{doneBy, writeOf, messagesIn, DoneFor, GoesTo}
 
 -- what its expression stores, what it stores, and what it sends
 module _ (s : Sizes) (cells : List Cell) (values : List ℤ) (marks : List ℕ) (u : ℕ) where
   abbrev pub PlainDone : Places → D.Rule → Write → Type 0
-  PlainDone at r w = WritesTo (targetField (targetIn r)) w
+  PlainDone at r w = DoneFor (targetIn r) w
       × ((codes : List ℕ) → Told s cells values marks u (λ P. RulePlaced P codes at r) (λ read. w ≡ doneBy (targetIn r) (evaluated read (expressionIn codes r))))
 
   abbrev pub PlainWrite : Located → Write → Type 0
-  PlainWrite x w = WritesTo (targetField (targetIn (x .slot .rule))) w
+  PlainWrite x w = DoneFor (targetIn (x .slot .rule)) w
       × ((codes : List ℕ) → Told s cells values marks u (λ P. SlotPlaced P codes x) (λ read. w ≡ writeOf read (ruleIn codes (x .slot))))
 
   abbrev pub PlainSent : Places → Sort → ℕ → ℕ → Term → Sent → Type 0

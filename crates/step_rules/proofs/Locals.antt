@@ -22,16 +22,18 @@ use Rattle.chain.specs.declared.reading.Reading.{Reading}
 use Rattle.chain.specs.Word.{hasField, column}
 use Rattle.chain.proofs.Following.{column-below}
 use Rattle.program.specs.declared.location.Located.{Located}
-use Rattle.program.specs.Program.{Rule, targetField}
+use Rattle.program.specs.Program.{Target, own, remote, Rule, targetField}
 use Rattle.laws.specs.Lists.{Each}
 use Rattle.program.specs.Stored.{ruleIn, rulesIn}
 use Rattle.machine.specs.Local.{localRules, localRecords, offends, sumColumn}
 use Rattle.machine.proofs.Folding.{localRules-more, localRules-length, localRecords-length, sumColumn-more, sumColumn-earliest, sumColumn-each}
 use Rattle.machine.specs.Step.{sumOffence}
 use Rattle.machine.proofs.Stops.{sum-at}
-use Rattle.step_effects.specs.Answers.{writeOf, WritesTo}
+use Rattle.step_effects.specs.Answers.{targetWrite, doneBy, writeOf, DoneFor}
 use Rattle.step_tests.specs.Plain.{plainSlot}
 use Rattle.step_tests.proofs.Plainly.{plain-reaches}
+use Rattle.step_operations.specs.declared.operation.Evaluated.{Evaluated}
+use Rattle.step_operations.specs.declared.operation.Evaluated.the-variants as E
 use Rattle.step_effects.specs.declared.stored.Write.{Write}
 use Rattle.step_effects.specs.declared.stored.Write.the-variants.{Nothing, Store, OutOfRange}
 use Rattle.step_cells.specs.Work.{Room, HoldsCells, Same, Put, Small}
@@ -46,11 +48,18 @@ each-at P [] k d h e = absurd (omega arith)
 each-at P (a ∷ l) zero d h e = e .0
 each-at P (a ∷ l) (suc k) d h e = each-at P l k d (omega arith) (e .1)
 
--- the field of a write
-pub writes-field : (s : Sizes) (f : ℕ) → hasField s f ≡ true → (w : Write) → WritesTo f w → WritesField s w
-writes-field s f h Nothing e = tt
-writes-field s f h (Store g z) e = ap (hasField s) e ∙ h
-writes-field s f h (OutOfRange g) e = ap (hasField s) e ∙ h
+-- the field of a write is that of its target
+pub writes-field : (s : Sizes) (t : Target) → hasField s (targetField t) ≡ true → (w : Write) → DoneFor t w → WritesField s w
+unfolding doneBy targetWrite targetField
+writes-field s t h w d = subst (WritesField s) (sym (d .is)) (go t h (d .value))
+  where
+    go : (t : Target) → hasField s (targetField t) ≡ true → (v : Evaluated) → WritesField s (doneBy t v)
+    go (own f) h E.Missing = tt
+    go (own f) h (E.Value z) = h
+    go (own f) h E.OutOfRange = h
+    go (remote k f w) h E.Missing = tt
+    go (remote k f w) h (E.Value z) = tt
+    go (remote k f w) h E.OutOfRange = h
 
 -- one rule at record u
 module _ (s : Sizes) (read : List ℕ → Reading) (u : ℕ) (r : Rule) where
