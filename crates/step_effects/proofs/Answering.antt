@@ -32,7 +32,7 @@ use Rattle.step_operations.specs.Evaluated.{ofReading, evaluated}
 use Rattle.step_operations.specs.Tests.{tested}
 use Rattle.step_tests.proofs.Sides.{both-first, both-second}
 use Rattle.step_operations.proofs.Testing.{test-tells}
-use Rattle.step_effects.specs.Answers.{targetWrite, doneBy, effectOf, writeOf, WritesTo}
+use Rattle.step_effects.specs.Answers.{targetWrite, doneBy, effectOf, writeOf, DoneFor}
 use Rattle.step_effects.specs.declared.stored.Write.the-variants as W
 
 -- a missing value stores nothing
@@ -46,15 +46,10 @@ pub value-stored : (f : ℕ) {t : Target} {v : Evaluated} {z : ℤ} → v ≡ E.
 unfolding doneBy targetWrite
 value-stored f {z = z} p q h = ap (W.Store f) (kept z h) ∙ sym (ap₂ doneBy q p)
 
--- what is done is for the field that is written
-pub done-writes : (t : Target) (v : Evaluated) → WritesTo (targetField t) (doneBy t v)
-unfolding doneBy targetWrite targetField
-done-writes (own f) E.Missing = tt
-done-writes (own f) (E.Value z) = refl
-done-writes (own f) E.OutOfRange = refl
-done-writes (remote k f w) E.Missing = tt
-done-writes (remote k f w) (E.Value z) = tt
-done-writes (remote k f w) E.OutOfRange = refl
+-- nothing is done with a missing value
+pub nothing-done : (t : Target) → DoneFor t W.Nothing
+unfolding doneBy
+nothing-done t = record { value = E.Missing; is = missing-unstored t }
 
 -- a value that is told where a test holds
 value-held : (h : Bool) (w : Reading) {z : ℤ} → E.Value z ≡ cond h (ofReading w) E.Missing → (h ≡ true) × (w ≡ Value z)

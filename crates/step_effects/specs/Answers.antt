@@ -1,11 +1,10 @@
 -- What the answers of the code mean.
 use mathlib.Core.Path.{_≡_}
-use mathlib.Core.Bool.{cond, true}
+use mathlib.Core.Bool.{cond}
 use mathlib.Core.List.{List, [], _∷_}
 use Prim.Native.Nat.{ℕ, _<_}
 use Rattle.chain.specs.declared.reading.Reading.{Reading}
 use Rattle.chain.specs.declared.reading.Reading.the-variants.{Missing, Value}
-use Rattle.chain.specs.Word.{refersTo}
 use Rattle.program.specs.Program.{Target, own, remote, Rule, targetField}
 use Rattle.machine.specs.declared.message.Message.{Message}
 use Rattle.machine.specs.Value.{value, holds}
@@ -45,13 +44,12 @@ unfoldable pub messagesIn : Sent → List Message
 messagesIn S.Nothing = []
 messagesIn (S.One m) = m ∷ []
 
--- an answer that is for this field, if for any
-abbrev pub WritesTo : ℕ → Write → Type 0
-WritesTo f W.Nothing = Unit {0}
-WritesTo f (W.Store g z) = g ≡ f
-WritesTo f (W.OutOfRange g) = g ≡ f
+-- what is done with some value for this target
+pub record DoneFor (t : Target) (w : Write) : Type 0 where
+  pub value : Evaluated
+  pub is : w ≡ doneBy t value
 
--- a message to this field of the record that a reading names
-abbrev pub GoesTo : ℕ → Reading → Sent → Type 0
-GoesTo f x S.Nothing = Unit {0}
-GoesTo f x (S.One m) = (m .field ≡ f) × ((n : ℕ) → refersTo n x ≡ true → m .target < n)
+-- a message to this field of a record that is within all that its target is
+abbrev pub GoesTo : ℕ → (ℕ → Type 0) → Sent → Type 0
+GoesTo f Within S.Nothing = Unit {0}
+GoesTo f Within (S.One m) = (m .field ≡ f) × ((n : ℕ) → Within n → m .target < n)

@@ -9,7 +9,7 @@ ghost use Rattle.program.specs.Stored.{ruleIn, targetIn};
 ghost use Rattle.program.specs.Terms.{SlotPlaced};
 ghost use Rattle.machine.specs.Local.{offends};
 ghost use Rattle.machine.specs.Remote.{ruleMessages};
-ghost use Rattle.step_terms.specs.Found.{foundAt, Told, SlotReaches, TargetFound, Names};
+ghost use Rattle.step_terms.specs.Found.{Told, SlotReaches, TargetFound, Within, Names};
 ghost use Rattle.step_effects.specs.Answers.{messagesIn, GoesTo};
 use crate::stored;
 use chain::reading::Reading;
@@ -39,7 +39,8 @@ pub fn message_of(
 ) -> Sent
     requires { ⌜ Parts sizes (now cells) (now filled) × (u < sizes .records) × SlotReaches sizes (now values) (now marks) u (now codes) located
         × TargetFound Names sizes (cellsOf (now cells) (now filled)) (now values) (now marks) u (located .at .rule) (located .slot .rule) ⌝ }
-    ensures { λ r. ⌜ GoesTo (targetField (targetIn (located .slot .rule))) (foundAt sizes (cellsOf (now (cells .entry)) (now (filled .entry))) (now (values .entry)) (now (marks .entry)) u (located .at .rule .first)) r
+    ensures { λ r. ⌜ GoesTo (targetField (targetIn (located .slot .rule)))
+        (λ n. TargetFound (Within n) sizes (cellsOf (now (cells .entry)) (now (filled .entry))) (now (values .entry)) (now (marks .entry)) u (located .at .rule) (located .slot .rule)) r
         × Told sizes (cellsOf (now (cells .entry)) (now (filled .entry))) (now (values .entry)) (now (marks .entry)) u (λ P. SlotPlaced P (now (codes .entry)) located)
         (λ read. offends read (ruleIn (now (codes .entry)) (located .slot)) ≡ false → messagesIn r ≡ ruleMessages read (ruleIn (now (codes .entry)) (located .slot))) ⌝ }
 {
@@ -53,16 +54,7 @@ pub fn message_of(
     let Reading::Value(to) = term::found_at(cells, filled, values, marks, sizes, u, first) else {
         return Sent::Nothing;
     };
-    let value = stored::effect(
-        cells,
-        filled,
-        values,
-        marks,
-        sizes,
-        u,
-        codes,
-        located,
-    );
+    let value = stored::effect(cells, filled, values, marks, sizes, u, codes, located);
     let Evaluated::Value(amount) = value else {
         return Sent::Nothing;
     };

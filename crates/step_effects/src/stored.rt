@@ -9,7 +9,7 @@ ghost use Rattle.program.specs.Stored.{ruleIn, targetIn, expressionIn, termIn};
 ghost use Rattle.program.specs.Terms.{RulePlaced, SlotPlaced};
 ghost use Rattle.step_terms.specs.Found.{Told, RuleReaches, SlotReaches};
 ghost use Rattle.step_operations.specs.Evaluated.{evaluated};
-ghost use Rattle.step_effects.specs.Answers.{doneBy, effectOf, writeOf, WritesTo};
+ghost use Rattle.step_effects.specs.Answers.{doneBy, effectOf, writeOf, DoneFor};
 use program::location::Located;
 use program::location::Places;
 use program::rule::Operator;
@@ -75,28 +75,8 @@ fn combine(
 {
     let first = at.first;
     let second = at.second;
-    let a = term::term_value(
-        cells,
-        filled,
-        values,
-        marks,
-        sizes,
-        u,
-        codes,
-        x,
-        first,
-    );
-    let b = term::term_value(
-        cells,
-        filled,
-        values,
-        marks,
-        sizes,
-        u,
-        codes,
-        y,
-        second,
-    );
+    let a = term::term_value(cells, filled, values, marks, sizes, u, codes, x, first);
+    let b = term::term_value(cells, filled, values, marks, sizes, u, codes, y, second);
     operation::join(operator, a, b)
 }
 
@@ -191,17 +171,7 @@ pub fn effect(
         Tested::OutOfRange => Evaluated::OutOfRange,
         Tested::Holds => {
             let at = located.at.rule;
-            expression(
-                cells,
-                filled,
-                values,
-                marks,
-                sizes,
-                u,
-                codes,
-                rule,
-                at,
-            )
+            expression(cells, filled, values, marks, sizes, u, codes, rule, at)
         }
     }
 }
@@ -218,21 +188,12 @@ pub fn local_write(
     located: Located,
 ) -> Write
     requires { ⌜ Parts sizes (now cells) (now filled) × (u < sizes .records) × SlotReaches sizes (now values) (now marks) u (now codes) located ⌝ }
-    ensures { λ r. ⌜ WritesTo (targetField (targetIn (located .slot .rule))) r
+    ensures { λ r. ⌜ DoneFor (targetIn (located .slot .rule)) r
         × Told sizes (cellsOf (now (cells .entry)) (now (filled .entry))) (now (values .entry)) (now (marks .entry)) u
         (λ P. SlotPlaced P (now (codes .entry)) located) (λ read. r ≡ writeOf read (ruleIn (now (codes .entry)) (located .slot))) ⌝ }
 {
     let slot = located.slot;
     let rule = slot.rule;
-    let value = effect(
-        cells,
-        filled,
-        values,
-        marks,
-        sizes,
-        u,
-        codes,
-        located,
-    );
+    let value = effect(cells, filled, values, marks, sizes, u, codes, located);
     write_value(rule, value)
 }

@@ -17,11 +17,10 @@ use Rattle.laws.proofs.Cases.{lt-or-le}
 use Rattle.register.specs.declared.Sizes.{Sizes}
 use Rattle.register.specs.declared.cells.Cell.{Cell}
 use Rattle.chain.specs.declared.reading.Reading.{Reading}
-use Rattle.chain.specs.Word.{unpack}
 use Rattle.program.specs.declared.rule.Operator.{Operator}
 use Rattle.program.specs.declared.rule.Operator.the-variants.{Plus, Minus, Smaller}
 use Rattle.program.specs.Program.{Expression, reading, constant, operation, operators}
-use Rattle.program.specs.Code.{Code, chain, number, operator, unknown, postfix, kindIn, chainIn, numberIn, kindOf, ofKind, codeOf, codeAt, codesIn, treeIn, EachChain}
+use Rattle.program.specs.Code.{Code, chain, number, operator, unknown, postfix, kindIn, kindOf, ofKind, codeOf, codeAt, codesIn, treeIn, EachChain}
 use Rattle.program.proofs.Codes.{codes-first, codes-none, sign-coded}
 use Rattle.machine.specs.Value.{value, overflows}
 use Rattle.step_terms.specs.Found.{Agrees, Told, TreeReaches}

@@ -82,28 +82,8 @@ pub fn test_at(
         Test::When(x, comparison, y) => {
             let first = at.first;
             let second = at.second;
-            let left = term_value(
-                cells,
-                filled,
-                values,
-                marks,
-                sizes,
-                u,
-                codes,
-                x,
-                first,
-            );
-            let right = term_value(
-                cells,
-                filled,
-                values,
-                marks,
-                sizes,
-                u,
-                codes,
-                y,
-                second,
-            );
+            let left = term_value(cells, filled, values, marks, sizes, u, codes, x, first);
+            let right = term_value(cells, filled, values, marks, sizes, u, codes, y, second);
             comparison::compare_sides(left, comparison, right)
         }
     }

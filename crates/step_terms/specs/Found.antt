@@ -13,7 +13,7 @@ use Rattle.register.specs.declared.Sizes.{Sizes}
 use Rattle.register.specs.declared.cells.Cell as C
 use Rattle.chain.specs.declared.reading.Reading.{Reading}
 use Rattle.chain.specs.declared.reading.Reading.the-variants.{Missing, Value}
-use Rattle.chain.specs.Word.{hasField, readCell}
+use Rattle.chain.specs.Word.{hasField, readCell, refersTo}
 use Rattle.program.specs.declared.term.Term.{Term}
 use Rattle.program.specs.declared.term.Term.the-variants.{Chain, Number, Tree}
 use Rattle.program.specs.declared.rule.Test.{Test}
@@ -93,7 +93,10 @@ TargetFound Q s cells values marks u p (Set f x) = Unit {0}
 TargetFound Q s cells values marks u p (Combine f op x y) = Unit {0}
 TargetFound Q s cells values marks u p (Remote sort f c x) = Q (foundAt s cells values marks u (p .first))
 
--- a reading that is missing or names a record
+-- a reading that is missing or leads to one of n records, and one that is missing or names a record
+abbrev pub Within : ℕ → Reading → Type 0
+Within n x = refersTo n x ≡ true
+
 abbrev pub Names : Reading → Type 0
 Names Missing = Unit {0}
 Names (Value z) = T (nonNeg z)

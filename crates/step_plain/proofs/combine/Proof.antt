@@ -4,10 +4,9 @@ use mathlib.Core.Path.{_≡_, sym, _∙_}
 use mathlib.Core.Bool.{true}
 use denote.Ref.{now}
 use Rattle.program.specs.Stored.{targetIn, expressionIn}
-use Rattle.program.specs.Program.{targetField}
 use Rattle.step_tests.specs.Plain.{isPlain}
 use Rattle.step_tests.proofs.Plainly.{term-plain}
-use Rattle.step_effects.proofs.Answering.{done-writes}
+use Rattle.step_effects.proofs.Answering.{nothing-done}
 use Rattle.step_plain.proofs.Doing.{sum-first, sum-second, sum-written}
 use borrow.Author.Needs.{needs}
 use Rattle.step_plain.proofs.combine.Statement.{statement}
@@ -23,7 +22,7 @@ module _ (c : tie.Start) where
 returns : tie.Need-returns
 unfolding targetIn expressionIn
 returns c = (
-  tt,
+  nothing-done _,
   λ codes read agrees.
       let x = c .before .before in
       let (a, b) = plain (x .before .before .before .before) in
@@ -37,7 +36,7 @@ first c = c .before .before .before .before
 returns-2 : tie.Need-returns-2
 unfolding targetIn expressionIn
 returns-2 c = (
-  tt,
+  nothing-done _,
   λ codes read agrees.
       let y = c .before .before in
       let (a, b) = plain (first y .before .before .before .before) in
@@ -47,7 +46,7 @@ returns-2 c = (
 returns-3 : tie.Need-returns-3
 unfolding targetIn expressionIn
 returns-3 c = (
-  rw (c .write-sum .ensures) (done-writes _ _),
+  record { value = _; is = c .write-sum .ensures },
   λ codes read agrees.
       let l = c .before .before in
       let y = l .before .before .before in

@@ -7,7 +7,7 @@ use Rattle.program.specs.Program.{isRemote}
 use Rattle.program.specs.Stored.{targetIn, expressionIn}
 use Rattle.step_tests.specs.Plain.{plainTest, plainRule}
 use Rattle.step_tests.proofs.Plainly.{test-plain, rule-plain}
-use Rattle.step_effects.proofs.Answering.{done-writes}
+use Rattle.step_effects.proofs.Answering.{nothing-done}
 use Rattle.step_plain.proofs.Doing.{write-plain, write-unheld, write-held, plain-stored, set-plain}
 use borrow.Author.Needs.{needs}
 use Rattle.step_plain.proofs.local_write.Statement.{statement}
@@ -25,7 +25,7 @@ module _ (c : tie.Start) where
 
 returns : tie.Need-returns
 returns c = (
-  tt,
+  nothing-done _,
   λ codes read agrees.
       let s = c .before .before .before .before .before .before in
       write-plain _ _ _ (sym (c .before .is-remote .ensures) ∙ c .if1 .taken) (rule s) (test s),
@@ -37,7 +37,7 @@ start c = c .before .before .before .before .before .before .before .before
 
 returns-2 : tie.Need-returns-2
 returns-2 c = (
-  tt,
+  nothing-done _,
   λ codes read agrees. write-unheld _ _ _ (c .before .holds .ensures codes read (agrees .0)) (test (start (c .before))) (c .if2 .taken),
 )
 
@@ -58,7 +58,7 @@ unfolding targetIn expressionIn
 returns-3 c =
     let r = c .before .before .before in
     let is = r .rule .given .1 in (
-      rw (c .write-reading .ensures, is) (done-writes _ _),
+      rw is (record { value = _; is = c .write-reading .ensures }),
       λ codes read agrees.
           let e = r .before .before .before in
           let s = start (e .before) in
@@ -80,7 +80,7 @@ returns-4 c =
 returns-5 : tie.Need-returns-5
 unfolding isRemote targetIn
 returns-5 c = (
-  tt,
+  nothing-done _,
   λ codes read agrees.
       let s = start (c .before .before .before .before) in
       write-plain _ _ _ (rw (c .enum-told .given .1)) (rule s) (test s),

@@ -8,29 +8,23 @@ use borrow.Author.Needs.{needs}
 use Rattle.step_plain.proofs.send.Statement.{statement}
 use Rattle.step_plain.proofs.send.Tie as tie
 
-returns : tie.Need-returns
+-- in the order of the code: no target, no amount, and both
+pub send-spec : {M : Type 1} → statement M
 unfolding sentTo messagesIn
-returns c = (
-  tt,
-  λ codes read agrees. both-first _ _ _ (sym (c .before .before .found-at .ensures ∙ agrees .0) ∙ c .enum-told .given .1),
-)
-
-returns-2 : tie.Need-returns-2
-unfolding sentTo messagesIn
-returns-2 c = (
-  tt,
-  λ codes read agrees. both-second _ _ _ (sym (c .before .before .term-value .ensures codes read (agrees .1)) ∙ c .enum-told2 .given .1),
-)
-
-index-requires : tie.Need-index-requires
-index-requires c κs =
+send-spec =
+    tie.close
+    (tie.spec (λ c κs. search needs) (λ c. search needs) (λ c. search needs)
+    (λ c. (tt, λ codes read agrees. both-first _ _ _ (sym (c .before .before .found-at .ensures ∙ agrees .0) ∙ c .enum-told .given .1)))
+    (λ c κs. search needs) (λ c. search needs) (λ c. search needs)
+    (λ c. (
+      tt,
+      λ codes read agrees. both-second _ _ _ (sym (c .before .before .term-value .ensures codes read (agrees .1)) ∙ c .enum-told2 .given .1),
+    ))
+    (λ c κs.
     let k = c .before .before .before .before in
     let x = k .before .before .before in
-    named (sym (x .found-at .ensures) ∙ k .before .to .given .1) (k .known-told .given .0 .1) (x .before .before .before .before .pre .1)
-
-returns-3 : tie.Need-returns-3
-unfolding sentTo messagesIn
-returns-3 c =
+    named (sym (x .found-at .ensures) ∙ k .before .to .given .1) (k .known-told .given .0 .1) (x .before .before .before .before .pre .1))
+    (λ c.
     let l = c .before in
     let y = l .before .before .before in
     let m = y .before in
@@ -40,10 +34,4 @@ returns-3 c =
       λ codes read agrees.
           let amount = sym (y .term-value .ensures codes read (agrees .1)) ∙ l .before .amount .given .1 in
           rw (c .index .ensures) (both-values _ _ (sym (agrees .0) ∙ found) amount fits (l .known-told2 .given .0 .1)),
-    )
-
-pub send-spec : {M : Type 1} → statement M
-send-spec =
-    tie.close
-    (tie.spec (λ c κs. search needs) (λ c. search needs) (λ c. search needs) returns (λ c κs. search needs) (λ c. search needs) (λ c. search needs) returns-2
-    index-requires returns-3)
+    )))

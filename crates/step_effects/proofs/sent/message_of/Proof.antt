@@ -79,7 +79,7 @@ returns-4 c =
     let is = x .before .before .before .rule .given .1 in
     let fits = k .known-told2 .given .0 .1 in
     let found = sym (x .found-at .ensures) ∙ k .before .to .given .1 in (
-      (rw is, named-within found fits (c .index .ensures)),
+      (rw is, λ n w. named-within found fits (c .index .ensures) n (rw is at w)),
       λ read agrees in-range.
           let to = sym ((rw is at (agrees .1)) .0) ∙ found in
           let (amount, sent) = sent-one _ _ _ is (e .effect .ensures read agrees) in-range (l .before .value .given .1) in

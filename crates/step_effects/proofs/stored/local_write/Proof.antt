@@ -2,14 +2,14 @@
 -- Assumes nothing.
 use mathlib.Core.Path.{ap, _∙_}
 use Rattle.step_effects.specs.Answers.{doneBy}
-use Rattle.step_effects.proofs.Answering.{done-writes, effect-written}
+use Rattle.step_effects.proofs.Answering.{effect-written}
 use borrow.Author.Needs.{needs}
 use Rattle.step_effects.proofs.stored.local_write.Statement.{statement}
 use Rattle.step_effects.proofs.stored.local_write.Tie as tie
 
 returns : tie.Need-returns
 returns c = (
-  rw (c .write-value .ensures) (done-writes _ _),
+  record { value = _; is = c .write-value .ensures },
   λ read agrees. c .write-value .ensures ∙ ap (doneBy _) (c .before .effect .ensures read agrees) ∙ effect-written _ _ _,
 )
 
