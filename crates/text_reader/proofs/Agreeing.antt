@@ -1,8 +1,7 @@
 -- Codes in which more is written behind those so far: the rules of these codes stay as they are.
 use Prim.Native.Nat.{ℕ, _≤_}
-use mathlib.Core.Path.{_≡_, refl, sym, ap₂}
+use mathlib.Core.Path.{_≡_, refl, ap₂}
 use mathlib.Core.List.{List, [], _∷_}
-use native.Mathlib.Omega.{arith}
 use lib.ListN.{length, take, drop}
 use Rattle.laws.specs.Lists.{Each}
 use Rattle.program.specs.declared.term.Term.{Term}

@@ -1,6 +1,6 @@
 -- Codes whose chains are located one behind the other, and their words.
 use Prim.Native.Nat.{ℕ, suc, _+_, _-_, _≤_, _<_}
-use mathlib.Core.Path.{_≡_, refl, sym, ap, subst, _∙_}
+use mathlib.Core.Path.{_≡_, refl, sym, ap, _∙_}
 use mathlib.Core.Logic.{_≢_, ⊎-elim}
 use mathlib.Core.Bool.{Bool, true, false, cond}
 use mathlib.Core.List.{List, [], _∷_, _++_}
@@ -15,9 +15,9 @@ use Rattle.laws.proofs.Lists.{each-of}
 use Rattle.chain.specs.Word.{unpack}
 use Rattle.program.specs.declared.location.Location.{Location}
 use Rattle.program.specs.declared.rule.Operator.the-variants.{Plus, Minus, Smaller}
-use Rattle.program.specs.Code.{Code, number, operator, unknown, codeReadings, kindIn, chainIn, numberIn, ofKind, codeOf, codeAt, codesFrom, codesIn, withLocation, Numbered, IfChain, EachChain}
-use Rattle.program.proofs.Codes.{readings-append, codes-first, codes-none, codes-more, codes-agree, chain-at, chain-listed, located-kind, located-chain, located-at, located-code}
-use Rattle.text_readings.specs.Readings.{codeWords, Short, Lines, NotFull, Growing, WordPlaced, Grown, ReadingAdded, Walked}
+use Rattle.program.specs.Code.{Code, number, operator, unknown, codeReadings, kindIn, chainIn, numberIn, ofKind, codeOf, codeAt, codesFrom, withLocation, IfChain, EachChain}
+use Rattle.program.proofs.Codes.{readings-append, codes-first, codes-none, codes-more, codes-agree, chain-at, chain-listed, located-chain, located-at, located-code}
+use Rattle.text_readings.specs.Readings.{codeWords, Short, Lines, NotFull, Growing, WordPlaced, ReadingAdded, Walked}
 use Rattle.text_readings.proofs.Plans.{grown-none, grown-both}
 
 -- no reading, and one walk behind another

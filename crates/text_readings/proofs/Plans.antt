@@ -24,7 +24,7 @@ use Rattle.program.specs.declared.location.Location.{Location}
 use Rattle.program.specs.declared.location.Location.the-variants.{Own, Cell, Line}
 use Rattle.program.specs.Location.{locationOf, Wants}
 use Rattle.program.proofs.Locations.{location-line}
-use Rattle.text_readings.specs.Readings.{Lines, NotFull, Growing, isListed, WordPlaced, Grown, ReadingAdded}
+use Rattle.text_readings.specs.Readings.{Lines, Growing, isListed, WordPlaced, Grown, ReadingAdded}
 
 -- no reading more, and one behind another
 pub grown-none : {a : Lines} → Growing a → Grown [] a a
