@@ -1,6 +1,6 @@
 -- Rules whose readings are placed in the plan of their step: they stay so where it grows, and they are located in it.
-use Prim.Native.Nat.{ℕ, _≤_, _<_}
-use mathlib.Core.Path.{_≡_, ap}
+use Prim.Native.Nat.{ℕ, _<_}
+use mathlib.Core.Path.{ap}
 use mathlib.Core.List.{List, _++_}
 use native.Mathlib.Omega.{arith}
 use lib.ListN.{length, getD}
@@ -22,7 +22,7 @@ use Rattle.program.specs.Location.{TermLocated, TestLocated, RuleLocated, Locat
 use Rattle.program.specs.Terms.{TestTerms, RuleTerms, SlotTerms, TermInside, TermFormed, TermPlaced, TestPlaced, RulePlaced, SlotPlaced}
 use Rattle.text_readings.specs.Readings.{Lines, NotFull, WordPlaced, Walked}
 use Rattle.text_readings.proofs.Codes.{walked-both, walked-as}
-use Rattle.text_plan.specs.Walked.{termWords, testWords, ruleWords, TermWalked, TermsWalked, TestWalked, RuleWalked, SlotWalked}
+use Rattle.text_plan.specs.Walked.{termWords, testWords, TermWalked, TermsWalked, TestWalked, RuleWalked, SlotWalked}
 use Rattle.text_plan.proofs.Words.{term-words-same, rule-words-same}
 
 -- what holds of each chain of a rule and of where it is found, from what held of it: of the chains of a tree, in other codes

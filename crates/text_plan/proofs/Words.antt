@@ -1,7 +1,7 @@
 -- The words of a rule in the array: they are those of the codes, wherever their chains are found, and the readings of the rule.
 use Prim.Native.Nat.{ℕ}
 use mathlib.Core.Path.{_≡_, refl, ap, ap₂, _∙_}
-use mathlib.Core.List.{List, [], _∷_, _++_}
+use mathlib.Core.List.{List, _∷_, _++_}
 use Rattle.chain.specs.Word.{unpack}
 use Rattle.program.specs.Code.{decoded, codeReadings, codeAt, codesIn, treeIn}
 use Rattle.program.proofs.Codes.{postfix-readings}

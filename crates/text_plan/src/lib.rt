@@ -4,7 +4,7 @@
 ghost use mathlib.Core.List.{_++_};
 ghost use lib.ListN.{length};
 ghost use Rattle.program.specs.Terms.{TermInside, TestTerms, RuleTerms, SlotTerms};
-ghost use Rattle.text_readings.specs.Readings.{Short, linesOf, Growing};
+ghost use Rattle.text_readings.specs.Readings.{Short, openLines, Growing};
 ghost use Rattle.text_plan.specs.Walked.{termWords, testWords, ruleWords, slotWords, TermWalked, TermsWalked, TestWalked, RuleWalked, SlotWalked};
 
 pub mod store;
@@ -28,11 +28,11 @@ fn walk_term(
     codes: &mut [u64],
     term: Term,
 ) -> Location
-    requires { ⌜ Growing (linesOf (now keys) (now rounds) (now backs) (now reads) (now count) (now wanted))
+    requires { ⌜ Growing (openLines (now keys) (now rounds) (now backs) (now reads) (now count) (now wanted))
         × Short (termWords (now codes) term) × TermInside (length (now codes)) term ⌝ }
     ensures { λ r. ⌜ TermWalked
-        (linesOf (now (keys .entry)) (now (rounds .entry)) (now (backs .entry)) (now (reads .entry)) (now (count .entry)) (now (wanted .entry))) (now (codes .entry))
-        (linesOf (now (keys .exit)) (now (rounds .exit)) (now (backs .exit)) (now (reads .exit)) (now (count .exit)) (now (wanted .exit))) (now (codes .exit)) r term ⌝ }
+        (openLines (now (keys .entry)) (now (rounds .entry)) (now (backs .entry)) (now (reads .entry)) (now (count .entry)) (now (wanted .entry))) (now (codes .entry))
+        (openLines (now (keys .exit)) (now (rounds .exit)) (now (backs .exit)) (now (reads .exit)) (now (count .exit)) (now (wanted .exit))) (now (codes .exit)) r term ⌝ }
 {
     match term {
         Term::Chain(chain) => {
@@ -57,11 +57,11 @@ fn walk_terms(
     x: Term,
     y: Term,
 ) -> Places
-    requires { ⌜ Growing (linesOf (now keys) (now rounds) (now backs) (now reads) (now count) (now wanted))
+    requires { ⌜ Growing (openLines (now keys) (now rounds) (now backs) (now reads) (now count) (now wanted))
         × Short (termWords (now codes) x ++ termWords (now codes) y) × TermInside (length (now codes)) x × TermInside (length (now codes)) y ⌝ }
     ensures { λ r. ⌜ TermsWalked
-        (linesOf (now (keys .entry)) (now (rounds .entry)) (now (backs .entry)) (now (reads .entry)) (now (count .entry)) (now (wanted .entry))) (now (codes .entry))
-        (linesOf (now (keys .exit)) (now (rounds .exit)) (now (backs .exit)) (now (reads .exit)) (now (count .exit)) (now (wanted .exit))) (now (codes .exit)) r x y ⌝ }
+        (openLines (now (keys .entry)) (now (rounds .entry)) (now (backs .entry)) (now (reads .entry)) (now (count .entry)) (now (wanted .entry))) (now (codes .entry))
+        (openLines (now (keys .exit)) (now (rounds .exit)) (now (backs .exit)) (now (reads .exit)) (now (count .exit)) (now (wanted .exit))) (now (codes .exit)) r x y ⌝ }
 {
     Places {
         first: walk_term(keys, rounds, backs, reads, count, wanted, codes, x),
@@ -79,11 +79,11 @@ fn walk_test(
     codes: &mut [u64],
     test: Test,
 ) -> Places
-    requires { ⌜ Growing (linesOf (now keys) (now rounds) (now backs) (now reads) (now count) (now wanted))
+    requires { ⌜ Growing (openLines (now keys) (now rounds) (now backs) (now reads) (now count) (now wanted))
         × Short (testWords (now codes) test) × TestTerms (TermInside (length (now codes))) test ⌝ }
     ensures { λ r. ⌜ TestWalked
-        (linesOf (now (keys .entry)) (now (rounds .entry)) (now (backs .entry)) (now (reads .entry)) (now (count .entry)) (now (wanted .entry))) (now (codes .entry))
-        (linesOf (now (keys .exit)) (now (rounds .exit)) (now (backs .exit)) (now (reads .exit)) (now (count .exit)) (now (wanted .exit))) (now (codes .exit)) r test ⌝ }
+        (openLines (now (keys .entry)) (now (rounds .entry)) (now (backs .entry)) (now (reads .entry)) (now (count .entry)) (now (wanted .entry))) (now (codes .entry))
+        (openLines (now (keys .exit)) (now (rounds .exit)) (now (backs .exit)) (now (reads .exit)) (now (count .exit)) (now (wanted .exit))) (now (codes .exit)) r test ⌝ }
 {
     match test {
         Test::Always => Places {
@@ -104,11 +104,11 @@ fn walk_rule(
     codes: &mut [u64],
     rule: Rule,
 ) -> Places
-    requires { ⌜ Growing (linesOf (now keys) (now rounds) (now backs) (now reads) (now count) (now wanted))
+    requires { ⌜ Growing (openLines (now keys) (now rounds) (now backs) (now reads) (now count) (now wanted))
         × Short (ruleWords (now codes) rule) × RuleTerms (TermInside (length (now codes))) rule ⌝ }
     ensures { λ r. ⌜ RuleWalked
-        (linesOf (now (keys .entry)) (now (rounds .entry)) (now (backs .entry)) (now (reads .entry)) (now (count .entry)) (now (wanted .entry))) (now (codes .entry))
-        (linesOf (now (keys .exit)) (now (rounds .exit)) (now (backs .exit)) (now (reads .exit)) (now (count .exit)) (now (wanted .exit))) (now (codes .exit)) r rule ⌝ }
+        (openLines (now (keys .entry)) (now (rounds .entry)) (now (backs .entry)) (now (reads .entry)) (now (count .entry)) (now (wanted .entry))) (now (codes .entry))
+        (openLines (now (keys .exit)) (now (rounds .exit)) (now (backs .exit)) (now (reads .exit)) (now (count .exit)) (now (wanted .exit))) (now (codes .exit)) r rule ⌝ }
 {
     match rule {
         Rule::Set(_, x) => Places {
@@ -153,11 +153,11 @@ fn plan_rule(
     codes: &mut [u64],
     slot: Slot,
 ) -> Locations
-    requires { ⌜ Growing (linesOf (now keys) (now rounds) (now backs) (now reads) (now count) (now wanted))
+    requires { ⌜ Growing (openLines (now keys) (now rounds) (now backs) (now reads) (now count) (now wanted))
         × Short (slotWords (now codes) slot) × SlotTerms (TermInside (length (now codes))) slot ⌝ }
     ensures { λ r. ⌜ SlotWalked
-        (linesOf (now (keys .entry)) (now (rounds .entry)) (now (backs .entry)) (now (reads .entry)) (now (count .entry)) (now (wanted .entry))) (now (codes .entry))
-        (linesOf (now (keys .exit)) (now (rounds .exit)) (now (backs .exit)) (now (reads .exit)) (now (count .exit)) (now (wanted .exit))) (now (codes .exit)) r slot ⌝ }
+        (openLines (now (keys .entry)) (now (rounds .entry)) (now (backs .entry)) (now (reads .entry)) (now (count .entry)) (now (wanted .entry))) (now (codes .entry))
+        (openLines (now (keys .exit)) (now (rounds .exit)) (now (backs .exit)) (now (reads .exit)) (now (count .exit)) (now (wanted .exit))) (now (codes .exit)) r slot ⌝ }
 {
     let test = slot.test;
     let rule = slot.rule;

@@ -3,7 +3,7 @@ ghost use mathlib.Core.Path.{_≡_};
 ghost use mathlib.Core.List.{[]};
 ghost use Prim.Native.Nat.{_≤_};
 ghost use Rattle.plan_lines.specs.Held.{HoldsLines, planOf};
-ghost use Rattle.text_readings.specs.Readings.{linesOf, Growing};
+ghost use Rattle.text_readings.specs.Readings.{openLines, Growing};
 ghost use Rattle.text_plan.specs.Store.{emptySlot, LineFits, LinePlanned};
 use crate::plan_rule;
 use plan_lines::Plan;
@@ -74,11 +74,11 @@ pub fn plan_line(
     state: State,
     read: LineRead,
 ) -> Store
-    requires { ⌜ Growing (linesOf (now keys) (now rounds) (now backs) (now reads) (now count) (now wanted))
+    requires { ⌜ Growing (openLines (now keys) (now rounds) (now backs) (now reads) (now count) (now wanted))
         × (state .steps ≤ 32) × (state .tally .rules ≤ 32) × LineFits (now codes) state read ⌝ }
     ensures { λ r. ⌜ LinePlanned state
-        (linesOf (now (keys .entry)) (now (rounds .entry)) (now (backs .entry)) (now (reads .entry)) (now (count .entry)) (now (wanted .entry))) (now (codes .entry))
-        (linesOf (now (keys .exit)) (now (rounds .exit)) (now (backs .exit)) (now (reads .exit)) (now (count .exit)) (now (wanted .exit))) (now (codes .exit)) read r ⌝ }
+        (openLines (now (keys .entry)) (now (rounds .entry)) (now (backs .entry)) (now (reads .entry)) (now (count .entry)) (now (wanted .entry))) (now (codes .entry))
+        (openLines (now (keys .exit)) (now (rounds .exit)) (now (backs .exit)) (now (reads .exit)) (now (count .exit)) (now (wanted .exit))) (now (codes .exit)) read r ⌝ }
 {
     match read {
         LineRead::Rule(slot, _) => {

@@ -1,8 +1,7 @@
 -- Codes in which more is written behind those so far: the rules of these codes stay as they are.
 use Prim.Native.Nat.{ℕ, _≤_}
-use mathlib.Core.Path.{_≡_, refl, sym, ap₂}
+use mathlib.Core.Path.{_≡_, refl, ap₂}
 use mathlib.Core.List.{List, [], _∷_}
-use native.Mathlib.Omega.{arith}
 use lib.ListN.{length, take, drop}
 use Rattle.laws.specs.Lists.{Each}
 use Rattle.program.specs.declared.term.Term.{Term}
@@ -61,7 +60,7 @@ module _ (codes codes′ : List ℕ) {n : ℕ} (same : SameBelow codes codes′ 
   pub each-placed : (Q : Location → List ℕ → Type 0) (ys : List Located) → Each (SlotKept codes n) ys
       → Each (SlotPlaced Q codes) ys → Each (SlotPlaced Q codes′) ys
   each-placed Q ys p h =
-      each-both _ _ _ (λ y k. slot-changed codes codes′ n (λ at w q. q) (λ i l q. rw (← same i l) q) y (slot-inside codes n (y .slot) k)) ys p h
+      each-both _ _ _ (λ y k. slot-changed {P = Q} {Q = Q} codes codes′ n (λ at w q. q) (λ i l q. rw (← same i l) q) y (slot-inside codes n (y .slot) k)) ys p h
 
   pub all-placed : (slots : List Located) (fs : List Frame) → Each (SlotKept codes n) slots → AllPlaced codes slots fs → AllPlaced codes′ slots fs
   all-placed slots [] p h = tt

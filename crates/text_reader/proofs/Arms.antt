@@ -38,7 +38,7 @@ use Rattle.text_rules.proofs.Loops.{openLoop}
 use Rattle.text_rules.proofs.Passing.{Reached}
 use Rattle.program.specs.Stored.{ruleIn, rulesIn}
 use Rattle.program.specs.Kept.{stepsIn, FrameOf, Framed}
-use Rattle.text_readings.specs.Readings.{Lines, linesOf}
+use Rattle.text_readings.specs.Readings.{Lines, openLines}
 use Rattle.text_plan.specs.Walked.{SlotWalked}
 use Rattle.text_state.specs.State.{noRules, moreRules, withRemote, withRule, frameOf, lastFrame, standing, advanceOf}
 use Rattle.text_state.specs.declared.tally.Tally.{Tally}
@@ -163,11 +163,11 @@ module _ (s : Sizes) {codes : List ℕ} {n : ℕ} {slots : List Located} {frames
     abbrev here : ℕ
     here = 32 * x .steps + x .tally .rules
 
-    pub at-rule : {b′ : Lines} {codes′ : List ℕ} {at : Locations} (z : Slot) (ch : Checks) {m : ℕ} → ruleIn codes z ≡ ruleOf u act
+    pub at-rule : {b′ : Lines} {codes′ : List ℕ} (z : Slot) (at : Locations) (ch : Checks) {m : ℕ} → ruleIn codes z ≡ ruleOf u act
         → SlotTerms (TermFormed codes) z → SlotTerms (TermFrom n) z → SlotTerms (TermInside m) z → n ≤ m → SlotWalked a codes b′ codes′ at z
         → Behind codes′ m (set slots here (record { slot = z; at = at })) frames b′ (advanceOf x i (L.Rule z ch)) (advance st (rule u act))
     unfolding advanceOf standing advance openRules
-    at-rule {codes′ = codes′} {at} z ch {m} is formed from inside l w =
+    at-rule {codes′ = codes′} z at ch {m} is formed from inside l w =
         let y : Located = record { slot = z; at = at } in
         let old : Kept codes′ m slots frames x st = behind-same b codes′ (λ j e. sym (w .below n from j e)) l .kept in
         let front : length (take (x .steps) frames) ≡ x .steps = length-take-le (x .steps) frames (omega (arith, rule-steps, b .kept .frames-length)) in
@@ -185,7 +185,7 @@ module _ (s : Sizes) {codes : List ℕ} {n : ℕ} {slots : List Located} {frames
             terms = each-set _ slots here y (old .terms)
                 (slot-map (λ t h. (h .0, formed-alike codes codes′ (λ j e. w .same j) t (h .0) (h .1))) z (slot-both (TermInside m) (TermFormed codes) z inside formed));
           };
-          opened = rw (more, store-place slots (x .steps) (x .tally .rules) y rule-rules room, ← is) (open-rule (b .opened) z n w (open-terms b) formed);
+          opened = rw (more, store-place slots (x .steps) (x .tally .rules) y rule-rules room, ← is) (open-rule (b .opened) z at n w (open-terms b) formed);
         }
 
   -- the step is closed, with its plan
@@ -217,7 +217,7 @@ module _ (s : Sizes) {codes : List ℕ} {n : ℕ} {slots : List Located} {frames
     -- its arrays have no line yet for the next step
     pub at-end : {marks : List Bool} → length marks ≡ 64
         → let p = a .plan in
-        Behind codes n slots (set frames (x .steps) (frameOf x p (a .wanted))) (linesOf (p .keys) (p .rounds) (p .backs) (p .reads) 0 marks)
+        Behind codes n slots (set frames (x .steps) (frameOf x p (a .wanted))) (openLines (p .keys) (p .rounds) (p .backs) (p .reads) 0 marks)
         (advanceOf x i L.End) (advance st end)
     unfolding advanceOf advance openRules rulesIn noRules frameOf
     at-end l =

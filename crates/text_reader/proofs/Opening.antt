@@ -53,8 +53,8 @@ readings-more (q ∷ rs) r = ap (λ (ws : List (List ℕ)). ruleReadings q ++ ws
 -- before the first rule
 pub open-none : {codes : List ℕ} {a : Lines} → HoldsLines (a .plan) [] → length (a .wanted) ≡ 64 → OpenStep codes [] [] a
 unfolding stepPlan readings plan addReadings
-open-none h l = record {
-  planned = record { full-is = le-ltb 64 _ (omega (arith, holds-count h)); holds = λ k. h };
+open-none {a = a} h l = record {
+  planned = record { full-is = le-ltb 64 (a .plan .count) (omega (arith, holds-count h)); holds = λ k. h };
   growing = record { holds = λ k. holds-facts h; marks = l };
   placed = λ k. tt;
 }
@@ -72,10 +72,10 @@ module _ {codes : List ℕ} {rs : List Rule} {slots : List Located} {a : Lines} 
   }
 
   -- one rule more, placed in the plan that has its readings
-  pub open-rule : {b : Lines} {codes′ : List ℕ} (x : Slot) {at : Locations} (n : ℕ) → SlotWalked a codes b codes′ at x → Each (SlotKept codes n) slots
+  pub open-rule : {b : Lines} {codes′ : List ℕ} (x : Slot) (at : Locations) (n : ℕ) → SlotWalked a codes b codes′ at x → Each (SlotKept codes n) slots
       → SlotTerms (TermFormed codes) x → OpenStep codes′ (rs ++ (ruleIn codes x ∷ [])) (slots ++ (record { slot = x; at = at } ∷ [])) b
   unfolding stepPlan
-  open-rule x {at} n w s f =
+  open-rule x at n w s f =
       let words : readings rs ++ slotWords codes x ≡ readings (rs ++ (ruleIn codes x ∷ [])) =
       ap (λ (ws : List (List ℕ)). readings rs ++ ws) (slot-words codes x f) ∙ sym (readings-more rs (ruleIn codes x)) in
       record {

@@ -37,7 +37,7 @@ use Rattle.program.specs.declared.location.Located.{Located}
 use Rattle.program.specs.declared.location.Locations.{Locations}
 use Rattle.program.specs.Code.{SameBelow}
 use Rattle.program.specs.Terms.{SlotTerms, TermInside}
-use Rattle.text_readings.specs.Readings.{Short, Lines, linesOf}
+use Rattle.text_readings.specs.Readings.{Short, Lines, openLines}
 use Rattle.text_plan.specs.Walked.{slotWords, SlotWalked}
 use Rattle.text_plan.specs.Store.{emptySlot}
 use Rattle.text_plan.proofs.Words.{slot-words}
@@ -220,7 +220,7 @@ module _ {s : Sizes} (lim : Limits s) {t : List ℕ} {a : Lines} {codes : List �
 
       pub arm-end : {marks : List Bool} → length marks ≡ 64
           → let o = a .plan in
-          Behind b (r .used) slots (set frames (x .steps) (frameOf x o (a .wanted))) (linesOf (o .keys) (o .rounds) (o .backs) (o .reads) 0 marks)
+          Behind b (r .used) slots (set frames (x .steps) (frameOf x o (a .wanted))) (openLines (o .keys) (o .rounds) (o .backs) (o .reads) 0 marks)
           (advanceOf x m (r .line)) (advance (q .state) (p .form))
       arm-end l =
           rw (e, end-form (p .reads) e)
@@ -255,12 +255,12 @@ module _ {s : Sizes} (lim : Limits s) {t : List ℕ} {a : Lines} {codes : List �
         slot-map (inside-more (omega (arith, p .few-codes, p .inside, e))) y (written .inside),
       )
 
-      pub arm-rule : {a′ : Lines} {codes′ : List ℕ} {at′ : Locations} → SlotWalked a b a′ codes′ at′ y
+      pub arm-rule : {a′ : Lines} {codes′ : List ℕ} (at′ : Locations) → SlotWalked a b a′ codes′ at′ y
           → Behind codes′ (r .used) (set slots (32 * x .steps + x .tally .rules) (record { slot = y; at = at′ })) frames a′
           (advanceOf x m (r .line)) (advance (q .state) (p .form))
-      arm-rule w =
+      arm-rule at′ w =
           rw (e, written .line-is)
-          (at-rule s (q .reached) (q .stands) same m (written .clean) y ch (written .rule-is) (written .formed) (written .behind) (written .inside) (p .more-codes) w)
+          (at-rule s (q .reached) (q .stands) same m (written .clean) y at′ ch (written .rule-is) (written .formed) (written .behind) (written .inside) (p .more-codes) w)
 
     -- the count of the open step's plan, which its `end` asks for
     pub end-lines : p .form ≡ end → a .plan .count ≡ length (stepPlan (openRules (q .state)))

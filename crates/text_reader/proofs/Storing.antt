@@ -1,5 +1,5 @@
 -- What is stored of a line that has passed, and the reader's arrays behind it.
-use Prim.Native.Nat.{ℕ, _-_, _≤_, _<_}
+use Prim.Native.Nat.{ℕ, _+_, _-_, _*_, _≤_, _<_}
 use mathlib.Core.Path.{_≡_, refl, sym, ap, _∙_}
 use mathlib.Core.Bool.{Bool}
 use mathlib.Core.List.{List}
@@ -13,7 +13,7 @@ use Rattle.text_rules.specs.declared.line.LineRead.{LineRead}
 use Rattle.text_rules.specs.declared.line.LineRead.the-variants as L
 use Rattle.text_rules.specs.Text.{advance}
 use Rattle.text_lines.specs.declared.line.LineParts.{LineParts}
-use Rattle.text_readings.specs.Readings.{Lines, linesOf}
+use Rattle.text_readings.specs.Readings.{Lines, openLines}
 use Rattle.text_plan.specs.Store.{LineFits, LineLeaves, LinePlanned}
 use Rattle.text_plan.specs.declared.store.Store.{Store}
 use Rattle.text_plan.specs.declared.store.Store.the-variants as W
@@ -64,37 +64,39 @@ module _ {s : Sizes} (lim : Limits s) {t : List ℕ} {a : Lines} {codes : List �
         go (L.Rule z c) e h =
             let place : j ≡ 32 * x .steps + x .tally .rules = cc (is, h .stores) in
             let rule : y ≡ record { slot = z; at = h .at } = cc (is, h .stores) in
-            (omega (arith, place, arm-steps lim p m e, arm-rules lim p m e), rw (place, rule) (arm-rule lim p m e (h .walked)))
+            (omega (arith, place, arm-steps lim p m e, arm-rules lim p m e), rw (place, rule) (arm-rule lim p m e (h .at) (h .walked)))
         go L.NoForm e h = other (sym is ∙ h .stores) (λ z. omega arith)
 
     -- the frame of a step that is closed, ..
-    pub behind-close : {j : ℕ} {marks : List Bool} → v ≡ W.Close j → length marks ≡ 64
-        → let o = a′ .plan in
-        (j < 32) × Goes codes′ slots (set frames j (frameOf x o (a′ .wanted))) (linesOf (o .keys) (o .rounds) (o .backs) (o .reads) 0 marks)
-    behind-close {j} {marks} is l = go (r .line) refl (h .leaves)
+    abbrev Closed : ℕ → Type 0
+    Closed j =
+        let o = a′ .plan in
+        (marks : List Bool) → length marks ≡ 64
+        → Goes codes′ slots (set frames j (frameOf x o (a′ .wanted))) (openLines (o .keys) (o .rounds) (o .backs) (o .reads) 0 marks)
+
+    pub behind-close : {j : ℕ} → v ≡ W.Close j → (j < 32) × Closed j
+    behind-close {j} is = go (r .line) refl (h .leaves)
       where
-        go : (o : LineRead) → r .line ≡ o → LineLeaves x a b a′ codes′ o v
-            → let o = a′ .plan in
-            (j < 32) × Goes codes′ slots (set frames j (frameOf x o (a′ .wanted))) (linesOf (o .keys) (o .rounds) (o .backs) (o .reads) 0 marks)
+        go : (o : LineRead) → r .line ≡ o → LineLeaves x a b a′ codes′ o v → (j < 32) × Closed j
         go L.Step e h = other (sym is ∙ h .stores) (λ z. omega arith)
         go L.End e h =
             let place : j ≡ x .steps = cc (is, h .stores) in
-            (omega (arith, place, arm-end-steps lim p m e), rw (place, h .same-lines, h .same-codes) (arm-end lim p m e l))
+            (omega (arith, place, arm-end-steps lim p m e), λ marks l. rw (place, h .same-lines, h .same-codes) (arm-end lim p m e l))
         go L.Done e h = other (sym is ∙ h .stores) (λ z. omega arith)
         go (L.Loop f named) e h = other (sym is ∙ h .stores) (λ z. omega arith)
         go (L.Rule y c) e h = other (sym is ∙ h .stores) (λ z. omega arith)
         go L.NoForm e h = other (sym is ∙ h .stores) (λ z. omega arith)
 
     -- .. and of the last step of a loop
-    pub behind-last : {j : ℕ} → v ≡ W.Last j → (d : Frame) → (j < 32) × Goes codes′ slots (set frames j (lastFrame (getD frames j d))) a′
-    behind-last {j} is d = go (r .line) refl (h .leaves)
+    pub behind-last : {j : ℕ} → v ≡ W.Last j → (j < 32) × ((d : Frame) → Goes codes′ slots (set frames j (lastFrame (getD frames j d))) a′)
+    behind-last {j} is = go (r .line) refl (h .leaves)
       where
-        go : (o : LineRead) → r .line ≡ o → LineLeaves x a b a′ codes′ o v → (j < 32) × Goes codes′ slots (set frames j (lastFrame (getD frames j d))) a′
+        go : (o : LineRead) → r .line ≡ o → LineLeaves x a b a′ codes′ o v → (j < 32) × ((d : Frame) → Goes codes′ slots (set frames j (lastFrame (getD frames j d))) a′)
         go L.Step e h = other (sym is ∙ h .stores) (λ z. omega arith)
         go L.End e h = other (sym is ∙ h .stores) (λ z. omega arith)
         go L.Done e h =
             let place : j ≡ x .steps - 1 = cc (is, h .stores) in
-            (omega (arith, place, arm-done-steps lim p m e, small q .0), rw (place, h .same-lines, h .same-codes) (arm-done lim p m e d))
+            (omega (arith, place, arm-done-steps lim p m e, small q .0), λ d. rw (place, h .same-lines, h .same-codes) (arm-done lim p m e d))
         go (L.Loop f named) e h = other (sym is ∙ h .stores) (λ z. omega arith)
         go (L.Rule y c) e h = other (sym is ∙ h .stores) (λ z. omega arith)
         go L.NoForm e h = other (sym is ∙ h .stores) (λ z. omega arith)

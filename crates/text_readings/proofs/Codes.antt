@@ -1,6 +1,6 @@
 -- Codes whose chains are located one behind the other, and their words.
 use Prim.Native.Nat.{ℕ, suc, _+_, _-_, _≤_, _<_}
-use mathlib.Core.Path.{_≡_, refl, sym, ap, subst, _∙_}
+use mathlib.Core.Path.{_≡_, refl, sym, ap, _∙_}
 use mathlib.Core.Logic.{_≢_, ⊎-elim}
 use mathlib.Core.Bool.{Bool, true, false, cond}
 use mathlib.Core.List.{List, [], _∷_, _++_}
@@ -15,9 +15,9 @@ use Rattle.laws.proofs.Lists.{each-of}
 use Rattle.chain.specs.Word.{unpack}
 use Rattle.program.specs.declared.location.Location.{Location}
 use Rattle.program.specs.declared.rule.Operator.the-variants.{Plus, Minus, Smaller}
-use Rattle.program.specs.Code.{Code, number, operator, unknown, codeReadings, kindIn, chainIn, numberIn, ofKind, codeOf, codeAt, codesFrom, codesIn, withLocation, Numbered, IfChain, EachChain}
-use Rattle.program.proofs.Codes.{readings-append, codes-first, codes-none, codes-more, codes-agree, chain-at, chain-listed, located-kind, located-chain, located-at, located-code}
-use Rattle.text_readings.specs.Readings.{codeWords, Short, Lines, NotFull, Growing, WordPlaced, Grown, Added, Walked}
+use Rattle.program.specs.Code.{Code, number, operator, unknown, codeReadings, kindIn, chainIn, numberIn, ofKind, codeOf, codeAt, codesFrom, withLocation, IfChain, EachChain}
+use Rattle.program.proofs.Codes.{readings-append, codes-first, codes-none, codes-more, codes-agree, chain-at, chain-listed, located-chain, located-at, located-code}
+use Rattle.text_readings.specs.Readings.{codeWords, Short, Lines, NotFull, Growing, WordPlaced, ReadingAdded, Walked}
 use Rattle.text_readings.proofs.Plans.{grown-none, grown-both}
 
 -- no reading, and one walk behind another
@@ -58,7 +58,7 @@ walked-as e from found h = record {
 
 -- a chain alone leaves the codes as they are
 pub walked-chain : {w : List ℕ} {From : ℕ → Type 0} {Found : Lines → List ℕ → Type 0} {a b : Lines} {at : Location} (codes : List ℕ)
-    → Added w a b at → ((x : Lines) → WordPlaced x at w → Found x codes) → Walked (w ∷ []) From Found a codes b codes
+    → ReadingAdded w a b at → ((x : Lines) → WordPlaced x at w → Found x codes) → Walked (w ∷ []) From Found a codes b codes
 walked-chain {b = b} codes h f = record {
   grown = h .grown;
   same = λ i. refl;
@@ -118,7 +118,7 @@ short-chain codes from to at f t h e = each-of _ h (chain-listed codes from to a
 
 -- the code of a chain that is added
 module _ {a b : Lines} (codes : List ℕ) (i : ℕ) (inside : i < length codes) (chain : kindIn (getD codes i 0) ≡ 0) {x : Location}
-    (h : Added (unpack (chainIn (getD codes i 0))) a b x) where
+    (h : ReadingAdded (unpack (chainIn (getD codes i 0))) a b x) where
   abbrev c : ℕ
   c = getD codes i 0
 

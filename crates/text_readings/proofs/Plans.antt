@@ -24,7 +24,7 @@ use Rattle.program.specs.declared.location.Location.{Location}
 use Rattle.program.specs.declared.location.Location.the-variants.{Own, Cell, Line}
 use Rattle.program.specs.Location.{locationOf, Wants}
 use Rattle.program.proofs.Locations.{location-line}
-use Rattle.text_readings.specs.Readings.{Lines, NotFull, Growing, isListed, WordPlaced, Grown, Added}
+use Rattle.text_readings.specs.Readings.{Lines, Growing, isListed, WordPlaced, Grown, ReadingAdded}
 
 -- no reading more, and one behind another
 pub grown-none : {a : Lines} → Growing a → Grown [] a a
@@ -57,7 +57,7 @@ grown-short w g h = record {
 
 -- a reading of no hop, and of one
 module _ {a : Lines} (g : Growing a) (n : ℕ) where
-  pub added-own : n ≡ 0 → Added (unpack n) a a Own
+  pub added-own : n ≡ 0 → ReadingAdded (unpack n) a a Own
   unfolding isListed locationOf
   added-own h = rw (h, unpack-none) (record {
     grown = grown-short [] g (omega arith);
@@ -65,7 +65,7 @@ module _ {a : Lines} (g : Growing a) (n : ℕ) where
     numbered = tt;
   })
 
-  pub added-cell : n ≢ 0 → n ≤ 16 → Added (unpack n) a a (Cell (n - 1))
+  pub added-cell : n ≢ 0 → n ≤ 16 → ReadingAdded (unpack n) a a (Cell (n - 1))
   unfolding isListed locationOf
   added-cell p h = rw (unpack-last n (omega arith) h) (record {
     grown = grown-short ((n - 1) ∷ []) g (omega arith);
@@ -74,7 +74,7 @@ module _ {a : Lines} (g : Growing a) (n : ℕ) where
   })
 
   -- of any other, where the plan is full
-  pub added-full : 64 < a .plan .count → Added (unpack n) a a Own
+  pub added-full : 64 < a .plan .count → ReadingAdded (unpack n) a a Own
   added-full h = record { grown = grown-full (unpack n ∷ []) g h; found = λ f. absurd (omega arith); numbered = tt }
 
 -- lines that are listed are so where there are more, at the same locations
@@ -108,7 +108,7 @@ wants-more wanted i (Line k) h = go (ℕ-discrete k i)
 module _ {p r : Plan} {wanted : List Bool} (w : List ℕ) (two : 2 ≤ length w) (g : Growing (record { plan = p; wanted = wanted })) (n : p .count ≤ 64)
     (e : ExtendedTo (add (facts p) (read w)) r) where
   -- there is no room
-  pub added-over : 64 < r .count → Added w (record { plan = p; wanted = wanted }) (record { plan = r; wanted = wanted }) Own
+  pub added-over : 64 < r .count → ReadingAdded w (record { plan = p; wanted = wanted }) (record { plan = r; wanted = wanted }) Own
   added-over h = record {
     grown = record {
       growing = record { holds = λ k. absurd (omega arith); marks = g .marks };
@@ -162,7 +162,7 @@ module _ {p r : Plan} {wanted : List Bool} (w : List ℕ) (two : 2 ≤ length w)
           listed = listed-more more-lines at (x .listed);
         }
 
-    pub added-line : Added w (record { plan = p; wanted = wanted }) (record { plan = r; wanted = set wanted line true }) (Line line)
+    pub added-line : ReadingAdded w (record { plan = p; wanted = wanted }) (record { plan = r; wanted = set wanted line true }) (Line line)
     unfolding isListed
     added-line = record {
       grown = record {

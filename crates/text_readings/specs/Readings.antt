@@ -27,8 +27,8 @@ pub record Lines : Type 0 where
   pub plan : Plan
   pub wanted : List Bool
 
-abbrev pub linesOf : List ℕ → List ℕ → List ℕ → List ℕ → ℕ → List Bool → Lines
-linesOf keys rounds backs reads n wanted = record { plan = planOf keys rounds backs reads n; wanted = wanted }
+abbrev pub openLines : List ℕ → List ℕ → List ℕ → List ℕ → ℕ → List Bool → Lines
+openLines keys rounds backs reads n wanted = record { plan = planOf keys rounds backs reads n; wanted = wanted }
 
 -- its number of lines is above 64 where it is full; then it has no use for them
 abbrev pub NotFull : Lines → Type 0
@@ -58,7 +58,7 @@ pub record Grown (vs : List (List ℕ)) (a b : Lines) : Type 0 where
   pub stays : NotFull b → (at : Location) (w : List ℕ) → WordPlaced a at w → WordPlaced b at w
 
 -- one reading more, which is found at a location
-pub record Added (w : List ℕ) (a b : Lines) (at : Location) : Type 0 where
+pub record ReadingAdded (w : List ℕ) (a b : Lines) (at : Location) : Type 0 where
   pub grown : Grown (w ∷ []) a b
   pub found : NotFull b → WordPlaced b at w
   pub numbered : Numbered at

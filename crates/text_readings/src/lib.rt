@@ -8,7 +8,7 @@ ghost use Rattle.chain.specs.Word.{unpack};
 ghost use Rattle.plan_theory.specs.Plan.{read, lineIndex};
 ghost use Rattle.plan_lines.specs.Held.{factsIn, Keyed};
 ghost use Rattle.program.specs.Code.{IfChain, EachChain, kindIn, chainIn};
-ghost use Rattle.text_readings.specs.Readings.{codeWords, Short, linesOf, Growing, WordPlaced, Added, Walked};
+ghost use Rattle.text_readings.specs.Readings.{codeWords, Short, openLines, Growing, WordPlaced, ReadingAdded, Walked};
 use plan_keys::key;
 use plan_lines::lines;
 use program::code;
@@ -37,10 +37,10 @@ fn add_line(
     wanted: &mut [bool; 64],
     chain: u64,
 ) -> Location
-    requires { ⌜ Growing (linesOf (now keys) (now rounds) (now backs) (now reads) (now count) (now wanted)) × (16 < chain) × (length (unpack chain) ≤ 16) ⌝ }
-    ensures { λ r. ⌜ Added (unpack chain)
-        (linesOf (now (keys .entry)) (now (rounds .entry)) (now (backs .entry)) (now (reads .entry)) (now (count .entry)) (now (wanted .entry)))
-        (linesOf (now (keys .exit)) (now (rounds .exit)) (now (backs .exit)) (now (reads .exit)) (now (count .exit)) (now (wanted .exit))) r ⌝ }
+    requires { ⌜ Growing (openLines (now keys) (now rounds) (now backs) (now reads) (now count) (now wanted)) × (16 < chain) × (length (unpack chain) ≤ 16) ⌝ }
+    ensures { λ r. ⌜ ReadingAdded (unpack chain)
+        (openLines (now (keys .entry)) (now (rounds .entry)) (now (backs .entry)) (now (reads .entry)) (now (count .entry)) (now (wanted .entry)))
+        (openLines (now (keys .exit)) (now (rounds .exit)) (now (backs .exit)) (now (reads .exit)) (now (count .exit)) (now (wanted .exit))) r ⌝ }
 {
     let before = *count;
     if 64 < before {
@@ -66,10 +66,10 @@ pub fn add_chain(
     wanted: &mut [bool; 64],
     chain: u64,
 ) -> Location
-    requires { ⌜ Growing (linesOf (now keys) (now rounds) (now backs) (now reads) (now count) (now wanted)) × (length (unpack chain) ≤ 16) ⌝ }
-    ensures { λ r. ⌜ Added (unpack chain)
-        (linesOf (now (keys .entry)) (now (rounds .entry)) (now (backs .entry)) (now (reads .entry)) (now (count .entry)) (now (wanted .entry)))
-        (linesOf (now (keys .exit)) (now (rounds .exit)) (now (backs .exit)) (now (reads .exit)) (now (count .exit)) (now (wanted .exit))) r ⌝ }
+    requires { ⌜ Growing (openLines (now keys) (now rounds) (now backs) (now reads) (now count) (now wanted)) × (length (unpack chain) ≤ 16) ⌝ }
+    ensures { λ r. ⌜ ReadingAdded (unpack chain)
+        (openLines (now (keys .entry)) (now (rounds .entry)) (now (backs .entry)) (now (reads .entry)) (now (count .entry)) (now (wanted .entry)))
+        (openLines (now (keys .exit)) (now (rounds .exit)) (now (backs .exit)) (now (reads .exit)) (now (count .exit)) (now (wanted .exit))) r ⌝ }
 {
     if chain == 0 {
         return Location::Own;
@@ -91,11 +91,11 @@ fn add_code(
     codes: &mut [u64],
     at: usize,
 )
-    requires { ⌜ Growing (linesOf (now keys) (now rounds) (now backs) (now reads) (now count) (now wanted))
+    requires { ⌜ Growing (openLines (now keys) (now rounds) (now backs) (now reads) (now count) (now wanted))
         × (kindIn (getD (now codes) at 0) ≡ 0 → length (unpack (chainIn (getD (now codes) at 0))) ≤ 16) × (at < length (now codes)) ⌝ }
     ensures { λ _. ⌜ Walked (codeWords (now (codes .entry)) at (suc at)) (λ n. n ≤ at) (λ x z. IfChain (WordPlaced x) (getD z at 0))
-        (linesOf (now (keys .entry)) (now (rounds .entry)) (now (backs .entry)) (now (reads .entry)) (now (count .entry)) (now (wanted .entry))) (now (codes .entry))
-        (linesOf (now (keys .exit)) (now (rounds .exit)) (now (backs .exit)) (now (reads .exit)) (now (count .exit)) (now (wanted .exit))) (now (codes .exit)) ⌝ }
+        (openLines (now (keys .entry)) (now (rounds .entry)) (now (backs .entry)) (now (reads .entry)) (now (count .entry)) (now (wanted .entry))) (now (codes .entry))
+        (openLines (now (keys .exit)) (now (rounds .exit)) (now (backs .exit)) (now (reads .exit)) (now (count .exit)) (now (wanted .exit))) (now (codes .exit)) ⌝ }
 {
     let code = codes[at];
     if code::kind(code) != 0 {
@@ -117,11 +117,11 @@ pub fn add_codes(
     from: u16,
     to: u16,
 )
-    requires { ⌜ Growing (linesOf (now keys) (now rounds) (now backs) (now reads) (now count) (now wanted)) × Short (codeWords (now codes) from to)
+    requires { ⌜ Growing (openLines (now keys) (now rounds) (now backs) (now reads) (now count) (now wanted)) × Short (codeWords (now codes) from to)
         × (to ≤ length (now codes)) ⌝ }
     ensures { λ _. ⌜ Walked (codeWords (now (codes .entry)) from to) (λ n. n ≤ from) (λ x z. EachChain (WordPlaced x) z from to)
-        (linesOf (now (keys .entry)) (now (rounds .entry)) (now (backs .entry)) (now (reads .entry)) (now (count .entry)) (now (wanted .entry))) (now (codes .entry))
-        (linesOf (now (keys .exit)) (now (rounds .exit)) (now (backs .exit)) (now (reads .exit)) (now (count .exit)) (now (wanted .exit))) (now (codes .exit)) ⌝ }
+        (openLines (now (keys .entry)) (now (rounds .entry)) (now (backs .entry)) (now (reads .entry)) (now (count .entry)) (now (wanted .entry))) (now (codes .entry))
+        (openLines (now (keys .exit)) (now (rounds .exit)) (now (backs .exit)) (now (reads .exit)) (now (count .exit)) (now (wanted .exit))) (now (codes .exit)) ⌝ }
 {
     let end = to as usize;
     let mut at = from as usize;

@@ -1,21 +1,19 @@
 -- `text_readings::add_codes` meets its contract. The loop's invariant: the words of the codes passed are added and located.
 -- Assumes nothing.
 use Prim.Native.Nat.{ℕ, _-_, _≤_}
-use mathlib.Core.Path.{_≡_, sym, ap, _∙_}
+use mathlib.Core.Path.{_≡_, ap}
 use native.Mathlib.Omega.{arith}
 use denote.Ref.{now}
-use lib.ListN.{length}
 use Rattle.program.specs.Code.{codeReadings, codesFrom, EachChain}
-use Rattle.text_readings.specs.Readings.{codeWords, linesOf, WordPlaced, Walked}
+use Rattle.text_readings.specs.Readings.{codeWords, openLines, WordPlaced, Walked}
 use Rattle.text_readings.proofs.Codes.{walked-none, walked-more, walked-as, words-none, words-same, short-chain}
-use borrow.Author.Needs.{needs}
 use Rattle.text_readings.proofs.add_codes.Statement.{statement}
 use Rattle.text_readings.proofs.add_codes.Tie as tie
 
 abbrev Inv-loop : tie.InvT-loop
 Inv-loop keys₀ rounds₀ backs₀ reads₀ count₀ wanted₀ codes₀ from to end at₀ keys rounds backs reads count wanted codes at =
     Walked (codeWords codes₀ from at) (λ n. n ≤ from) (λ x z. EachChain (WordPlaced x) z from at)
-    (linesOf keys₀ rounds₀ backs₀ reads₀ count₀ wanted₀) codes₀ (linesOf keys rounds backs reads count wanted) codes
+    (openLines keys₀ rounds₀ backs₀ reads₀ count₀ wanted₀) codes₀ (openLines keys rounds backs reads count wanted) codes
     × (from ≤ at) × (at - from ≤ to - from)
 
 abbrev μ-loop : tie.MeasureT-loop
