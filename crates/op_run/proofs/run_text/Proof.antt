@@ -35,10 +35,10 @@ outcome e = let a = e .args in directRun (now (a .file)) (now (a .text)) (a .bud
 -- the text passed
 module _ (c : tie.Else1) where
   abbrev was-read : tie.After-read
-  was-read = c .before .before .before .before .before .before
+  was-read = c .before .before .before
 
   abbrev entry : tie.Start
-  entry = was-read .before .before .before .before .before .before .before .before .before
+  entry = was-read .before .before .before .before .before .before
 
   abbrev kept : R.Program
   kept = was-read .read .result .program
@@ -50,7 +50,7 @@ module _ (c : tie.Else1) where
   program = programOf codes kept
 
   bytes : Bytes (now (entry .args .file))
-  bytes i = let f = was-read .before .before .before .before .before .before .before .before .shared-slice-known .given i in f .fits
+  bytes i = let f = was-read .before .before .before .before .before .shared-slice-known .given i in f .fits
 
   checked : check (now (entry .args .file)) (now (entry .args .text)) ≡ done program
   checked = answered-program (was-read .read .ensures) (c .if1 .left)
@@ -93,7 +93,7 @@ module _ (c : tie.Else2) where
 -- the run over the copy
 module _ (c : tie.After-run-program) where
   abbrev ready : tie.Else2
-  ready = c .before .before .before .before .before .before .before .before
+  ready = c .before .before .before .before .before
 
   ended : let x = first (asked ready) in let a = entry x .args in
       Ends (a .machine) (sizesOf (now (a .file))) (program x) (a .budget) (now (a .file)) (c .run-program .last .0) (c .run-program .result)
@@ -103,8 +103,8 @@ module _ (c : tie.After-run-program) where
 
 returns : tie.Need-returns
 returns c =
-    let r = c .before .before .before .before .before .before .before in
-    let a = r .before .before .before .before .before .before .before .before .before .args in
+    let r = c .before .before .before .before in
+    let a = r .before .before .before .before .before .before .args in
     refused-answered (a .machine) (now (a .file)) (now (a .out)) (now (a .values)) (now (a .marks)) _ _
     (run-refused _ _ _ _ (answered-refused (r .read .ensures) (c .before .if1 .taken)))
     (record { answer-is = c .refused .ensures; out-same = refl; values-same = refl; marks-same = refl })
@@ -128,7 +128,7 @@ returns-2 c =
 
 run-program-requires : tie.Need-run-program-requires
 run-program-requires c κs =
-    let e = c .before .before .before .before .before .before .before in
+    let e = c .before .before .before .before in
     let x = first (asked e) in
     let a = entry x .args in
     let r = readied (asked e) in
