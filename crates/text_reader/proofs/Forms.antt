@@ -2,6 +2,7 @@
 use Prim.Native.Nat.{ℕ}
 use mathlib.Core.Path.{_≡_, refl, ap, subst}
 use mathlib.Core.Bool.{Bool}
+use mathlib.Core.List.{List}
 use mathlib.Core.Option.{some}
 use native.Mathlib.Omega.{arith}
 use Rattle.register.specs.declared.Sizes.{Sizes}
@@ -10,7 +11,7 @@ use Rattle.program.specs.declared.rule.Slot.{Slot}
 use Rattle.program.specs.Program as P
 use Rattle.program.specs.Program.{expressionReadings, testReadings, targetReadings, ruleReadings}
 use Rattle.program.specs.Passed.{ExpressionPasses, TestPasses, TargetPasses, RulePasses}
-use Rattle.program.specs.Code.{Codes, SameBelow}
+use Rattle.program.specs.Code.{SameBelow}
 use Rattle.program.specs.Stored.{ruleIn}
 use Rattle.program.specs.Terms.{SlotTerms, TermFrom, TermInside, TermFormed}
 use Rattle.text_syntax.specs.Tree.{ruleOf}
@@ -59,7 +60,7 @@ tag (L.Loop f named) = 3
 tag (L.Rule x c) = 4
 tag L.NoForm = 5
 
-module _ {s : Sizes} {k : Codes} where
+module _ {s : Sizes} {k : List ℕ} where
   pub step-form : {l : Line} {y : LineRead} → Reads s k (some l) y → y ≡ L.Step → l ≡ step
   unfolding tag
   step-form step-line e = refl
@@ -101,7 +102,7 @@ module _ {s : Sizes} {k : Codes} where
   no-form (rule-line c a x w) e = omega (arith, ap tag e)
 
 -- a rule that has passed and the one that is written: its codes stand from..to
-pub record Written (s : Sizes) (st : State) (k : Codes) (from to : ℕ) (l : Line) (x : Slot) : Type 0 where
+pub record Written (s : Sizes) (st : State) (k : List ℕ) (from to : ℕ) (l : Line) (x : Slot) : Type 0 where
   pub condition : Condition
   pub action : Action
   pub line-is : l ≡ rule condition action
@@ -111,7 +112,7 @@ pub record Written (s : Sizes) (st : State) (k : Codes) (from to : ℕ) (l : Lin
   pub behind : SlotTerms (TermFrom from) x
   pub inside : SlotTerms (TermInside to) x
 
-module _ {s : Sizes} {st : State} (a b : Codes) (from to : ℕ) where
+module _ {s : Sizes} {st : State} (a b : List ℕ) (from to : ℕ) where
   pub rule-form : {l : Line} {y : LineRead} → Reads s b (some l) y → Clean s st l → Leaves a b from to y
       → {x : Slot} {c : Checks} → y ≡ L.Rule x c → Written s st b from to l x
   unfolding tag
