@@ -11,10 +11,11 @@ use op_limits;
 use register;
 use register::Sizes;
 use text_reader::Checked;
+use text_rules::scope::Scope;
 
-// The sizes for which a text is read, and how much of it: all of it, or nothing where it is refused before.
+// The scope under which a text is read, and how much of it: all of it, or nothing where it is refused before.
 pub struct Part {
-    pub sizes: Sizes,
+    pub scope: Scope,
     pub end: usize,
 }
 
@@ -28,10 +29,14 @@ fn readable(file: &[u8], text: &[u8], refusal: u32) -> Part
             references: 0,
             measures: 0,
         };
-        return Part { sizes, end: 0 };
+        return Part {
+            scope: Scope { sizes },
+            end: 0,
+        };
     }
+    let sizes = register::sizes_of(file);
     Part {
-        sizes: register::sizes_of(file),
+        scope: Scope { sizes },
         end: text.len(),
     }
 }
@@ -45,7 +50,7 @@ pub fn read(file: &[u8], text: &[u8], codes: &mut [u64]) -> Checked
     let refusal = op_limits::unread(file, text);
     let part = readable(file, text, refusal);
     let end = part.end;
-    let mut checked = text_reader::read_lines(&text[..end], part.sizes, codes);
+    let mut checked = text_reader::read_lines(&text[..end], part.scope, codes);
     if refusal == 0 {
         return checked;
     }

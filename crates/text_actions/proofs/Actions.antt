@@ -60,7 +60,8 @@ module _ {s : Sizes} {line : List ℕ} {a b : List ℕ} {count : ℕ} (lim : Lim
       }
 
   -- `remote F[C] <?= X`, `remote F[C] += X`
-  pub sent-read : {at start end to : ℕ} {g : Summary} {x : Term} (f : ℕ) {y z : ℕ} (c : List ℕ) {p : TermParts} (k : Sort) {named : Bool} {m : Checks} → p ≡ partsOf s (chain c)
+  pub sent-read : {at start end to : ℕ} {g : Summary} {x : Term} (f : ℕ) {y z : ℕ} (c : List ℕ) {p : TermParts} (k : Sort) {named : Bool} {m : Checks}
+      → p ≡ partsOf s (chain c)
       → Passing false true (write k) line at start → SideFormed s line start a b count g x end to → isEmpty (tokensFrom false line end) ≡ true
       → y ≡ letterField f → z ≡ chainIn (p .code) → named ≡ names s f → m ≡ remoteChecks k f named p g
       → ActionFormed s line at (sentForm (f ∷ c) (tokensFrom false line at)) a b count (Remote k y z x) m to

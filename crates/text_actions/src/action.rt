@@ -49,7 +49,8 @@ fn read_local(
 ) -> ActionRead
     requires { ⌜ Limits sizes × (at ≤ length (now line)) × (isCapital letter ≡ true)
         × Roomy (now codes) (now line) at count × (length (now codes) ≤ 65536) ⌝ }
-    ensures { λ r. ⌜ ActionAt sizes (now (line .entry)) at (localForm (T.letter letter ∷ tokensFrom false (now (line .entry)) at)) (now (codes .entry)) (now (codes .exit)) count r ⌝ }
+    ensures { λ r. ⌜ ActionAt sizes (now (line .entry)) at (localForm (T.letter letter ∷ tokensFrom false (now (line .entry)) at))
+        (now (codes .entry)) (now (codes .exit)) count r ⌝ }
 {
     let Place::At(start) = word::assigned(line, at) else {
         return ActionRead::NoForm;
@@ -129,7 +130,8 @@ fn read_sent(
 // The rule at `at`, by its first token.
 pub fn read(line: &[u8], at: usize, sizes: Sizes, codes: &mut [u64], count: usize) -> ActionRead
     requires { ⌜ Limits sizes × (at ≤ length (now line)) × Roomy (now codes) (now line) at count × (length (now codes) ≤ 65536) ⌝ }
-    ensures { λ r. ⌜ ActionAt sizes (now (line .entry)) at (actionForm (tokensFrom false (now (line .entry)) at)) (now (codes .entry)) (now (codes .exit)) count r ⌝ }
+    ensures { λ r. ⌜ ActionAt sizes (now (line .entry)) at (actionForm (tokensFrom false (now (line .entry)) at))
+        (now (codes .entry)) (now (codes .exit)) count r ⌝ }
 {
     let first = lexer::next_token(line, at, false);
     let token = first.token;

@@ -4,7 +4,7 @@ use mathlib.Core.Path.{_≡_}
 use mathlib.Core.Bool.{Bool}
 use mathlib.Core.List.{List}
 use lib.ListN.{length, drop}
-use Rattle.register.specs.declared.Sizes.{Sizes}
+use Rattle.text_rules.specs.declared.scope.Scope.{Scope}
 use Rattle.text_next.specs.Front.{lineBytes, firstForm, LineNext}
 use Rattle.text_lines.specs.declared.line.LineParts.{LineParts}
 use Rattle.text_state.specs.declared.state.State.{State}
@@ -15,7 +15,7 @@ abbrev pub partsOf : Next → LineParts
 partsOf r = record { line = r .line; used = r .used }
 
 -- the line of t that begins at `at`: n codes stand in the arrays a before it is read, and b are the arrays behind it
-pub record Judged (s : Sizes) (t : List ℕ) (at : ℕ) (x : State) (full : Bool) (a b : List ℕ) (n : ℕ) (r : Next) : Type 0 where
+pub record Judged (scope : Scope) (t : List ℕ) (at : ℕ) (x : State) (full : Bool) (a b : List ℕ) (n : ℕ) (r : Next) : Type 0 where
   pub end-is : r .end ≡ at + length (lineBytes (drop at t))
-  pub read : LineNext s (firstForm (drop at t)) (r .end) a b n (partsOf r)
+  pub read : LineNext (scope .sizes) (firstForm (drop at t)) (r .end) a b n (partsOf r)
   pub refusal-is : r .refusal ≡ refusalOf x full (r .line)

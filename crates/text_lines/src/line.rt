@@ -119,7 +119,8 @@ fn read_compared(
 // A test and a rule, behind `if`.
 fn read_tested(line: &[u8], at: usize, sizes: Sizes, codes: &mut [u64], count: usize) -> LineParts
     requires { ⌜ Limits sizes × (at ≤ length (now line)) × Roomy (now codes) (now line) at count × (length (now codes) ≤ 65536) ⌝ }
-    ensures { λ r. ⌜ LineAt sizes (now (line .entry)) at (testedBehind (tokensFrom true (now (line .entry)) at)) (now (codes .entry)) (now (codes .exit)) count count r ⌝ }
+    ensures { λ r. ⌜ LineAt sizes (now (line .entry)) at (testedBehind (tokensFrom true (now (line .entry)) at))
+        (now (codes .entry)) (now (codes .exit)) count count r ⌝ }
 {
     let SideRead::Side(seen, term, end, used) = side::read(line, at, sizes, codes, count) else {
         return no_form(count);

@@ -9,7 +9,6 @@ use native.Mathlib.Numerals.{add-one}
 use borrow.Author.Tests.{ltb-true, leb-true, not-true}
 use lib.ListN.{length, getD, take, drop, set, length-set}
 use lib.Seq.{length-take-le, take-suc-set}
-use Rattle.register.specs.declared.Sizes.{Sizes}
 use Rattle.laws.specs.Lists.{Each}
 use Rattle.laws.proofs.Bools.{and-both, true-false}
 use Rattle.plan_lines.specs.Held.{HoldsLines}
@@ -26,6 +25,7 @@ use Rattle.program.specs.declared.location.Locations.{Locations}
 use Rattle.program.specs.Program.{Rule, Step, stepPlan}
 use Rattle.program.specs.Code.{SameBelow}
 use Rattle.program.specs.Terms.{SlotTerms, TermFrom, TermInside, TermFormed}
+use Rattle.text_rules.specs.declared.scope.Scope.{Scope}
 use Rattle.text_rules.specs.declared.line.Checks.{Checks}
 use Rattle.text_rules.specs.declared.line.LineRead.the-variants as L
 use Rattle.text_rules.specs.Check.{State, isOutside, isUsed, isOpen, openRules, inPlace, hasRoom, planFits}
@@ -116,10 +116,10 @@ used-steps (Unused f) xs u h = true-false u refl
 used-steps (Used f) [] u h = absurd (let z : _≡_ {A = ℕ} 0 1 = cc in omega arith)
 used-steps (Used f) (x ∷ xs) u h = omega arith
 
-module _ (s : Sizes) {codes : List ℕ} {n : ℕ} {slots : List Located} {frames : List Frame} {a : Lines} {x : S.State}
-    {st : State} (r : Reached s st) (h : Stands x st) (b : Behind codes n slots frames a x st) (i : ℕ) where
+module _ (scope : Scope) {codes : List ℕ} {n : ℕ} {slots : List Located} {frames : List Frame} {a : Lines} {x : S.State}
+    {st : State} (r : Reached (scope .sizes) st) (h : Stands x st) (b : Behind codes n slots frames a x st) (i : ℕ) where
   -- these store nothing
-  pub at-step : Clean s st step → Behind codes n slots frames a (advanceOf x i L.Step) (advance st step)
+  pub at-step : Clean scope st step → Behind codes n slots frames a (advanceOf x i L.Step) (advance st step)
   unfolding advanceOf standing advance openRules inPlace rulesIn noRules
   at-step c = record {
     kept = record {
@@ -134,7 +134,7 @@ module _ (s : Sizes) {codes : List ℕ} {n : ℕ} {slots : List Located} {frames
     opened = open-still (b .opened) (closed-none st (not-true _ (c .placed)));
   }
 
-  pub at-loop : (f g : ℕ) (named : Bool) → Clean s st (loop f) → Behind codes n slots frames a (advanceOf x i (L.Loop g named)) (advance st (loop f))
+  pub at-loop : (f g : ℕ) (named : Bool) → Clean scope st (loop f) → Behind codes n slots frames a (advanceOf x i (L.Loop g named)) (advance st (loop f))
   unfolding advanceOf standing advance openRules inPlace rulesIn noRules
   at-loop f g named c = record {
     kept = record {
@@ -150,7 +150,7 @@ module _ (s : Sizes) {codes : List ℕ} {n : ℕ} {slots : List Located} {frames
   }
 
   -- a rule stands in its place, and the plan is that of the rules with it
-  module _ {u : W.Condition} {act : W.Action} (c : Clean s st (rule u act)) where
+  module _ {u : W.Condition} {act : W.Action} (c : Clean scope st (rule u act)) where
     pub rule-steps : x .steps < 32
     unfolding inPlace
     rule-steps = omega (arith, r .room (c .placed), h .steps-are)
@@ -189,7 +189,7 @@ module _ (s : Sizes) {codes : List ℕ} {n : ℕ} {slots : List Located} {frames
         }
 
   -- the step is closed, with its plan
-  module _ (c : Clean s st end) where
+  module _ (c : Clean scope st end) where
     pub end-steps : x .steps < 32
     unfolding inPlace
     end-steps = omega (arith, r .room (c .placed), h .steps-are)
@@ -245,7 +245,7 @@ module _ (s : Sizes) {codes : List ℕ} {n : ℕ} {slots : List Located} {frames
         }
 
   -- the last step is the last of its loop
-  module _ (c : Clean s st done) where
+  module _ (c : Clean scope st done) where
     closed-now : isOpen st ≡ false
     unfolding inPlace
     closed-now = not-true _ (and-both (not (isOpen st)) (isUsed (st .around)) (c .placed) .0)

@@ -13,11 +13,11 @@ use lib.Seq.{drop-drop}
 use Rattle.register.specs.Shape.{Limits}
 use Rattle.laws.specs.Outcome.{Outcome, refused, unless, after}
 use Rattle.laws.specs.Outcome as O
-use Rattle.register.specs.declared.Sizes.{Sizes}
 use Rattle.plan_lines.specs.Held.{HoldsLines}
 use Rattle.text_syntax.specs.Written.{Line, step, end, done}
 use Rattle.text_syntax.specs.Lexing.{tokens}
 use Rattle.text_syntax.specs.Grammar.{lineForm}
+use Rattle.text_rules.specs.declared.scope.Scope.{Scope}
 use Rattle.text_rules.specs.declared.line.Checks.{Checks}
 use Rattle.text_rules.specs.declared.line.LineRead.the-variants as L
 use Rattle.text_rules.specs.LineRead.{Reads}
@@ -57,25 +57,25 @@ use Rattle.text_state.proofs.Standing.{Stands, start-stands, advance-stands}
 use Rattle.text_refusals.proofs.Refusals.{number, refusal-is, last-is}
 
 -- the state of the definition before line i, which begins at `at`, and what the code has of it, with n codes in the lent array
-pub record Read (s : Sizes) (t : List ℕ) (a : Lines) (codes : List ℕ) (slots : List Located) (frames : List Frame) (x : S.State) (n at i : ℕ) : Type 0 where
+pub record Read (scope : Scope) (t : List ℕ) (a : Lines) (codes : List ℕ) (slots : List Located) (frames : List Frame) (x : S.State) (n at i : ℕ) : Type 0 where
   pub state : State
-  pub reached : Reached s state
+  pub reached : Reached (scope .sizes) state
   pub stands : Stands x state
   pub behind : Behind codes n slots frames a x state
   pub lent : length codes ≡ 8192
-  pub rest : readFrom s start 1 (lines t) ≡ readFrom s state i (lines (drop at t))
+  pub rest : readFrom scope start 1 (lines t) ≡ readFrom scope state i (lines (drop at t))
   pub within : at ≤ length t
   pub few : i ≤ at + 1
   pub few-codes : n ≤ at
 
 -- before the first line
-pub begun : (s : Sizes) (t : List ℕ) {a : Lines} {codes : List ℕ} {y : Located} {frames : List Frame} {x : S.State}
+pub begun : (scope : Scope) (t : List ℕ) {a : Lines} {codes : List ℕ} {y : Located} {frames : List Frame} {x : S.State}
     → HoldsLines (a .plan) [] → length (a .wanted) ≡ 64 → length codes ≡ 8192
-    → y .slot ≡ emptySlot → length frames ≡ 32 → x ≡ startState → Read s t a codes (replicate 1024 y) frames x 0 0 1
+    → y .slot ≡ emptySlot → length frames ≡ 32 → x ≡ startState → Read scope t a codes (replicate 1024 y) frames x 0 0 1
 unfolding startState start openRules stepsIn rulesIn noRules
-begun s t {codes = codes} {y} h lw lent ey lf e = record {
+begun scope t {codes = codes} {y} h lw lent ey lf e = record {
   state = start;
-  reached = start-reached s;
+  reached = start-reached (scope .sizes);
   stands = rw e start-stands;
   behind = rw e (record {
     kept = record {
@@ -97,14 +97,14 @@ begun s t {codes = codes} {y} h lw lent ey lf e = record {
 }
 
 -- the outcome of a text from its first line
-first-line : (s : Sizes) (st : State) (k : ℕ) (t : List ℕ) → 0 < length t
-    → readFrom s st k (lines t) ≡ after (lineOutcome s st k (firstForm t)) (λ st. readFrom s st (suc k) (lines (drop (length (lineBytes t) + 1) t)))
+first-line : (scope : Scope) (st : State) (k : ℕ) (t : List ℕ) → 0 < length t
+    → readFrom scope st k (lines t) ≡ after (lineOutcome scope st k (firstForm t)) (λ st. readFrom scope st (suc k) (lines (drop (length (lineBytes t) + 1) t)))
 unfolding readFrom
-first-line s st k [] h = absurd (omega arith)
-first-line s st k (b ∷ t) h =
+first-line scope st k [] h = absurd (omega arith)
+first-line scope st k (b ∷ t) h =
     let p = lines-first b t in
-    ap (readFrom s st k) (p .2)
-    ∙ ap (λ (o : Option Line). after (lineOutcome s st k o) (λ st. readFrom s st (suc k) (lines (drop (length (lineBytes (b ∷ t)) + 1) (b ∷ t))))) (p .1)
+    ap (readFrom scope st k) (p .2)
+    ∙ ap (λ (o : Option Line). after (lineOutcome scope st k o) (λ st. readFrom scope st (suc k) (lines (drop (length (lineBytes (b ∷ t)) + 1) (b ∷ t))))) (p .1)
 
 -- a line that is refused
 pub refuse-none : {A : Type 0} (n k : ℕ) (o : Outcome A) → (n ≡ 0 → ⊥) → unless n k o ≡ refused n k
@@ -116,18 +116,18 @@ refuse : {A B : Type 0} (n k : ℕ) (o : Outcome A) (f : A → Outcome B) → (n
 unfolding after unless
 refuse n k o f h = rw (refuse-none n k o h)
 
-refused-line : (s : Sizes) (st : State) (k : ℕ) (o : Option Line) (f : State → Outcome Program) → (number s st o ≡ 0 → ⊥)
-    → after (lineOutcome s st k o) f ≡ refused (number s st o) k
+refused-line : (scope : Scope) (st : State) (k : ℕ) (o : Option Line) (f : State → Outcome Program) → (number scope st o ≡ 0 → ⊥)
+    → after (lineOutcome scope st k o) f ≡ refused (number scope st o) k
 unfolding number lineOutcome after
-refused-line s st k none f h = refl
-refused-line s st k (some l) f h = refuse (lineRefusal s st l) k (O.done (advance st l)) f h
+refused-line scope st k none f h = refl
+refused-line scope st k (some l) f h = refuse (lineRefusal scope st l) k (O.done (advance st l)) f h
 
 -- a line that passes
-passed-line : (s : Sizes) (st : State) (k : ℕ) (o : Option Line) (f : State → Outcome Program) → number s st o ≡ 0
-    → (l : Line) × (o ≡ some l) × Clean s st l × (after (lineOutcome s st k o) f ≡ f (advance st l))
+passed-line : (scope : Scope) (st : State) (k : ℕ) (o : Option Line) (f : State → Outcome Program) → number scope st o ≡ 0
+    → (l : Line) × (o ≡ some l) × Clean scope st l × (after (lineOutcome scope st k o) f ≡ f (advance st l))
 unfolding number lineOutcome after unless
-passed-line s st k none f h = absurd (omega arith)
-passed-line s st k (some l) f h = (l, refl, refusal-none s st l h, rw h)
+passed-line scope st k none f h = absurd (omega arith)
+passed-line scope st k (some l) f h = (l, refl, refusal-none scope st l h, rw h)
 
 first-some : (t : List ℕ) (l : Line) → firstForm t ≡ some l → length (lineBytes t) < length t
 unfolding firstForm
@@ -137,56 +137,56 @@ first-some t l h = go (ltb (length (lineBytes t)) (length t)) refl h
     go true e h = ltb-true (length (lineBytes t)) (length t) e
     go false e h = absurd (let z : _≡_ {A = ℕ} 0 1 = cc in omega arith)
 
-module _ (s : Sizes) {t : List ℕ} {a : Lines} {codes : List ℕ} {slots : List Located} {frames : List Frame} {x : S.State} {n at i : ℕ}
-    (q : Read s t a codes slots frames x n at i) where
+module _ (scope : Scope) {t : List ℕ} {a : Lines} {codes : List ℕ} {slots : List Located} {frames : List Frame} {x : S.State} {n at i : ℕ}
+    (q : Read scope t a codes slots frames x n at i) where
   -- the next line, where it passes
   pub record Passes (b : List ℕ) (r : LineParts) : Type 0 where
     pub form : Line
-    pub clean : Clean s (q .state) form
-    pub reads : Reads s b (some form) (r .line)
+    pub clean : Clean scope (q .state) form
+    pub reads : Reads (scope .sizes) b (some form) (r .line)
     pub leaves : Leaves codes b n (r .used) (r .line)
     pub more-codes : n ≤ r .used
     pub few-codes : r .used ≤ at + length (lineBytes (drop at t))
     pub inside : at + length (lineBytes (drop at t)) < length t
-    pub onward : readFrom s start 1 (lines t) ≡ readFrom s (advance (q .state) form) (suc i) (lines (drop (at + length (lineBytes (drop at t)) + 1) t))
+    pub onward : readFrom scope start 1 (lines t) ≡ readFrom scope (advance (q .state) form) (suc i) (lines (drop (at + length (lineBytes (drop at t)) + 1) t))
 
   module _ {b : List ℕ} (r : LineParts) {stop : ℕ} (e : stop ≡ at + length (lineBytes (drop at t))) (here : at < length t)
-      (l : LineNext s (firstForm (drop at t)) stop codes b n r) where
+      (l : LineNext (scope .sizes) (firstForm (drop at t)) stop codes b n r) where
     -- what follows it
     abbrev follows : State → Outcome Program
-    follows st = readFrom s st (suc i) (lines (drop (length (lineBytes (drop at t)) + 1) (drop at t)))
+    follows st = readFrom scope st (suc i) (lines (drop (length (lineBytes (drop at t)) + 1) (drop at t)))
 
-    outcome : readFrom s start 1 (lines t) ≡ after (lineOutcome s (q .state) i (firstForm (drop at t))) follows
-    outcome = q .rest ∙ first-line s (q .state) i (drop at t) (simp length-drop (omega arith))
+    outcome : readFrom scope start 1 (lines t) ≡ after (lineOutcome scope (q .state) i (firstForm (drop at t))) follows
+    outcome = q .rest ∙ first-line scope (q .state) i (drop at t) (simp length-drop (omega arith))
 
-    numbered : refusalOf x (ltb 64 (a .plan .count)) (r .line) ≡ number s (q .state) (firstForm (drop at t))
-    numbered = refusal-is s (q .stands) (ltb 64 (a .plan .count)) (q .behind .opened .planned .full-is) (l .reads)
+    numbered : refusalOf x (ltb 64 (a .plan .count)) (r .line) ≡ number scope (q .state) (firstForm (drop at t))
+    numbered = refusal-is scope (q .stands) (ltb 64 (a .plan .count)) (q .behind .opened .planned .full-is) (l .reads)
 
     -- a line that is refused
-    pub stopped : (refusalOf x (ltb 64 (a .plan .count)) (r .line) ≡ 0 → ⊥) → readFrom s start 1 (lines t) ≡ refused (refusalOf x (ltb 64 (a .plan .count)) (r .line)) i
-    stopped h = outcome ∙ refused-line s (q .state) i (firstForm (drop at t)) follows (λ z. h (numbered ∙ z)) ∙ ap (λ (m : ℕ). refused m i) (sym numbered)
+    pub stopped : (refusalOf x (ltb 64 (a .plan .count)) (r .line) ≡ 0 → ⊥) → readFrom scope start 1 (lines t) ≡ refused (refusalOf x (ltb 64 (a .plan .count)) (r .line)) i
+    stopped h = outcome ∙ refused-line scope (q .state) i (firstForm (drop at t)) follows (λ z. h (numbered ∙ z)) ∙ ap (λ (m : ℕ). refused m i) (sym numbered)
 
     pub passes : refusalOf x (ltb 64 (a .plan .count)) (r .line) ≡ 0 → Passes b r
     passes h =
-        let p = passed-line s (q .state) i (firstForm (drop at t)) follows (sym numbered ∙ h) in
+        let p = passed-line scope (q .state) i (firstForm (drop at t)) follows (sym numbered ∙ h) in
         let behind : at + (length (lineBytes (drop at t)) + 1) ≡ at + length (lineBytes (drop at t)) + 1 = omega arith in
         record {
           form = p .0;
           clean = p .2;
-          reads = subst (λ (o : Option Line). Reads s b o (r .line)) (p .1) (l .reads);
+          reads = subst (λ (o : Option Line). Reads (scope .sizes) b o (r .line)) (p .1) (l .reads);
           leaves = l .leaves;
           more-codes = l .more-codes;
           few-codes = omega (arith, l .few-codes, e);
           inside = omega (arith, first-some (drop at t) (p .0) (p .1), length-drop at t);
           onward = outcome ∙ p .3
-              ∙ ap (λ (u : List ℕ). readFrom s (advance (q .state) (p .0)) (suc i) (lines u))
+              ∙ ap (λ (u : List ℕ). readFrom scope (advance (q .state) (p .0)) (suc i) (lines u))
               (drop-drop (length (lineBytes (drop at t)) + 1) at t ∙ ap (λ (j : ℕ). drop j t) behind);
         }
 
 -- the arrays and the plan behind each sort of line; m is the number of lines of the open step's plan
-module _ {s : Sizes} (lim : Limits s) {t : List ℕ} {a : Lines} {codes : List ℕ} {slots : List Located} {frames : List Frame} {x : S.State} {n at i : ℕ}
-    {q : Read s t a codes slots frames x n at i} where
-  module _ {b : List ℕ} {r : LineParts} (p : Passes s q b r) (m : ℕ) where
+module _ {scope : Scope} (lim : Limits (scope .sizes)) {t : List ℕ} {a : Lines} {codes : List ℕ} {slots : List Located} {frames : List Frame} {x : S.State} {n at i : ℕ}
+    {q : Read scope t a codes slots frames x n at i} where
+  module _ {b : List ℕ} {r : LineParts} (p : Passes scope q b r) (m : ℕ) where
     -- what stood before the line, with the codes behind it
     before : SameBelow codes b n
     before = codes-kept codes b n (r .used) (p .reads) (p .clean) (p .leaves)
@@ -200,23 +200,23 @@ module _ {s : Sizes} (lim : Limits s) {t : List ℕ} {a : Lines} {codes : List �
     pub arm-step : r .line ≡ L.Step → Behind b (r .used) slots frames a (advanceOf x m (r .line)) (advance (q .state) (p .form))
     arm-step e =
         let is : p .form ≡ step = step-form (p .reads) e in
-        rw (e, is) (at-step s (q .reached) (q .stands) more m (subst (Clean s (q .state)) is (p .clean)))
+        rw (e, is) (at-step scope (q .reached) (q .stands) more m (subst (Clean scope (q .state)) is (p .clean)))
 
     pub arm-loop : {f : ℕ} {named : Bool} → r .line ≡ L.Loop f named
         → Behind b (r .used) slots frames a (advanceOf x m (r .line)) (advance (q .state) (p .form))
     arm-loop {f} {named} e =
         let v = loop-form (p .reads) e in
-        rw (e, v .1) (at-loop s (q .reached) (q .stands) more m (v .0) f named (subst (Clean s (q .state)) (v .1) (p .clean)))
+        rw (e, v .1) (at-loop scope (q .reached) (q .stands) more m (v .0) f named (subst (Clean scope (q .state)) (v .1) (p .clean)))
 
     pub arm-none : {A : Type 0} → r .line ≡ L.NoForm → A
     arm-none e = absurd (no-form (p .reads) e)
 
     module _ (e : r .line ≡ L.End) where
-      end-clean : Clean s (q .state) end
-      end-clean = subst (Clean s (q .state)) (end-form (p .reads) e) (p .clean)
+      end-clean : Clean scope (q .state) end
+      end-clean = subst (Clean scope (q .state)) (end-form (p .reads) e) (p .clean)
 
       pub arm-end-steps : x .steps < 32
-      arm-end-steps = end-steps s (q .reached) (q .stands) more m end-clean
+      arm-end-steps = end-steps scope (q .reached) (q .stands) more m end-clean
 
       pub arm-end : {marks : List Bool} → length marks ≡ 64
           → let o = a .plan in
@@ -224,34 +224,34 @@ module _ {s : Sizes} (lim : Limits s) {t : List ℕ} {a : Lines} {codes : List �
           (advanceOf x m (r .line)) (advance (q .state) (p .form))
       arm-end l =
           rw (e, end-form (p .reads) e)
-          (at-end s (q .reached) (q .stands) more m end-clean l)
+          (at-end scope (q .reached) (q .stands) more m end-clean l)
 
     module _ (e : r .line ≡ L.Done) where
-      done-clean : Clean s (q .state) done
-      done-clean = subst (Clean s (q .state)) (done-form (p .reads) e) (p .clean)
+      done-clean : Clean scope (q .state) done
+      done-clean = subst (Clean scope (q .state)) (done-form (p .reads) e) (p .clean)
 
       pub arm-done-steps : 1 ≤ x .steps
-      arm-done-steps = done-steps s (q .reached) (q .stands) more m done-clean
+      arm-done-steps = done-steps scope (q .reached) (q .stands) more m done-clean
 
       pub arm-done : (d : Frame)
           → Behind b (r .used) slots (set frames (x .steps - 1) (lastFrame (getD frames (x .steps - 1) d))) a
           (advanceOf x m (r .line)) (advance (q .state) (p .form))
-      arm-done d = rw (e, done-form (p .reads) e) (at-done s (q .reached) (q .stands) more m done-clean d)
+      arm-done d = rw (e, done-form (p .reads) e) (at-done scope (q .reached) (q .stands) more m done-clean d)
 
     module _ {y : Slot} {ch : Checks} (e : r .line ≡ L.Rule y ch) where
-      abbrev written : Written s (q .state) b n (r .used) (p .form) y
+      abbrev written : Written scope (q .state) b n (r .used) (p .form) y
       written = rule-form codes b n (r .used) (p .reads) (p .clean) (p .leaves) e
 
       pub arm-steps : x .steps < 32
-      arm-steps = rule-steps s (q .reached) (q .stands) more m (written .clean)
+      arm-steps = rule-steps scope (q .reached) (q .stands) more m (written .clean)
 
       pub arm-rules : x .tally .rules < 32
-      arm-rules = rule-rules s (q .reached) (q .stands) more m (written .clean)
+      arm-rules = rule-rules scope (q .reached) (q .stands) more m (written .clean)
 
       pub arm-fits : length t ≤ 8192 → length b ≡ 8192 → Short (slotWords b y) × SlotTerms (TermInside (length b)) y
       arm-fits h e = (
         rw (slot-words b y (written .formed), written .rule-is)
-            (rule-short s _ (rule-passes s lim (q .state) (written .condition) (written .action) (written .clean))),
+            (rule-short (scope .sizes) _ (rule-passes scope lim (q .state) (written .condition) (written .action) (written .clean))),
         slot-map (inside-more (omega (arith, p .few-codes, p .inside, e))) y (written .inside),
       )
 
@@ -260,24 +260,24 @@ module _ {s : Sizes} (lim : Limits s) {t : List ℕ} {a : Lines} {codes : List �
           (advanceOf x m (r .line)) (advance (q .state) (p .form))
       arm-rule at′ w =
           rw (e, written .line-is)
-          (at-rule s (q .reached) (q .stands) same m (written .clean) y at′ ch (written .rule-is) (written .formed) (written .behind) (written .inside) (p .more-codes) w)
+          (at-rule scope (q .reached) (q .stands) same m (written .clean) y at′ ch (written .rule-is) (written .formed) (written .behind) (written .inside) (p .more-codes) w)
 
     -- the count of the open step's plan, which its `end` asks for
     pub end-lines : p .form ≡ end → a .plan .count ≡ length (stepPlan (openRules (q .state)))
-    end-lines e = end-count s (q .reached) (q .stands) more m (subst (Clean s (q .state)) e (p .clean))
+    end-lines e = end-count scope (q .reached) (q .stands) more m (subst (Clean scope (q .state)) e (p .clean))
 
   -- one line further
-  pub again : {b b′ : List ℕ} {r : LineParts} (p : Passes s q b r) {slots′ : List Located} {frames′ : List Frame} {a′ : Lines} {x′ : S.State} {stop : ℕ}
+  pub again : {b b′ : List ℕ} {r : LineParts} (p : Passes scope q b r) {slots′ : List Located} {frames′ : List Frame} {a′ : Lines} {x′ : S.State} {stop : ℕ}
       → x′ ≡ advanceOf x (a .plan .count) (r .line) → stop ≡ at + length (lineBytes (drop at t)) → length b′ ≡ 8192
       → Behind b′ (r .used) slots′ frames′ a′ (advanceOf x (a .plan .count) (r .line)) (advance (q .state) (p .form))
-      → Read s t a′ b′ slots′ frames′ x′ (r .used) (stop + 1) (i + 1)
+      → Read scope t a′ b′ slots′ frames′ x′ (r .used) (stop + 1) (i + 1)
   again p ex es lent b = rw (ex, es) (record {
     state = advance (q .state) (p .form);
-    reached = advance-reached s lim (q .state) (p .form) (q .reached) (p .clean);
-    stands = advance-stands s lim (q .stands) (a .plan .count) (p .reads) (p .clean) (end-lines p (a .plan .count));
+    reached = advance-reached scope lim (q .state) (p .form) (q .reached) (p .clean);
+    stands = advance-stands scope lim (q .stands) (a .plan .count) (p .reads) (p .clean) (end-lines p (a .plan .count));
     behind = b;
     lent = lent;
-    rest = p .onward ∙ ap (λ (j : ℕ). readFrom s (advance (q .state) (p .form)) j (lines (drop (at + length (lineBytes (drop at t)) + 1) t))) (sym (add-one i));
+    rest = p .onward ∙ ap (λ (j : ℕ). readFrom scope (advance (q .state) (p .form)) j (lines (drop (at + length (lineBytes (drop at t)) + 1) t))) (sym (add-one i));
     within = omega (arith, p .inside);
     few = omega (arith, q .few);
     few-codes = omega (arith, p .few-codes);
@@ -289,8 +289,8 @@ pub answer-refused : {codes : List ℕ} {o : Outcome Program} (n i : ℕ) (p : C
 unfolding checkOutcome
 answer-refused {codes} n i p h e = record { outcome-is = refuse-none n i (O.done (programOf codes p)) h ∙ sym e; complete = λ z. absurd (h z) }
 
-module _ {s : Sizes} {t : List ℕ} {a : Lines} {codes : List ℕ} {slots : List Located} {frames : List Frame} {x : S.State} {n at i : ℕ}
-    (q : Read s t a codes slots frames x n at i) where
+module _ {scope : Scope} {t : List ℕ} {a : Lines} {codes : List ℕ} {slots : List Located} {frames : List Frame} {x : S.State} {n at i : ℕ}
+    (q : Read scope t a codes slots frames x n at i) where
   pub small : (x .steps ≤ 32) × (x .tally .rules ≤ 32)
   small = (omega (arith, q .reached .few, q .stands .steps-are), omega (arith, q .reached .rules .few, q .stands .tally-is .rules-are))
 
@@ -305,12 +305,12 @@ module _ {s : Sizes} {t : List ℕ} {a : Lines} {codes : List ℕ} {slots : List
   room h = record { room = omega (arith, q .lent); few = omega (arith, q .lent) }
 
   pub answer-read : length t ≤ 8192 → length t ≤ at
-      → Answers codes (readFrom s start 1 (lines t))
+      → Answers codes (readFrom scope start 1 (lines t))
       (record { refusal = lastRefusal x; line = i; program = record { slots = slots; frames = frames; steps = x .steps; lines = x .lines } })
   unfolding checkOutcome program lines readFrom closedText unless
   answer-read o h =
-      let ended : readFrom s start 1 (lines t) ≡ closedText (q .state) i =
-      q .rest ∙ ap (λ (u : List ℕ). readFrom s (q .state) i (lines u)) (drop-of-length-le t h) in
+      let ended : readFrom scope start 1 (lines t) ≡ closedText (q .state) i =
+      q .rest ∙ ap (λ (u : List ℕ). readFrom scope (q .state) i (lines u)) (drop-of-length-le t h) in
       let kept = q .behind .kept in
       record {
         outcome-is = rw (ended, last-is (q .stands), program-is) (go (not (isOpen (q .state)) && isOutside (q .state .around)));

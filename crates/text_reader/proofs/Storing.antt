@@ -6,9 +6,9 @@ use mathlib.Core.List.{List}
 use native.Mathlib.Omega.{arith}
 use lib.ListN.{length, getD, set}
 use Rattle.register.specs.Shape.{Limits}
-use Rattle.register.specs.declared.Sizes.{Sizes}
 use Rattle.program.specs.declared.location.Located.{Located}
 use Rattle.program.specs.declared.frame.Frame.{Frame}
+use Rattle.text_rules.specs.declared.scope.Scope.{Scope}
 use Rattle.text_rules.specs.declared.line.LineRead.{LineRead}
 use Rattle.text_rules.specs.declared.line.LineRead.the-variants as L
 use Rattle.text_rules.specs.Text.{advance}
@@ -34,8 +34,8 @@ other : {A : Type 0} {v w : Store} → v ≡ w → (sortOf v ≡ sortOf w → �
 other e h = absurd (h (ap sortOf e))
 
 -- m is the number of lines of the open step's plan
-module _ {s : Sizes} (lim : Limits s) {t : List ℕ} {a : Lines} {codes : List ℕ} {slots : List Located} {frames : List Frame} {x : S.State} {n at i : ℕ}
-    {q : Read s t a codes slots frames x n at i} {b : List ℕ} {r : LineParts} (p : Passes s q b r) (m : ℕ) where
+module _ {scope : Scope} (lim : Limits (scope .sizes)) {t : List ℕ} {a : Lines} {codes : List ℕ} {slots : List Located} {frames : List Frame} {x : S.State} {n at i : ℕ}
+    {q : Read scope t a codes slots frames x n at i} {b : List ℕ} {r : LineParts} (p : Passes scope q b r) (m : ℕ) where
   pub fits : length t ≤ 8192 → length b ≡ 8192 → LineFits b x (r .line)
   fits h l = go (r .line) refl
     where

@@ -7,10 +7,10 @@ ghost use Rattle.register.specs.Shape.{Limits};
 ghost use Rattle.text_rules.specs.Text.{lines, start as startOf, readFrom};
 ghost use Rattle.text_reader.specs.Answers.{Answers};
 use program::Program;
-use register::Sizes;
 use text_judge::next_line;
 use text_plan::store;
 use text_plan::store::Store;
+use text_rules::scope::Scope;
 use text_state::state;
 
 // A program, where the refusal is 0; otherwise the refusal's number and its line.
@@ -22,9 +22,9 @@ pub struct Checked {
 
 // The program of the lines of a text, the codes of its expressions in the lent array, which has a place for each of its at most
 // 8,192 bytes. The plan of the open step is held beside it.
-pub fn read_lines(text: &[u8], sizes: Sizes, codes: &mut [u64]) -> Checked
-    requires { ⌜ Limits sizes × (length (now text) ≤ 8192) × (length (now codes) ≡ 8192) ⌝ }
-    ensures { λ r. ⌜ Answers (now (codes .exit)) (readFrom sizes startOf 1 (lines (now (text .entry)))) r ⌝ }
+pub fn read_lines(text: &[u8], scope: Scope, codes: &mut [u64]) -> Checked
+    requires { ⌜ Limits (scope .sizes) × (length (now text) ≤ 8192) × (length (now codes) ≡ 8192) ⌝ }
+    ensures { λ r. ⌜ Answers (now (codes .exit)) (readFrom scope startOf 1 (lines (now (text .entry)))) r ⌝ }
 {
     let mut keys = [0u64; 64];
     let mut rounds = [0u8; 64];
@@ -40,7 +40,7 @@ pub fn read_lines(text: &[u8], sizes: Sizes, codes: &mut [u64]) -> Checked
     let mut line = 1;
     let mut refusal = 0;
     while at < text.len() {
-        let next = next_line(text, at, sizes, state, codes, used, 64 < count);
+        let next = next_line(text, at, scope, state, codes, used, 64 < count);
         refusal = next.refusal;
         if refusal != 0 {
             break;

@@ -73,7 +73,8 @@ chain-formed {s} b w h = record {
 pub own-chain : {s : Sizes} {due : Bool} {line : List ℕ} {at end : ℕ} → Passing due false S.own line at end
     → ChainTerm s due line at (chainParts start true) end
 unfolding isReferenceTerm steps
-own-chain w = chain-formed true (record { letters = []; form-is = ap chainForm (w .text) ∙ chain-own _; letters-are = refl; small = omega arith; behind = w .behind }) refl
+own-chain w = chain-formed true
+    (record { letters = []; form-is = ap chainForm (w .text) ∙ chain-own _; letters-are = refl; small = omega arith; behind = w .behind }) refl
 
 -- the kind of a chain is that of its first letter
 letter-kind : (ts : List S.Token) (ls : List ℕ) {l : ℕ} {r q : List S.Token} → chainForm ts ≡ formed ls r → ts ≡ S.letter l ∷ q

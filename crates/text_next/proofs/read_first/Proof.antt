@@ -22,9 +22,11 @@ read-line-requires c κs =
 
 returns-2 : tie.Need-returns-2
 returns-2 c =
-    let d = c .before .before .before .before .before .before .before .before in
+    let k = c .before .before .before .before .before in
+    let r = k .before .before .before in
+    let d = r in
     let a = d .args in
-    let left = c .before .before .before .before .before .if1 .left in
+    let left = k .if1 .left in
     next-line (a .sizes) (now (a .text)) (a .at) (a .end) (a .count) (d .pre .2) (d .pre .3) _ _ _ (omega (arith, left)) (c .before .before .read-line .ensures)
 
 pub read-first-spec : {M : Type 1} → statement M

@@ -8,7 +8,7 @@ use mathlib.Core.Logic.{⊎-elim}
 use native.Mathlib.Omega.{arith}
 use lib.ListN.{length}
 use Rattle.register.specs.Shape.{Limits}
-use Rattle.register.specs.declared.Sizes.{Sizes}
+use Rattle.text_rules.specs.declared.scope.Scope.{Scope}
 use Rattle.laws.specs.Outcome.{refused}
 use Rattle.text_rules.specs.Text.{advance}
 use Rattle.text_readings.specs.Readings.{openLines}
@@ -24,11 +24,11 @@ use Rattle.text_reader.proofs.read_lines.Statement.{statement}
 use Rattle.text_reader.proofs.read_lines.Tie as tie
 
 abbrev Inv-loop : tie.InvT-loop
-Inv-loop text sizes codes₀ keys₀ rounds₀ backs₀ reads₀ count₀ wanted₀ slots₀ frames₀ state₀ used₀ at₀ line₀ refusal₀ codes keys rounds backs reads count wanted slots frames state used at line refusal =
-    Read sizes text (openLines keys rounds backs reads count wanted) codes slots frames state used at line × (refusal ≡ 0)
+Inv-loop text scope codes₀ keys₀ rounds₀ backs₀ reads₀ count₀ wanted₀ slots₀ frames₀ state₀ used₀ at₀ line₀ refusal₀ codes keys rounds backs reads count wanted slots frames state used at line refusal =
+    Read scope text (openLines keys rounds backs reads count wanted) codes slots frames state used at line × (refusal ≡ 0)
 
 abbrev μ-loop : tie.MeasureT-loop
-μ-loop text sizes codes₀ keys₀ rounds₀ backs₀ reads₀ count₀ wanted₀ slots₀ frames₀ state₀ used₀ at₀ line₀ refusal₀ codes keys rounds backs reads count wanted slots frames state used at line refusal =
+μ-loop text scope codes₀ keys₀ rounds₀ backs₀ reads₀ count₀ wanted₀ slots₀ frames₀ state₀ used₀ at₀ line₀ refusal₀ codes keys rounds backs reads count wanted slots frames state used at line refusal =
     length text - at
 
 -- a line that has passed: the loop's state, the entry, and where it is read and judged
@@ -41,21 +41,21 @@ entry c = so-far c .before .before .before .before .before .before
 abbrev read-at : (c : tie.Else1 Inv-loop μ-loop) → tie.After-next-line Inv-loop μ-loop
 read-at c = c .before .before .before
 
-abbrev sizes : (c : tie.Else1 Inv-loop μ-loop) → Sizes
-sizes c = entry c .args .sizes
+abbrev scope : (c : tie.Else1 Inv-loop μ-loop) → Scope
+scope c = entry c .args .scope
 
-limits : (c : tie.Else1 Inv-loop μ-loop) → Limits (sizes c)
+limits : (c : tie.Else1 Inv-loop μ-loop) → Limits (scope c .sizes)
 limits c = entry c .pre .0
 
 -- the codes behind it
 abbrev behind : (c : tie.After-next-line Inv-loop μ-loop) → List ℕ
 behind c = c .next-line .last .1 .1 .1 .1 .0
 
-passed : (c : tie.Else1 Inv-loop μ-loop) → Passes (sizes c) (so-far c .loop .inv .0) (behind (read-at c)) (partsOf (read-at c .next-line .result))
+passed : (c : tie.Else1 Inv-loop μ-loop) → Passes (scope c) (so-far c .loop .inv .0) (behind (read-at c)) (partsOf (read-at c .next-line .result))
 passed c =
     let r = read-at c in
     let n = r .next-line in
-    passes (sizes c) (so-far c .loop .inv .0) (partsOf (n .result)) (n .ensures .end-is) (r .before .before .loop-test .taken) (n .ensures .read)
+    passes (scope c) (so-far c .loop .inv .0) (partsOf (n .result)) (n .ensures .end-is) (r .before .before .loop-test .taken) (n .ensures .read)
     (sym (n .ensures .refusal-is) ∙ c .if1 .left)
 
 -- the line from where it is planned, and from where what it leaves is stored
@@ -173,7 +173,7 @@ returns c =
     (λ w. rw (c .refusal-or-last .ensures, w .1, w .2, l .loop .inv .1, or-none 0 _ refl) (answer-read (l .loop .inv .0) (s .pre .1) (w .0 .left)))
     (λ w.
     let n = w .2 in
-    let stop = stopped (s .args .sizes) (l .loop .inv .0) (partsOf (n .result)) (n .ensures .end-is) (w .0 .taken) (n .ensures .read)
+    let stop = stopped (s .args .scope) (l .loop .inv .0) (partsOf (n .result)) (n .ensures .end-is) (w .0 .taken) (n .ensures .read)
     (λ z. w .5 .taken (n .ensures .refusal-is ∙ z)) in
     rw (c .refusal-or-last .ensures, w .7, or-first _ _ (w .5 .taken))
     (answer-refused (n .result .refusal) _ _ (w .5 .taken) (stop ∙ ap (λ (m : ℕ). refused m _) (sym (n .ensures .refusal-is)))))

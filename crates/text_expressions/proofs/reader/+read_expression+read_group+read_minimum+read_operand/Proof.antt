@@ -92,7 +92,8 @@ group-calls t =
     (mark-reads.Asked, mark-reads.Learnt, expression-below t, read-expression.Post, close-group-reads.Asked, close-group-reads.Learnt)
 
 abbrev expression-joined : expression-lts.InvT-loop
-expression-joined line at sizes room codes₀ count next₀ codes next = Joined minimum expressionFrom expression sizes room (next₀ .seen) line at codes₀ count next codes
+expression-joined line at sizes room codes₀ count next₀ codes next = Joined minimum expressionFrom expression sizes room (next₀ .seen) line at codes₀ count
+    next codes
 
 abbrev expression-left : expression-lts.MeasureT-loop
 expression-left line at sizes room codes₀ count next₀ codes next = length line - next .at
@@ -103,41 +104,49 @@ module _ (t : ℕ) where
       let p = c .before .before .pre .1 .0 in
       joined-start sum-joins _ _ _ _ _ (p .2) (p .3)
 
-  expression-read-minimum-requires : expression-lts.Need-read-minimum-requires (expression-calls t) (expression-at t) read-expression.Post expression-joined expression-left
+  expression-read-minimum-requires : expression-lts.Need-read-minimum-requires (expression-calls t) (expression-at t) read-expression.Post
+      expression-joined expression-left
   expression-read-minimum-requires c κs =
       let p = c .before .before .before .before .before .pre in
       let w = c .before .before .loop .inv in
       (omega (arith, p .0), ((p .1 .0 .0, p .1 .0 .1, w .inside, w .few), joined-room sum-joins w (p .1 .1)))
 
   -- the ways back: to the loop from an element that was read, to the element, and the codes behind it
-  abbrev expression-round : (c : expression-lts.After-read-minimum (expression-calls t) (expression-at t) read-expression.Post expression-joined expression-left)
+  abbrev expression-round :
+      (c : expression-lts.After-read-minimum (expression-calls t) (expression-at t) read-expression.Post expression-joined expression-left)
       → expression-lts.At-loop (expression-calls t) (expression-at t) read-expression.Post expression-joined expression-left
   expression-round c = c .before .before .before
 
-  abbrev expression-element : (c : expression-lts.After-joined (expression-calls t) (expression-at t) read-expression.Post expression-joined expression-left)
+  abbrev expression-element :
+      (c : expression-lts.After-joined (expression-calls t) (expression-at t) read-expression.Post expression-joined expression-left)
       → expression-lts.After-read-minimum (expression-calls t) (expression-at t) read-expression.Post expression-joined expression-left
   expression-element c = c .before .before .before .before
 
-  abbrev expression-codes : (c : expression-lts.After-read-minimum (expression-calls t) (expression-at t) read-expression.Post expression-joined expression-left) → List ℕ
+  abbrev expression-codes :
+      (c : expression-lts.After-read-minimum (expression-calls t) (expression-at t) read-expression.Post expression-joined expression-left) → List ℕ
   expression-codes c = c .read-minimum .last .1 .1 .1 .1 .1 .0
 
-  expression-joined-requires : expression-lts.Need-joined-requires (expression-calls t) (expression-at t) read-expression.Post expression-joined expression-left
+  expression-joined-requires : expression-lts.Need-joined-requires (expression-calls t) (expression-at t) read-expression.Post expression-joined
+      expression-left
   expression-joined-requires c κs =
       let e = c .before .before .before in
       let l = expression-round e in
       joined-ready sum-joins (l .loop .inv) (expression-codes e) (l .before .before .before .pre .1 .1) (e .read-minimum .result) (e .read-minimum .ensures)
 
   -- another element is due, or that is all
-  expression-answered : (c : expression-lts.After-joined (expression-calls t) (expression-at t) read-expression.Post expression-joined expression-left) {y : Joining} → c .joined .result ≡ y →
+  expression-answered : (c : expression-lts.After-joined (expression-calls t) (expression-at t) read-expression.Post expression-joined expression-left)
+      {y : Joining} → c .joined .result ≡ y →
       let e = expression-element c in JoinedTo sum-joins (expression-round e .loop .inv) (expression-codes e) (c .joined .last .1 .0) y
   expression-answered c q =
       let e = expression-element c in
       let w = expression-round e .loop .inv in
       subst (JoinedTo sum-joins w (expression-codes e) (c .joined .last .1 .0)) q
-      (joined-by sum-joins w (expression-codes e) (c .joined .last .1 .0) (e .read-minimum .result) (e .read-minimum .ensures) (c .joined .result) (c .joined .ensures))
+      (joined-by sum-joins w (expression-codes e) (c .joined .last .1 .0) (e .read-minimum .result) (e .read-minimum .ensures) (c .joined .result)
+      (c .joined .ensures))
 
   expression-loop-less : expression-lts.Need-loop-less (expression-calls t) (expression-at t) read-expression.Post expression-joined expression-left
-  expression-loop-less c = let w = expression-answered (c .before .before .before .before .before) (c .before .more .given .1) in omega (arith, w .1, w .0 .inside)
+  expression-loop-less c = let w = expression-answered (c .before .before .before .before .before) (c .before .more .given .1) in omega
+      (arith, w .1, w .0 .inside)
 
   expression-loop-again : expression-lts.Need-loop-again (expression-calls t) (expression-at t) read-expression.Post expression-joined expression-left
   expression-loop-again c = expression-answered (c .before .before .before .before .before) (c .before .more .given .1) .0
@@ -152,7 +161,8 @@ module _ (t : ℕ) where
   expression-returns c = expression-answered (c .before .before .before .before .before) (c .before .done .given .1)
 
 abbrev minimum-joined : minimum-lts.InvT-loop
-minimum-joined line at sizes room codes₀ count next₀ codes next = Joined operand minimumFrom minimum sizes room (next₀ .seen) line at codes₀ count next codes
+minimum-joined line at sizes room codes₀ count next₀ codes next = Joined operand minimumFrom minimum sizes room (next₀ .seen) line at codes₀ count next
+    codes
 
 abbrev minimum-left : minimum-lts.MeasureT-loop
 minimum-left line at sizes room codes₀ count next₀ codes next = length line - next .at
@@ -185,19 +195,23 @@ module _ (t : ℕ) where
   minimum-joined-requires c κs =
       let e = c .before .before .before in
       let l = minimum-round e in
-      joined-ready smaller-joins (l .loop .inv) (minimum-codes e) (l .before .before .before .pre .1 .1) (e .read-operand .result) (e .read-operand .ensures)
+      joined-ready smaller-joins (l .loop .inv) (minimum-codes e) (l .before .before .before .pre .1 .1) (e .read-operand .result)
+      (e .read-operand .ensures)
 
   -- another element is due, or that is all
-  minimum-answered : (c : minimum-lts.After-joined (minimum-calls t) (minimum-at t) read-minimum.Post minimum-joined minimum-left) {y : Joining} → c .joined .result ≡ y →
+  minimum-answered : (c : minimum-lts.After-joined (minimum-calls t) (minimum-at t) read-minimum.Post minimum-joined minimum-left) {y : Joining} →
+      c .joined .result ≡ y →
       let e = minimum-element c in JoinedTo smaller-joins (minimum-round e .loop .inv) (minimum-codes e) (c .joined .last .1 .0) y
   minimum-answered c q =
       let e = minimum-element c in
       let w = minimum-round e .loop .inv in
       subst (JoinedTo smaller-joins w (minimum-codes e) (c .joined .last .1 .0)) q
-      (joined-by smaller-joins w (minimum-codes e) (c .joined .last .1 .0) (e .read-operand .result) (e .read-operand .ensures) (c .joined .result) (c .joined .ensures))
+      (joined-by smaller-joins w (minimum-codes e) (c .joined .last .1 .0) (e .read-operand .result) (e .read-operand .ensures) (c .joined .result)
+      (c .joined .ensures))
 
   minimum-loop-less : minimum-lts.Need-loop-less (minimum-calls t) (minimum-at t) read-minimum.Post minimum-joined minimum-left
-  minimum-loop-less c = let w = minimum-answered (c .before .before .before .before .before) (c .before .more .given .1) in omega (arith, w .1, w .0 .inside)
+  minimum-loop-less c = let w = minimum-answered (c .before .before .before .before .before) (c .before .more .given .1) in omega
+      (arith, w .1, w .0 .inside)
 
   minimum-loop-again : minimum-lts.Need-loop-again (minimum-calls t) (minimum-at t) read-minimum.Post minimum-joined minimum-left
   minimum-loop-again c = minimum-answered (c .before .before .before .before .before) (c .before .more .given .1) .0
@@ -230,7 +244,8 @@ module _ (t : ℕ) where
   operand-slice-write-codes c = let p = c .before .before .before .before .before .before .pre .1 in omega (arith, p .1, p .0 .2)
 
   operand-add-t16 : operand-lts.Need-add-t16 (operand-calls t) (operand-at t) read-operand.Post
-  operand-add-t16 c = let s = c .before .before .before .before .before .before .before in record { fits = omega (arith, s .pre .1 .1, s .pre .1 .0 .2, s .good) }
+  operand-add-t16 c = let s = c .before .before .before .before .before .before .before in record
+      { fits = omega (arith, s .pre .1 .1, s .pre .1 .0 .2, s .good) }
 
   operand-returns-2 : operand-lts.Need-returns-2 (operand-calls t) (operand-at t) read-operand.Post
   operand-returns-2 c =
@@ -245,10 +260,12 @@ module _ (t : ℕ) where
 
   group-returns : group-lts.Need-returns (group-calls t) (group-at t) read-group.Post
   unfolding operandBehind
-  group-returns c = group-none (c .before .before .before .before .before .pre .1 .1 .1) (subst (Passes true true openRound _ _) (c .enum-told .given .1) (c .before .before .mark .ensures))
+  group-returns c = group-none (c .before .before .before .before .before .pre .1 .1 .1)
+      (subst (Passes true true openRound _ _) (c .enum-told .given .1) (c .before .before .mark .ensures))
 
   -- the group opens
-  group-opens : (c : group-lts.After-known-told (group-calls t) (group-at t) read-group.Post) → let a = c .before .before .before .before .before .before .args in
+  group-opens : (c : group-lts.After-known-told (group-calls t) (group-at t) read-group.Post) → let a =
+      c .before .before .before .before .before .before .args in
       Passing true true openRound (now (a .line)) (a .at) (c .before .inner .given .0 .0)
   unfolding operandBehind
   group-opens c = subst (Passes true true openRound _ _) (c .before .inner .given .1) (c .before .before .before .mark .ensures)
@@ -275,7 +292,8 @@ module _ (t : ℕ) where
   group-close-group-requires c κs =
       let e = c .before .before in
       let a = e .before .before .before .before .before .before .before .before .before .args in
-      reading-inside expression (a .sizes) (a .room - 1) (a .«before») (now (a .line)) (e .before .before .before .before .inner .given .0 .0) (now (a .codes)) (group-codes e)
+      reading-inside expression (a .sizes) (a .room - 1) (a .«before») (now (a .line)) (e .before .before .before .before .inner .given .0 .0)
+      (now (a .codes)) (group-codes e)
       (a .count) (e .read-expression .result) (e .read-expression .ensures)
 
   group-same-length : group-lts.Need-same-length (group-calls t) (group-at t) read-group.Post
@@ -286,7 +304,8 @@ module _ (t : ℕ) where
       let e = c .before .before .before in
       let s = e .before .before .before .before .before .before .before .before .before in
       let a = s .args in
-      group-closed (a .sizes) (a .room) (a .«before») (s .pre .1 .0 .1) (e .before .before .if1 .left) (group-opens (e .before .before .before)) (now (a .codes)) (group-codes e)
+      group-closed (a .sizes) (a .room) (a .«before») (s .pre .1 .0 .1) (e .before .before .if1 .left) (group-opens (e .before .before .before))
+      (now (a .codes)) (group-codes e)
       (a .count) (e .read-expression .result) (c .close-group .result) (e .read-expression .ensures) (c .close-group .ensures)
 
 pub +read-expression+read-group+read-minimum+read-operand-spec : {M : Type 1} → statement M

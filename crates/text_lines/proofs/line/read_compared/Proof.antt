@@ -25,30 +25,45 @@ mark-requires c κs =
 returns-2 : tie.Need-returns-2
 unfolding operandBehind
 returns-2 c =
-    let d = subst (SideAt _ _ _ _ _ _) (c .before .before .before .before .before .seen .given .1) (c .before .before .before .before .before .before .before .before .before .read .ensures) in
-    no-colon _ _ _ _ _ _ _ d (c .no-form2 .ensures) (c .before .before .before .before .before .before .before .before .before .before .before .before .before .pre .1)
+    let k = c .before .before .before .before .before in
+    let r = k .before .before .before .before in
+    let s = r .before .before .before .before in
+    let d = subst (SideAt _ _ _ _ _ _) (k .seen .given .1) (r .read .ensures) in
+    no-colon _ _ _ _ _ _ _ d (c .no-form2 .ensures) (s .pre .1)
     (subst (Passes false false colon _ _) (c .before .enum-told2 .given .1) (c .before .before .before .mark .ensures))
 
 read-ruled-requires : tie.Need-read-ruled-requires
 unfolding operandBehind
 read-ruled-requires c κs =
-    let p = c .before .before .before .before .before .before .before .before .before .before .before .before .before .before .before .pre in
-    let d = subst (SideAt _ _ _ _ _ _) (c .before .before .before .before .before .before .before .seen .given .1) (c .before .before .before .before .before .before .before .before .before .before .before .read .ensures) in
-    let h = subst (Passes false false colon _ _) (c .before .before .before .start .given .1) (c .before .before .before .before .before .mark .ensures) in
-    (p .0, h .behind .inside, omega (arith, h .behind .onward, d .roomy), omega (arith, p .3, c .before .before .before .before .before .before .before .before .before .before .before .read .kept .1 .1 .1 .0))
+    let k = c .before .before .before .before .before in
+    let r = k .before .before in
+    let s = r .before .before .before .before in
+    let i = s .before .before .before .before in
+    let p = i .pre in
+    let d = subst (SideAt _ _ _ _ _ _) (r .seen .given .1) (s .read .ensures) in
+    let h = subst (Passes false false colon _ _) (c .before .before .before .start .given .1) (k .mark .ensures) in
+    (p .0, h .behind .inside, omega (arith, h .behind .onward, d .roomy), omega (arith, p .3, s .read .kept .1 .1 .1 .0))
 
 same-length-3 : tie.Need-same-length-3
-same-length-3 c = c .before .before .read-ruled .kept .1 .1 .1 .1 .0 ∙ c .before .before .before .before .before .before .before .before .before .before .before .before .before .before .read .kept .1 .1 .1 .0
+same-length-3 c =
+    let k = c .before .before .before .before .before .before .before .before .before .before .before .before .before .before in
+    c .before .before .read-ruled .kept .1 .1 .1 .1 .0 ∙ k .read .kept .1 .1 .1 .0
 
 returns-3 : tie.Need-returns-3
 unfolding operandBehind
 returns-3 c =
-    let d = subst (SideAt _ _ _ _ _ _) (c .before .before .before .before .before .before .before .before .before .before .seen .given .1) (c .before .before .before .before .before .before .before .before .before .before .before .before .before .before .read .ensures) in
-    let h = subst (Passes false false colon _ _) (c .before .before .before .before .before .before .start .given .1) (c .before .before .before .before .before .before .before .before .mark .ensures) in
-    compared _ _ _ _ _ _ _ d _ (c .before .before .before .before .when .ensures) h (c .before .before .read-ruled .ensures)
+    let k = c .before .before .before .before in
+    let r = k .before .before in
+    let s = r .before .before in
+    let i = s .before .before in
+    let n = i .before .before .before .before in
+    let d = subst (SideAt _ _ _ _ _ _) (i .seen .given .1) (n .read .ensures) in
+    let h = subst (Passes false false colon _ _) (r .start .given .1) (s .mark .ensures) in
+    compared _ _ _ _ _ _ _ d _ (k .when .ensures) h (c .before .before .read-ruled .ensures)
 
 pub read-compared-spec : {M : Type 1} → statement M
 read-compared-spec =
     tie.close
-    (tie.spec (λ c κs. search needs) (λ c. search needs) (λ c. search needs) (λ c κs. search needs) (λ c. search needs) returns mark-requires (λ c. search needs) (λ c. search needs)
+    (tie.spec (λ c κs. search needs) (λ c. search needs) (λ c. search needs) (λ c κs. search needs) (λ c. search needs) returns mark-requires
+    (λ c. search needs) (λ c. search needs)
     (λ c κs. search needs) (λ c. search needs) returns-2 (λ c κs. search needs) read-ruled-requires same-length-3 returns-3)

@@ -34,16 +34,21 @@ read-tested-requires c κs =
 
 returns : tie.Need-returns
 returns c =
-    if-line _ _ _ _ (passed (first (c .before .before .before .before .before .before)) (c .before .before .before .before .enum-told5 .given .1)) (c .before .before .read-tested .ensures)
+    let k = c .before .before .before .before in
+    let r = k .before .before in
+    if-line _ _ _ _ (passed (first (r)) (k .enum-told5 .given .1)) (c .before .before .read-tested .ensures)
 
 returns-2 : tie.Need-returns-2
 unfolding tokenCode
 returns-2 c =
-    let w = first (c .before .before .before .before .before .before) in
+    let r = c .before .before .before .before in
+    let s = r .before in
+    let i = s .before in
+    let w = first (i) in
     let others : List ℕ = 5 ∷ 6 ∷ 7 ∷ 8 ∷ 9 ∷ 10 ∷ 11 ∷ 12 ∷ 13 ∷ 14 ∷ 15 ∷ 16 ∷ 17 ∷ 18 ∷ 19 ∷ [] in
-    let k = c .before .before .before .before .before .match .keys6 in
+    let k = s .match .keys6 in
     rule-line-at _ _ _ _ (absent w stepWord (told others k tt)) (absent w endWord (told others k tt)) (absent w doneWord (told others k tt))
-    (absent w loopWord (told others k tt)) (absent w ifWord (told others k tt)) (c .before .before .before .before .always .ensures) (c .before .before .read-ruled .ensures)
+    (absent w loopWord (told others k tt)) (absent w ifWord (told others k tt)) (r .always .ensures) (c .before .before .read-ruled .ensures)
 
 returns-3 : tie.Need-returns-3
 unfolding tokens
@@ -72,7 +77,9 @@ returns-6 c =
 pub read-line-spec : {M : Type 1} → statement M
 read-line-spec =
     tie.close
-    (tie.spec (λ c κs. search needs) (λ c. search needs) (λ c κs. first (c .before .before) .inside) (λ c. search needs) (λ c κs. first (c .before .before) .inside)
+    (tie.spec (λ c κs. search needs) (λ c. search needs) (λ c κs. first (c .before .before) .inside) (λ c. search needs)
+    (λ c κs. first (c .before .before) .inside)
     (λ c. search needs) (λ c κs. first (c .before .before) .inside) (λ c. search needs)
-    (λ c κs. (c .before .before .before .before .before .pre .0, first (c .before .before) .inside)) (λ c. search needs) read-tested-requires (λ c. search needs)
+    (λ c κs. (c .before .before .before .before .before .pre .0, first (c .before .before) .inside)) (λ c. search needs) read-tested-requires
+    (λ c. search needs)
     returns (λ c κs. search needs) (λ c κs. search needs) (λ c. search needs) returns-2 returns-3 returns-4 returns-5 returns-6)

@@ -18,7 +18,8 @@ field-of-requires c κs = capital-low _
 
 word-line-requires : tie.Need-word-line-requires
 word-line-requires c κs =
-    let p = subst (PassesLetter false _ _) (c .before .before .before .letter2 .given .1) (c .before .before .before .before .before .letter .ensures false) in
+    let k = c .before .before .before .before .before in
+    let p = subst (PassesLetter false _ _) (c .before .before .before .letter2 .given .1) (k .letter .ensures false) in
     p .passing .behind .inside
 
 returns-2 : tie.Need-returns-2

@@ -14,9 +14,11 @@ returns c =
 
 returns-2 : tie.Need-returns-2
 returns-2 c =
-    ruled _ _ _ _ _ _ _ _ _ _ _ (c .both .ensures) (subst (ActionAt _ _ _ _ _ _ _) (c .before .before .before .rule .given .1) (c .before .before .before .before .before .before .before .read .ensures))
+    let k = c .before .before .before .before .before .before .before in
+    ruled _ _ _ _ _ _ _ _ _ _ _ (c .both .ensures) (subst (ActionAt _ _ _ _ _ _ _) (c .before .before .before .rule .given .1) (k .read .ensures))
 
 pub read-ruled-spec : {M : Type 1} → statement M
 read-ruled-spec =
     tie.close
-    (tie.spec (λ c κs. search needs) (λ c. search needs) (λ c. search needs) (λ c κs. search needs) (λ c. search needs) returns (λ c κs. search needs) (λ c. search needs) returns-2)
+    (tie.spec (λ c κs. search needs) (λ c. search needs) (λ c. search needs) (λ c κs. search needs) (λ c. search needs) returns (λ c κs. search needs)
+    (λ c. search needs) returns-2)

@@ -19,9 +19,13 @@ term-in-requires c κs =
 
 returns-2 : tie.Need-returns-2
 returns-2 c =
-    side-formed (subst (ExpressionAt _ _ _ _ _ _) (c .before .before .before .before .seen .given .1) (c .before .before .before .before .before .before .before .before .read .ensures)) (c .before .before .before .before .before .before .before .before .before .before .before .before .pre .0)
+    let k = c .before .before .before .before in
+    let r = k .before .before .before .before in
+    let s = r .before .before .before .before in
+    side-formed (subst (ExpressionAt _ _ _ _ _ _) (k .seen .given .1) (r .read .ensures)) (s .pre .0)
     (c .before .term-in .ensures) (c .codes-left .ensures)
 
 pub read-spec : {M : Type 1} → statement M
 read-spec =
-    tie.close (tie.spec (λ c κs. search needs) (λ c. search needs) (λ c. search needs) (λ c. search needs) returns term-in-requires (λ c κs. search needs) (λ c. search needs) returns-2)
+    tie.close (tie.spec (λ c κs. search needs) (λ c. search needs) (λ c. search needs) (λ c. search needs) returns term-in-requires (λ c κs. search needs)
+    (λ c. search needs) returns-2)

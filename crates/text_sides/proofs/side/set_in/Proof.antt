@@ -6,7 +6,10 @@ use Rattle.text_sides.proofs.side.set_in.Statement.{statement}
 use Rattle.text_sides.proofs.side.set_in.Tie as tie
 
 returns : tie.Need-returns
-returns c = held-pair _ _ _ _ (c .before .before .before .before .before .before .if1 .taken) (c .before .before .before .before .single .ensures) (c .before .before .single2 .ensures) (c .operator-in .ensures)
+returns c =
+    let k = c .before .before .before .before in
+    let r = k .before .before in
+    held-pair _ _ _ _ (r .if1 .taken) (k .single .ensures) (c .before .before .single2 .ensures) (c .operator-in .ensures)
 
 returns-2 : tie.Need-returns-2
 returns-2 c = held-set _ _ _ _ (c .before .if1 .left) (c .term-in .ensures)

@@ -13,7 +13,8 @@ returns c = ap Chain (c .chain .ensures) ∙ single-chain _ (sym (c .before .bef
 
 returns-2 : tie.Need-returns-2
 returns-2 c =
-    ap Number (kept (c .number .result) (c .number .ok) ∙ c .number .ensures) ∙ single-number _ (λ e. c .before .if1 .left (c .before .before .kind .ensures ∙ e))
+    ap Number (kept (c .number .result) (c .number .ok) ∙ c .number .ensures) ∙ single-number _
+    (λ e. c .before .if1 .left (c .before .before .kind .ensures ∙ e))
 
 pub single-spec : {M : Type 1} → statement M
 single-spec = tie.close (tie.spec (λ c κs. search needs) (λ c κs. search needs) returns (λ c κs. search needs) returns-2)

@@ -13,4 +13,5 @@ returns-2 : tie.Need-returns-2
 returns-2 c = held-tree _ _ _ (c .if1 .left)
 
 pub term-in-spec : {M : Type 1} → statement M
-term-in-spec = tie.close (tie.spec (λ c. search needs) (λ c. search needs) (λ c. search needs) (λ c κs. search needs) returns (λ c. search needs) (λ c. search needs) returns-2)
+term-in-spec = tie.close
+    (tie.spec (λ c. search needs) (λ c. search needs) (λ c. search needs) (λ c κs. search needs) returns (λ c. search needs) (λ c. search needs) returns-2)

@@ -22,7 +22,8 @@ unfolding operandBehind
 returns c =
     let s = c .before .before .before .before in
     let p = subst (PassesLetter _ _ _) (s .before .letter2 .given .1) (s .before .before .before .letter .ensures _) in
-    link-letter _ _ _ _ (p .passing .text) (p .passing .behind) (subst (Passes false false openSquare _ _) (c .before .end .given .1) (c .before .before .before .mark .ensures))
+    link-letter _ _ _ _ (p .passing .text) (p .passing .behind)
+    (subst (Passes false false openSquare _ _) (c .before .end .given .1) (c .before .before .before .mark .ensures))
 
 returns-2 : tie.Need-returns-2
 unfolding operandBehind

@@ -8,7 +8,8 @@ use Rattle.text_terms.proofs.term.read_term.Statement.{statement}
 use Rattle.text_terms.proofs.term.read_term.Tie as tie
 
 number-term-requires : tie.Need-number-term-requires
-number-term-requires c κs = (c .before .before .before .before .pre .1, subst (ChainPartsAt _ _ _ _) (c .enum-told .given .1) (c .before .before .read-chain .ensures))
+number-term-requires c κs =
+    (c .before .before .before .before .pre .1, subst (ChainPartsAt _ _ _ _) (c .enum-told .given .1) (c .before .before .read-chain .ensures))
 
 returns : tie.Need-returns
 returns c = c .number-term .ensures
