@@ -1,82 +1,70 @@
--- The messages of a word that leads from record to record are records.
-use Prim.Native.Nat.{ℕ, zero, suc, _≤_, _<_}
+-- The messages of a line that leads from record to record are records.
+use Prim.Native.Nat.{ℕ, zero, suc, _<_}
 use mathlib.Core.Path.{_≡_, refl}
 use mathlib.Core.Bool.{Bool, true, false, cond}
-use mathlib.Core.List.{List, [], _∷_, _++_}
-use mathlib.Core.Logic.{⊎-elim}
-use borrow.Author.Tests.{ltb-true}
-use lib.Dec.{eqb, ltb}
+use mathlib.Core.List.{List}
+use native.Mathlib.Omega.{arith}
+use lib.Dec.{eqb}
 use lib.IntN.{pos, natAbs}
-use Rattle.laws.proofs.Bools.{and-both}
 use Rattle.integers.proofs.Complement.{index-is}
 use Rattle.register.specs.Shape.{Valid}
 use Rattle.register.specs.declared.Sizes.{Sizes}
 use Rattle.register.specs.declared.cells.Cell.{Cell}
 use Rattle.chain.specs.declared.reading.Reading.{Reading}
 use Rattle.chain.specs.declared.reading.Reading.the-variants.{Missing, Value}
-use Rattle.laws.specs.Lists.{every}
-use Rattle.chain.specs.Word.{hop, refersTo}
-use Rattle.plan_theory.specs.Plan.{Fact, read, word, hops, front, rest, backNeed, round}
-use Rattle.laws.proofs.Cases.{lt-or-le}
-use Rattle.plan_theory.proofs.Facts.{front-rest}
-use Rattle.machine.proofs.Readable.{referring}
+use Rattle.chain.specs.Word.{hop, readCell, refersTo}
 use Rattle.chain.proofs.Following.{own-refers, hop-refers}
-use Rattle.machine_messages.specs.Held.{Held, knows, writer, needed, written, sent, heldAfter}
-use Rattle.gather_exchanges.proofs.Held.{writer-one, writer-back, needed-one, needed-rest}
+use Rattle.plan_lines.specs.Held.{lineAt}
+use Rattle.plan_lines.specs.Promised.{factAt}
+use Rattle.plan_lines.specs.declared.Plan.{Plan}
+use Rattle.gather_line.specs.Written.{ByLine, knownAt, writerAt, writtenAt, messageAt}
+use Rattle.gather_line.proofs.Writing.{none-or-line, known-own, known-told, writer-refers}
+use Rattle.gather_exchanges.specs.Lines.{fieldOf, LinesReady, LineStands}
+use Rattle.gather_exchanges.specs.Exchanged.{sentBy, heldTo}
 
--- both parts of such a word do
-referring-parts : (s : Sizes) (v w : List ℕ) → referring s (v ++ w) ≡ true → (referring s v ≡ true) × (referring s w ≡ true)
-unfolding every
-referring-parts s [] w h = (refl, h)
-referring-parts s (f ∷ v) w h =
-    let (a, b) = and-both (ltb f (s .references)) (referring s (v ++ w)) h in
-    let (c, d) = referring-parts s v w b in
-    (rw (a, c), d)
+-- a record's own reference
+cell-refers : {s : Sizes} {cells : List Cell} → Valid s cells → (v f : ℕ) → f < s .references → v < s .records
+    → refersTo (s .records) (readCell s cells v f) ≡ true
+unfolding hop
+cell-refers valid v f l h = hop-refers valid (Value (pos v)) f l (own-refers _ v h)
 
--- what is held of a word that leads from record to record is missing or a record
-abbrev Refers : Sizes → Held → Type 0
-Refers s held = (f : Fact) (u : ℕ) → u < s .records → referring s (word f) ≡ true → refersTo (s .records) (held f u) ≡ true
+module _ {s : Sizes} {cells : List Cell} {p : Plan} (valid : Valid s cells) (lines : LinesReady s p) where
+  -- what is held for such lines is missing or a record
+  abbrev Refers : ByLine → Type 0
+  Refers held = (i u : ℕ) → i < p .count → u < s .records → lines .leads i ≡ true → refersTo (s .records) (held i u) ≡ true
 
-module _ {s : Sizes} {cells : List Cell} (valid : Valid s cells) where
-  module _ (held : Held) (told : Refers s held) where
-    -- what a record knows of such a word
-    knows-refers : (v : ℕ) (w : List ℕ) → v < s .records → referring s w ≡ true → refersTo (s .records) (knows s cells held v w) ≡ true
-    unfolding knows every hop
-    knows-refers v [] l h = own-refers (s .records) v l
-    knows-refers v (f ∷ []) l h =
-        hop-refers valid (Value (pos v)) f (ltb-true f (s .references) (and-both (ltb f (s .references)) true h .0)) (own-refers (s .records) v l)
-    knows-refers v (f ∷ g ∷ w) l h = told (read (f ∷ g ∷ w)) v l h
+  -- so is what is sent over it
+  module _ (held : ByLine) (refer : Refers held) (i : ℕ) (b : i < p .count) where
+    abbrev stands : LineStands s p (lines .leads) i
+    stands = lines .each i b
 
-    -- a writer that is a record writes one
-    written-refers : (f : Fact) (x : Reading) → refersTo (s .records) x ≡ true → referring s (needed f) ≡ true
-        → refersTo (s .records) (written s cells held f x) ≡ true
-    unfolding written refersTo
-    written-refers f Missing r h = refl
-    written-refers f (Value z) r h = knows-refers (natAbs z) (needed f) (index-is (s .records) z r .1) h
+    pub sender-refers : (u : ℕ) → u < s .records → refersTo (s .records) (writerAt held (lineAt p i .back) u) ≡ true
+    sender-refers u h =
+        writer-refers held _ u (s .records) (λ e. refer _ u (omega (arith, stands .back-line e .before)) h (stands .back-leads e)) h
 
-    -- the writer is a record
-    writer-refers : (f : Fact) (u : ℕ) → u < s .records → referring s (word (backNeed f)) ≡ true
-        → refersTo (s .records) (writer held f u) ≡ true
-    writer-refers f u l h =
-        ⊎-elim
-        (λ (one : hops f < 2). rw (writer-one held f u one) (own-refers (s .records) u l))
-        (λ (two : 2 ≤ hops f). rw (writer-back held f u two) (told (backNeed f) u l h))
-        (lt-or-le (hops f) 2)
+    module _ (leads : lines .leads i ≡ true) where
+      known-refers : (v : ℕ) → v < s .records → refersTo (s .records) (knownAt s cells held (lineAt p i .read) (fieldOf (factAt p i)) v) ≡ true
+      known-refers v h =
+          none-or-line (lineAt p i .read)
+          (λ e. rw (← known-own s cells held _ _ v e) (cell-refers valid v _ (stands .own-leads leads e) h))
+          (λ e. rw (← known-told s cells held _ _ v e) (refer _ v (omega (arith, stands .read-line e .before)) h (stands .read-leads leads e)))
 
-    sent-refers : (f : Fact) (u : ℕ) → u < s .records → referring s (word f) ≡ true → refersTo (s .records) (sent s cells held f u) ≡ true
-    unfolding sent
-    sent-refers f u l h =
-        let parts = referring-parts s (front (word f)) (rest (word f)) (rw front-rest h) in
-        written-refers f (writer held f u) (writer-refers f u l (parts .0))
-        (⊎-elim (λ (one : hops f < 2). rw (needed-one f one) h) (λ (two : 2 ≤ hops f). rw (needed-rest f two) (parts .1)) (lt-or-le (hops f) 2))
+      written-refers : (x : Reading) → refersTo (s .records) x ≡ true
+          → refersTo (s .records) (writtenAt s cells held (lineAt p i .read) (fieldOf (factAt p i)) x) ≡ true
+      unfolding writtenAt refersTo
+      written-refers Missing r = refl
+      written-refers (Value z) r = known-refers (natAbs z) (index-is (s .records) z r .1)
+
+      sent-refers : (u : ℕ) → u < s .records → refersTo (s .records) (sentBy s cells p held i u) ≡ true
+      unfolding sentBy messageAt
+      sent-refers u h = written-refers (writerAt held (lineAt p i .back) u) (sender-refers u h)
 
   -- so it is after any number of exchanges
-  pub held-refers : (t : ℕ) → Refers s (heldAfter s cells t)
-  unfolding heldAfter refersTo
-  held-refers zero f u l h = refl
-  held-refers (suc t) f u l h = go (held-refers t) (eqb (round f) (suc t))
+  pub held-refers : (t : ℕ) → Refers (heldTo s cells p t)
+  unfolding heldTo refersTo
+  held-refers zero i u b h l = refl
+  held-refers (suc t) i u b h l = go (held-refers t) (eqb (lineAt p i .round) (suc t))
     where
-      go : Refers s (heldAfter s cells t) → (b : Bool)
-          → refersTo (s .records) (cond b (sent s cells (heldAfter s cells t) f u) (heldAfter s cells t f u)) ≡ true
-      go r true = sent-refers (heldAfter s cells t) r f u l h
-      go r false = r f u l h
+      go : Refers (heldTo s cells p t) → (c : Bool) → refersTo (s .records) (cond c (sentBy s cells p (heldTo s cells p t) i u) (heldTo s cells p t i u)) ≡ true
+      go r true = sent-refers (heldTo s cells p t) r i b l u h
+      go r false = r i u b h l

@@ -1,72 +1,102 @@
 -- One turn of an exchange: a line of its round, whose needs the places hold and whose messages are sent.
-use Prim.Native.Nat.{ℕ, suc, _+_, _*_, _≤_, _<_}
-use mathlib.Core.Path.{_≡_, sym, ap, _∙_}
+use Prim.Native.Nat.{ℕ, _+_, _*_, _≤_, _<_}
+use mathlib.Core.Path.{_≡_, sym, _∙_}
 use mathlib.Core.List.{List}
+use mathlib.Core.Logic.{_≢_}
 use native.Mathlib.Nat.{mul-le-mul-right}
 use native.Mathlib.Omega.{arith}
 use lib.IntN.{ℤ}
-use lib.ListN.{length}
 use Rattle.register.specs.Shape.{Valid}
 use Rattle.register.specs.declared.Sizes.{Sizes}
 use Rattle.register.specs.declared.cells.Cell.{Cell}
 use Rattle.chain.specs.declared.reading.Reading.{Reading}
-use Rattle.plan_theory.specs.Plan.{round, line}
-use Rattle.plan_lines.specs.Held.{facts, lineAt}
+use Rattle.plan_lines.specs.Held.{lineAt}
 use Rattle.plan_lines.specs.Promised.{factAt}
 use Rattle.plan_lines.specs.declared.Plan.{Plan}
-use Rattle.machine_messages.specs.Held.{heldAfter}
-use Rattle.gather_exchanges.specs.Lines.{OneHop, Lines, PlanReady}
-use Rattle.gather_line.specs.Written.{messageAt, LineReady, LineSent}
-use Rattle.gather_exchanges.specs.Exchanged.{HeldTo}
-use Rattle.gather_exchanges.proofs.Sending.{Earlier, plan-count, plan-line, plan-round, back-before, read-before, back-held, read-held, message-sent}
-use Rattle.gather_exchanges.proofs.Exchanging.{RoundSent, round-line, round-earlier}
+use Rattle.scratch.specs.Places.{Kept}
+use Rattle.scratch.proofs.Placed.{placeAt-kept}
+use Rattle.gather_line.specs.Written.{ByLine, placesOf, messageAt, LineHeld, BackHeld, LineReady, LineSent}
+use Rattle.gather_line.proofs.Places.{stored-place, stored-fits}
+use Rattle.gather_line.proofs.Writing.{none-or-line, writer-refers, message-alike}
+use Rattle.gather_exchanges.specs.Lines.{fieldOf, Asks, LineStands, PlanReady}
+use Rattle.gather_exchanges.specs.Exchanged.{sentBy, Agree, ExchangeReady, Exchanged, ExchangedTo}
+use Rattle.gather_exchanges.proofs.Exchanging.{lines-this}
+use Rattle.gather_exchanges.proofs.Referring.{held-refers}
 
--- there is room while the lengths stay
-pub ready-kept : {s : Sizes} {p : Plan} {values values′ : List ℤ} {marks marks′ : List ℕ} → PlanReady s p values marks
-    → length values′ ≡ length values → length marks′ ≡ length marks → PlanReady s p values′ marks′
-ready-kept r v m =
-    record { lines = r .lines; follow = r .follow; values-room = omega (arith, r .values-room); marks-room = omega (arith, r .marks-room) }
+-- the lines that a line asks have numbers of a byte
+pub asked-le : {p : Plan} {i : ℕ} (j : ℕ) → i < 64 → (j ≢ 64 → Asks p i j) → j ≤ 64
+asked-le j b asks = none-or-line j (λ e. omega arith) (λ e. omega (arith, asks e .before))
 
-module _ {s : Sizes} {cells : List Cell} {p : Plan} (valid : Valid s cells) {t : ℕ} {values values′ : List ℤ} {marks marks′ : List ℕ}
-    (ready : PlanReady s p values marks) (held : HeldTo s cells (facts p) t values marks)
-    (i : ℕ) (b : i < p .count) (now : lineAt p i .round ≡ suc t) {m : ℕ} (r : RoundSent s cells (facts p) (suc t) i values marks values′ marks′ m) where
-  lines : Lines p
-  lines = ready .lines
+-- behind the exchanges 1 to t the next one can be made
+pub next-ready : {s : Sizes} {cells : List Cell} {p : Plan} {t m : ℕ} {values values′ : List ℤ} {marks marks′ : List ℕ} → Valid s cells
+    → PlanReady s p values marks → ExchangedTo s cells p t values marks values′ marks′ m → ExchangeReady s p (t + 1) values′ marks′
+next-ready {t = t} valid r x =
+    record {
+      plan = record {
+        lines = r .lines;
+        values-room = omega (arith, r .values-room, x .values-length);
+        marks-room = omega (arith, r .marks-room, x .marks-length);
+      };
+      fits = λ i u h q b. stored-fits (x .held i u h q (omega arith));
+      refers = λ i u h q b l. rw (stored-place (x .held i u h q (omega arith))) (held-refers valid (r .lines) t i u h q l);
+    }
 
-  next : round (factAt p i) ≡ suc t
-  next = sym (lines .each i b .round-is) ∙ now
+module _ {s : Sizes} {cells : List Cell} {p : Plan} {t : ℕ} {values values′ : List ℤ} {marks marks′ : List ℕ} (ready : ExchangeReady s p t values marks)
+    (i : ℕ) (b : i < p .count) (now : lineAt p i .round ≡ t) {m : ℕ} (r : Exchanged s cells p t i values marks values′ marks′ m) where
+  abbrev stands : LineStands s p (ready .plan .lines .leads) i
+  stands = ready .plan .lines .each i b
 
-  room-values : i * s .records + s .records ≤ length values′
-  room-values = omega (arith, mul-le-mul-right (s .records) b, r .values-length, ready .values-room)
+  -- a line that it asks holds what it held
+  asked-kept : {j : ℕ} → Asks p i j → (u : ℕ) → u < s .records → Kept (j * s .records + u) values marks values′ marks′
+  asked-kept a u h = r .other _ u (a .before) h (λ e. omega (arith, a .earlier))
 
-  room-marks : i * s .records + s .records ≤ length marks′
-  room-marks = omega (arith, mul-le-mul-right (s .records) b, r .marks-length, ready .marks-room)
+  asked-held : {j : ℕ} → Asks p i j → LineHeld s values′ marks′ j
+  asked-held {j} a =
+      let l = mul-le-mul-right (s .records) (a .before) in
+      let k = mul-le-mul-right (s .records) b in
+      record {
+        values-room = omega (arith, r .values-length, ready .plan .values-room);
+        marks-room = omega (arith, r .marks-length, ready .plan .marks-room);
+        fits = λ u h. rw (asked-kept a u h .value-is) (ready .fits j u (omega (arith, a .before)) h (omega (arith, a .earlier)));
+      }
 
-  earlier : Earlier s cells (facts p) t i values′ marks′
-  earlier = round-earlier s cells (facts p) t held i (omega (arith, plan-count lines)) r
+  back-held : BackHeld s values′ marks′ (lineAt p i .back)
+  back-held =
+      record {
+        line = λ e. asked-held (stands .back-line e);
+        refers = λ e u h.
+            let a = stands .back-line e in
+            rw (placeAt-kept (asked-kept a u h)) (ready .refers _ u (omega (arith, a .before)) h (omega (arith, a .earlier)) (stands .back-leads e));
+      }
 
-  module _ (field : ℕ) (one : OneHop (factAt p i) field) where
-    -- all that the line asks for
-    pub turn-ready : LineReady s values′ marks′ i (lineAt p i .back) (lineAt p i .read) field
-    turn-ready =
-        record {
-          values-room = room-values;
-          marks-room = room-marks;
-          back-held = back-held lines i b (ready .follow) valid next (omega (arith, room-values)) (omega (arith, room-marks)) earlier;
-          read-held = read-held lines i b (ready .follow) valid next (omega (arith, room-values)) (omega (arith, room-marks)) earlier field one;
-          back-before = back-before lines i b;
-          read-before = read-before lines i b;
-        }
+  -- all that the line asks for
+  pub turn-ready : LineReady s values′ marks′ i (lineAt p i .back) (lineAt p i .read) (fieldOf (factAt p i))
+  turn-ready =
+      let k = mul-le-mul-right (s .records) b in
+      record {
+        values-room = omega (arith, r .values-length, ready .plan .values-room);
+        marks-room = omega (arith, r .marks-length, ready .plan .marks-room);
+        back-held = back-held;
+        read-held = record { own = stands .own-field; line = λ e. asked-held (stands .read-line e) };
+        back-before = λ e. stands .back-line e .before;
+        read-before = λ e. stands .read-line e .before;
+      }
 
-    -- the messages of the line, by the places of its needs
-    abbrev message : ℕ → Reading
-    message = messageAt s cells values′ marks′ (lineAt p i .back) (lineAt p i .read) field
+  -- the messages of the line, by the places of its needs
+  abbrev message : ℕ → Reading
+  message = messageAt s cells (placesOf s values′ marks′) (lineAt p i .back) (lineAt p i .read) (fieldOf (factAt p i))
 
-    message-is : (u : ℕ) → u < s .records → message u ≡ heldAfter s cells (suc t) (line (facts p) i) u
-    message-is u h =
-        message-sent lines i b (ready .follow) valid next (omega (arith, room-values)) (omega (arith, room-marks)) earlier field one u h
-        ∙ sym (ap (λ f. heldAfter s cells (suc t) f u) (plan-line lines i b))
+  asked-agree : {held : ByLine} → Agree s p t held values marks → {j : ℕ} → Asks p i j → (v : ℕ) → v < s .records → held j v ≡ placesOf s values′ marks′ j v
+  asked-agree agree a v l = sym (placeAt-kept (asked-kept a v l) ∙ agree _ v (omega (arith, a .before)) l (omega (arith, a .earlier)))
 
-    pub turn-sent : {values″ : List ℤ} {marks″ : List ℕ} {q : ℕ} → LineSent s message i (s .records) values′ marks′ values″ marks″ q
-        → RoundSent s cells (facts p) (suc t) (i + 1) values marks values″ marks″ (m + q)
-    turn-sent g = round-line s cells (facts p) (suc t) values marks i (omega (arith, plan-count lines)) r (sym (plan-round lines i b) ∙ now) g message-is
+  message-is : (held : ByLine) → Agree s p t held values marks → (u : ℕ) → u < s .records → message u ≡ sentBy s cells p held i u
+  unfolding sentBy
+  message-is held agree u h =
+      sym (message-alike s cells held (placesOf s values′ marks′) _ _ _ u
+      (λ e. asked-agree agree (stands .back-line e) u h)
+      (λ e. asked-agree agree (stands .read-line e))
+      (writer-refers _ _ u (s .records) (λ e. back-held .refers e u h) h))
+
+  pub turn-sent : {values″ : List ℤ} {marks″ : List ℕ} {q : ℕ} → LineSent s message i (s .records) values′ marks′ values″ marks″ q
+      → Exchanged s cells p t (i + 1) values marks values″ marks″ (m + q)
+  turn-sent g = lines-this i r now g message-is

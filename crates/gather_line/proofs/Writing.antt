@@ -23,9 +23,9 @@ use Rattle.chain.specs.Word.{readCell, refersTo, readingValue}
 use Rattle.laws.proofs.Cases.{lt-or-le}
 use Rattle.chain.proofs.Following.{own-refers}
 use Rattle.machine_messages.specs.Counts.{isSent}
-use Rattle.scratch.specs.Places.{placeAt, readingMark, Kept}
+use Rattle.scratch.specs.Places.{readingMark, Kept}
 use Rattle.scratch.proofs.Placed.{kept-same, kept-again, kept-other, placeAt-kept}
-use Rattle.gather_line.specs.Written.{knownAt, writerAt, writtenAt, messageAt, Before, LineHeld, ReadHeld, BackHeld, LineSent}
+use Rattle.gather_line.specs.Written.{ByLine, placesOf, knownAt, writerAt, writtenAt, messageAt, Before, LineHeld, ReadHeld, BackHeld, LineSent}
 use Rattle.gather_line.proofs.Sent.{line-nothing, line-more}
 use Rattle.gather_line.proofs.Places.{stored-kept, stored-set}
 
@@ -38,50 +38,74 @@ none-or-line {P} j none some = go (ℕ-discrete j 64)
     go (no n) = some n
 
 -- the writer
-module _ (s : Sizes) (values : List ℤ) (marks : List ℕ) (back u : ℕ) where
-  pub writer-own : back ≡ 64 → Value (pos u) ≡ writerAt s values marks back u
+module _ (held : ByLine) (back u : ℕ) where
+  pub writer-own : back ≡ 64 → Value (pos u) ≡ writerAt held back u
   unfolding writerAt
   writer-own e = simp (eq-eqb back 64 e)
 
-  pub writer-told : back ≢ 64 → placeAt values marks (back * s .records + u) ≡ writerAt s values marks back u
+  pub writer-told : back ≢ 64 → held back u ≡ writerAt held back u
   unfolding writerAt
   writer-told e = simp (ne-eqb back 64 e)
 
-module _ (s : Sizes) (cells : List Cell) (values : List ℤ) (marks : List ℕ) (read field : ℕ) where
+  -- is a record
+  pub writer-refers : (n : ℕ) → (back ≢ 64 → refersTo n (held back u) ≡ true) → u < n → refersTo n (writerAt held back u) ≡ true
+  writer-refers n h p =
+      none-or-line back
+      (λ e. rw (← writer-own e) (own-refers n u p))
+      (λ e. rw (← writer-told e) (h e))
+
+module _ (s : Sizes) (cells : List Cell) (held : ByLine) (read field : ℕ) where
   -- what a record knows
-  pub known-own : (v : ℕ) → read ≡ 64 → readCell s cells v field ≡ knownAt s cells values marks read field v
+  pub known-own : (v : ℕ) → read ≡ 64 → readCell s cells v field ≡ knownAt s cells held read field v
   unfolding knownAt
   known-own v e = simp (eq-eqb read 64 e)
 
-  pub known-told : (v : ℕ) → read ≢ 64 → placeAt values marks (read * s .records + v) ≡ knownAt s cells values marks read field v
+  pub known-told : (v : ℕ) → read ≢ 64 → held read v ≡ knownAt s cells held read field v
   unfolding knownAt
   known-told v e = simp (ne-eqb read 64 e)
 
   -- the message, by its writer
   module _ (back u : ℕ) where
-    pub message-none : Missing ≡ writerAt s values marks back u → Missing ≡ messageAt s cells values marks back read field u
+    pub message-none : Missing ≡ writerAt held back u → Missing ≡ messageAt s cells held back read field u
     unfolding messageAt writtenAt
-    message-none e = ap (writtenAt s cells values marks read field) e
+    message-none e = ap (writtenAt s cells held read field) e
 
-    pub message-by : {z : ℤ} (v : ℕ) → Value z ≡ writerAt s values marks back u → v ≡ natAbs z
-        → knownAt s cells values marks read field v ≡ messageAt s cells values marks back read field u
+    pub message-by : {z : ℤ} (v : ℕ) → Value z ≡ writerAt held back u → v ≡ natAbs z
+        → knownAt s cells held read field v ≡ messageAt s cells held back read field u
     unfolding messageAt writtenAt
-    message-by v e q = ap (knownAt s cells values marks read field) q ∙ ap (writtenAt s cells values marks read field) e
+    message-by v e q = ap (knownAt s cells held read field) q ∙ ap (writtenAt s cells held read field) e
 
--- the writer is a record
-pub writer-refers : (s : Sizes) (values : List ℤ) (marks : List ℕ) (back u : ℕ) → BackHeld s values marks back → u < s .records
-    → refersTo (s .records) (writerAt s values marks back u) ≡ true
-writer-refers s values marks back u h p =
-    none-or-line back
-    (λ e. rw (← writer-own s values marks back u e) (own-refers (s .records) u p))
-    (λ e. rw (← writer-told s values marks back u e) (h .refers e u p))
+-- lines that hold the same for what a message needs make the same message
+module _ (s : Sizes) (cells : List Cell) (held held′ : ByLine) (back read field u : ℕ) (backs : back ≢ 64 → held back u ≡ held′ back u)
+    (reads : read ≢ 64 → (v : ℕ) → v < s .records → held read v ≡ held′ read v) where
+  writer-alike : writerAt held back u ≡ writerAt held′ back u
+  writer-alike =
+      none-or-line back
+      (λ e. sym (writer-own held back u e) ∙ writer-own held′ back u e)
+      (λ e. sym (writer-told held back u e) ∙ backs e ∙ writer-told held′ back u e)
 
--- so its number is an index
+  known-alike : (v : ℕ) → v < s .records → knownAt s cells held read field v ≡ knownAt s cells held′ read field v
+  known-alike v l =
+      none-or-line read
+      (λ e. sym (known-own s cells held read field v e) ∙ known-own s cells held′ read field v e)
+      (λ e. sym (known-told s cells held read field v e) ∙ reads e v l ∙ known-told s cells held′ read field v e)
+
+  written-alike : (x : Reading) → refersTo (s .records) x ≡ true → writtenAt s cells held read field x ≡ writtenAt s cells held′ read field x
+  unfolding writtenAt refersTo
+  written-alike Missing r = refl
+  written-alike (Value z) r = known-alike (natAbs z) (index-is (s .records) z r .1)
+
+  pub message-alike : refersTo (s .records) (writerAt held′ back u) ≡ true
+      → messageAt s cells held back read field u ≡ messageAt s cells held′ back read field u
+  unfolding messageAt
+  message-alike r = ap (writtenAt s cells held read field) writer-alike ∙ written-alike (writerAt held′ back u) r
+
+-- the writer by the places is an index
 pub writer-index : {s : Sizes} {values : List ℤ} {marks : List ℕ} {back : ℕ} (u : ℕ) (z : ℤ) → BackHeld s values marks back → u < s .records
-    → Value z ≡ writerAt s values marks back u → T (nonNeg z) × (natAbs z < s .records)
+    → Value z ≡ writerAt (placesOf s values marks) back u → T (nonNeg z) × (natAbs z < s .records)
 unfolding refersTo
 writer-index {s} {values} {marks} {back} u z h p e =
-    let i = index-is (s .records) z (rw (← e) at (writer-refers s values marks back u h p)) in
+    let i = index-is (s .records) z (rw (← e) at (writer-refers (placesOf s values marks) back u (s .records) (λ n. h .refers n u p) p)) in
     (rw (i .0) tt, i .1)
 
 -- a place of a line before line i
@@ -114,33 +138,13 @@ module _ (s : Sizes) (i : ℕ) (values : List ℤ) (marks : List ℕ) (values′
           refers = λ e u p. rw (placeAt-kept (kept _ (place-before (s .records) (b e) p))) (h .refers e u p);
         }
 
-  module _ (cells : List Cell) (back read field u : ℕ) (bb : Before back i) (br : Before read i) (h : BackHeld s values marks back) (p : u < s .records) where
-    known-kept : (v : ℕ) → v < s .records → knownAt s cells values′ marks′ read field v ≡ knownAt s cells values marks read field v
-    known-kept v l =
-        none-or-line read
-        (λ e. sym (known-own s cells values′ marks′ read field v e) ∙ known-own s cells values marks read field v e)
-        (λ e.
-        sym (known-told s cells values′ marks′ read field v e) ∙ placeAt-kept (kept _ (place-before (s .records) (br e) l))
-        ∙ known-told s cells values marks read field v e)
-
-    writer-kept : writerAt s values′ marks′ back u ≡ writerAt s values marks back u
-    writer-kept =
-        none-or-line back
-        (λ e. sym (writer-own s values′ marks′ back u e) ∙ writer-own s values marks back u e)
-        (λ e.
-        sym (writer-told s values′ marks′ back u e) ∙ placeAt-kept (kept _ (place-before (s .records) (bb e) p)) ∙ writer-told s values marks back u e)
-
-    written-kept : (x : Reading) → refersTo (s .records) x ≡ true
-        → writtenAt s cells values′ marks′ read field x ≡ writtenAt s cells values marks read field x
-    unfolding writtenAt refersTo
-    written-kept Missing r = refl
-    written-kept (Value z) r = known-kept (natAbs z) (index-is (s .records) z r .1)
-
-    pub message-kept : messageAt s cells values′ marks′ back read field u ≡ messageAt s cells values marks back read field u
-    unfolding messageAt
-    message-kept =
-        ap (writtenAt s cells values′ marks′ read field) writer-kept
-        ∙ written-kept (writerAt s values marks back u) (writer-refers s values marks back u h p)
+  pub message-kept : (cells : List Cell) (back read field u : ℕ) → Before back i → Before read i → BackHeld s values marks back → u < s .records
+      → messageAt s cells (placesOf s values′ marks′) back read field u ≡ messageAt s cells (placesOf s values marks) back read field u
+  message-kept cells back read field u bb br h p =
+      message-alike s cells _ _ back read field u
+      (λ e. placeAt-kept (kept _ (place-before (s .records) (bb e) p)))
+      (λ e v l. placeAt-kept (kept _ (place-before (s .records) (br e) l)))
+      (writer-refers _ back u (s .records) (λ e. h .refers e u p) p)
 
 module _ (s : Sizes) (message : ℕ → Reading) (i : ℕ) (values : List ℤ) (marks : List ℕ) where
   pub line-none : LineSent s message i 0 values marks values marks 0

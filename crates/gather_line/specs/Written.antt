@@ -1,4 +1,4 @@
--- What a writer finds and writes, by places. A line is given by the lines of its two needs, 64 where it needs none, and where
+-- What a writer finds and writes, by what the lines of its needs hold. A line is given by the lines of its two needs, 64 where it needs none, and where
 -- it needs no Read line by the field of the one hop that its writer has to know.
 use mathlib.Core.Path.{_≡_}
 use mathlib.Core.Bool.{true, cond}
@@ -18,14 +18,22 @@ use Rattle.chain.specs.Word.{hasField, readCell, refersTo, readingValue}
 use Rattle.machine_messages.specs.Counts.{lineMessages}
 use Rattle.scratch.specs.Places.{placeAt, readingMark, Kept}
 
--- the writer for origin u: u, or the addressee of the message of line `back`
-unfoldable pub writerAt : Sizes → List ℤ → List ℕ → ℕ → ℕ → Reading
-writerAt s values marks back u = cond (eqb back 64) (Value (pos u)) (placeAt values marks (back * s .records + u))
+-- what lines hold, line by line and origin by origin
+abbrev pub ByLine : Type 0
+ByLine = ℕ → ℕ → Reading
 
-module _ (s : Sizes) (cells : List Cell) (values : List ℤ) (marks : List ℕ) where
+-- what they hold in the places of the scratch buffers: "Line i, from 0, and origin u have place i × n + u"
+abbrev pub placesOf : Sizes → List ℤ → List ℕ → ByLine
+placesOf s values marks i u = placeAt values marks (i * s .records + u)
+
+-- the writer for origin u: u, or the addressee of the message of line `back`
+unfoldable pub writerAt : ByLine → ℕ → ℕ → Reading
+writerAt held back u = cond (eqb back 64) (Value (pos u)) (held back u)
+
+module _ (s : Sizes) (cells : List Cell) (held : ByLine) where
   -- what record v knows: its own cell, or what the message of line `read` told it
   unfoldable pub knownAt : ℕ → ℕ → ℕ → Reading
-  knownAt read field v = cond (eqb read 64) (readCell s cells v field) (placeAt values marks (read * s .records + v))
+  knownAt read field v = cond (eqb read 64) (readCell s cells v field) (held read v)
 
   -- what a writer writes; where there is none, nothing
   unfoldable pub writtenAt : ℕ → ℕ → Reading → Reading
@@ -34,7 +42,7 @@ module _ (s : Sizes) (cells : List Cell) (values : List ℤ) (marks : List ℕ) 
 
   -- the message for origin u
   unfoldable pub messageAt : ℕ → ℕ → ℕ → ℕ → Reading
-  messageAt back read field u = writtenAt read field (writerAt s values marks back u)
+  messageAt back read field u = writtenAt read field (writerAt held back u)
 
 -- a need's line, where there is one, stands before line i
 abbrev pub Before : ℕ → ℕ → Type 0
@@ -54,7 +62,7 @@ pub record ReadHeld (s : Sizes) (values : List ℤ) (marks : List ℕ) (read fie
 -- and so can the writer, who is a record
 pub record BackHeld (s : Sizes) (values : List ℤ) (marks : List ℕ) (back : ℕ) : Type 0 where
   pub line : back ≢ 64 → LineHeld s values marks back
-  pub refers : back ≢ 64 → (u : ℕ) → u < s .records → refersTo (s .records) (placeAt values marks (back * s .records + u)) ≡ true
+  pub refers : back ≢ 64 → (u : ℕ) → u < s .records → refersTo (s .records) (placesOf s values marks back u) ≡ true
 
 -- line i has its places, and what its messages are made of can be looked up in lines before it
 pub record LineReady (s : Sizes) (values : List ℤ) (marks : List ℕ) (i back read field : ℕ) : Type 0 where

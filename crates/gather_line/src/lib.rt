@@ -4,7 +4,7 @@ ghost use Prim.Native.Nat.{_≤_, _<_};
 ghost use Rattle.register.specs.Cells.{cellsOf};
 ghost use Rattle.register.specs.Shape.{Parts};
 ghost use Rattle.machine_messages.specs.Counts.{isSent};
-ghost use Rattle.gather_line.specs.Written.{writerAt, knownAt, messageAt, ReadHeld, BackHeld, LineReady, LineSent};
+ghost use Rattle.gather_line.specs.Written.{placesOf, writerAt, knownAt, messageAt, ReadHeld, BackHeld, LineReady, LineSent};
 use chain::follow;
 use chain::reading::Reading;
 use register::Sizes;
@@ -16,7 +16,7 @@ const NO_LINE: usize = 64;
 // Who writes for origin u: u itself, or the addressee of the message of line `back`; missing where that was not sent.
 fn writer(values: &[i64], marks: &[u8], sizes: Sizes, u: usize, back: usize) -> Reading
     requires { ⌜ (sizes .records ≤ 4096) × (u < sizes .records) × BackHeld sizes (now values) (now marks) back ⌝ }
-    ensures { λ r. ⌜ r ≡ writerAt sizes (now (values .entry)) (now (marks .entry)) back u ⌝ }
+    ensures { λ r. ⌜ r ≡ writerAt (placesOf sizes (now (values .entry)) (now (marks .entry))) back u ⌝ }
 {
     if back == NO_LINE {
         return Reading::Value(integers::of_index(u));
@@ -37,7 +37,8 @@ fn known(
     field: usize,
 ) -> Reading
     requires { ⌜ Parts sizes (now cells) (now filled) × (v < sizes .records) × ReadHeld sizes (now values) (now marks) read field ⌝ }
-    ensures { λ r. ⌜ r ≡ knownAt sizes (cellsOf (now (cells .entry)) (now (filled .entry))) (now (values .entry)) (now (marks .entry)) read field v ⌝ }
+    ensures { λ r. ⌜ r ≡ knownAt sizes (cellsOf (now (cells .entry)) (now (filled .entry)))
+        (placesOf sizes (now (values .entry)) (now (marks .entry))) read field v ⌝ }
 {
     if read == NO_LINE {
         return follow::read_cell(cells, filled, sizes, v, field);
@@ -57,8 +58,10 @@ fn message(
     read: usize,
     field: usize,
 ) -> Reading
-    requires { ⌜ Parts sizes (now cells) (now filled) × (u < sizes .records) × BackHeld sizes (now values) (now marks) back × ReadHeld sizes (now values) (now marks) read field ⌝ }
-    ensures { λ r. ⌜ r ≡ messageAt sizes (cellsOf (now (cells .entry)) (now (filled .entry))) (now (values .entry)) (now (marks .entry)) back read field u ⌝ }
+    requires { ⌜ Parts sizes (now cells) (now filled) × (u < sizes .records) × BackHeld sizes (now values) (now marks) back
+        × ReadHeld sizes (now values) (now marks) read field ⌝ }
+    ensures { λ r. ⌜ r ≡ messageAt sizes (cellsOf (now (cells .entry)) (now (filled .entry)))
+        (placesOf sizes (now (values .entry)) (now (marks .entry))) back read field u ⌝ }
 {
     let Reading::Value(number) = writer(values, marks, sizes, u, back) else {
         return Reading::Missing;
@@ -90,8 +93,9 @@ pub fn exchange(
     field: usize,
 ) -> usize
     requires { ⌜ Parts sizes (now cells) (now filled) × LineReady sizes (now values) (now marks) i back read field ⌝ }
-    ensures { λ r. ⌜ LineSent sizes (messageAt sizes (cellsOf (now (cells .entry)) (now (filled .entry))) (now (values .entry)) (now (marks .entry)) back read field)
-        i (sizes .records) (now (values .entry)) (now (marks .entry)) (now (values .exit)) (now (marks .exit)) r ⌝ }
+    ensures { λ r. ⌜ LineSent sizes (messageAt sizes (cellsOf (now (cells .entry)) (now (filled .entry)))
+        (placesOf sizes (now (values .entry)) (now (marks .entry))) back read field) i (sizes .records)
+        (now (values .entry)) (now (marks .entry)) (now (values .exit)) (now (marks .exit)) r ⌝ }
 {
     let first = i * sizes.records;
     let mut sent = 0;

@@ -32,7 +32,7 @@ pub fn word_at(s: &[u8], at: usize) -> u32
 }
 
 // The value whose bits are those of `bits`.
-fn signed(bits: u32) -> i32
+pub fn signed(bits: u32) -> i32
     ensures { λ r. ⌜ r ≡ toZ w32 bits ⌝ }
 {
     if bits < 2147483648 {
@@ -62,7 +62,7 @@ pub fn put_value(s: &mut [u8], at: usize, value: i32)
 }
 
 // The bits of `value`.
-fn unsigned(value: i32) -> u32
+pub fn unsigned(value: i32) -> u32
     ensures { λ r. ⌜ r ≡ ofZ w32 value ⌝ }
 {
     if value < 0 {

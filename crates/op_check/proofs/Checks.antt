@@ -22,12 +22,13 @@ use Rattle.plan_lines.proofs.Adding.{holds-facts}
 use Rattle.plan_lines.proofs.Appending.{holds-count}
 use Rattle.program.specs.declared.setting.Setting.the-variants.{Single}
 use Rattle.program.specs.Program.{Step, Program, mostLines, stepPlan}
+use Rattle.text_rules.specs.declared.scope.Scope.{Scope}
 use Rattle.text_rules.specs.Text.{lines, start, readFrom, textProgram, check, rulesAt, PlanResult, planResult, planOfStep}
-use Rattle.program.specs.Code.{Codes}
 use Rattle.program.specs.Kept.{programOf, Framed}
 use Rattle.text_reader.specs.Answers.{checkOutcome, Answers}
 use Rattle.op_limits.specs.Admitted.{admitted}
 use Rattle.op_limits.proofs.Admitting.{admitted-both}
+use Rattle.op_check.specs.Checked.{scopeOf}
 use Rattle.op_check.specs.StepPlan.{zip, linesOf, planOutcome, PlanAnswers, StepFound, RefusedPlan}
 use Rattle.program.specs.declared.frame.Frame.{Frame}
 use Rattle.text_reader.specs.declared.Checked.{Checked}
@@ -43,7 +44,7 @@ asked-first (O.done s) false f = refl
 asked-first (refused n k) b f = refl
 
 module _ (file t : List ℕ) where
-  check-admitted : check file t ≡ after (admitted file t) (λ s. readFrom s start 1 (lines t))
+  check-admitted : check file t ≡ after (admitted file t) (λ s. readFrom (record { sizes = s }) start 1 (lines t))
   unfolding check textProgram admitted
   check-admitted = asked-first (load file) (ltb 8192 (length t)) _
 
@@ -56,7 +57,7 @@ module _ (file t : List ℕ) where
     unfolding unless
     admitted-sizes h = sym a ∙ rw h
 
-    pub check-read : r ≡ 0 → check file t ≡ readFrom (sizesOf file) start 1 (lines t)
+    pub check-read : r ≡ 0 → check file t ≡ readFrom (scopeOf file) start 1 (lines t)
     unfolding after
     check-read h = check-admitted ∙ rw (admitted-sizes h)
 
@@ -64,19 +65,19 @@ module _ (file t : List ℕ) where
     read-both h = admitted-both file t (admitted-sizes h)
 
 -- the answer of the reader for all of the text
-pub read-whole : {k : Codes} {places : List ℕ} {r : Checked} (file t : List ℕ) {s : Sizes} {n : ℕ} → (s ≡ sizesOf file) × (n ≡ length t)
-    → check file t ≡ readFrom (sizesOf file) start 1 (lines t) → Answers k places (readFrom s start 1 (lines (take n t))) r → Answers k places (check file t) r
-read-whole {k} {places} {r} file t {s} {n} whole e a =
+pub read-whole : {codes : List ℕ} {r : Checked} (file t : List ℕ) {scope : Scope} {n : ℕ} → (scope ≡ scopeOf file) × (n ≡ length t)
+    → check file t ≡ readFrom (scopeOf file) start 1 (lines t) → Answers codes (readFrom scope start 1 (lines (take n t))) r → Answers codes (check file t) r
+read-whole {codes} {r} file t {scope} {n} whole e a =
     let all : take n t ≡ t = ap (λ (m : ℕ). take m t) (whole .1) ∙ take-all (length t) t (omega arith) in
-    subst (λ (o : Outcome Program). Answers k places o r) (ap₂ (λ (x : Sizes) (l : List ℕ). readFrom x start 1 (lines l)) (whole .0) all ∙ sym e) a
+    subst (λ (o : Outcome Program). Answers codes o r) (ap₂ (λ (x : Scope) (l : List ℕ). readFrom x start 1 (lines l)) (whole .0) all ∙ sym e) a
 
 -- an answer that is refused, and one that is not
-module _ {k : Codes} {places : List ℕ} {o : Outcome Program} {r : Checked} (a : Answers k places o r) where
+module _ {codes : List ℕ} {o : Outcome Program} {r : Checked} (a : Answers codes o r) where
   pub answered-refused : (r .refusal ≡ 0 → ⊥) → o ≡ refused (r .refusal) (r .line)
   unfolding checkOutcome
-  answered-refused h = sym (a .outcome-is) ∙ refuse-none (r .refusal) (r .line) (O.done (programOf k (r .program))) h
+  answered-refused h = sym (a .outcome-is) ∙ refuse-none (r .refusal) (r .line) (O.done (programOf codes (r .program))) h
 
-  pub answered-program : r .refusal ≡ 0 → o ≡ O.done (programOf k (r .program))
+  pub answered-program : r .refusal ≡ 0 → o ≡ O.done (programOf codes (r .program))
   unfolding checkOutcome unless
   answered-program h = sym (a .outcome-is) ∙ rw h
 

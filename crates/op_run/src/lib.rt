@@ -37,18 +37,8 @@ fn run_text(
     ensures { λ r. ⌜ Answered machine (directRun (now (file .entry)) (now (text .entry)) budget (lengths (now (out .entry)) (now (values .entry)) (now (marks .entry))))
         (now (file .entry)) (now (out .entry)) (now (values .entry)) (now (marks .entry)) (now (out .exit)) (now (values .exit)) (now (marks .exit)) r ⌝ }
 {
-    let mut kinds = [0u8; 8192];
-    let mut numbers = [0i32; 8192];
-    let mut chains = [0u64; 8192];
-    let mut places = [0u8; 8192];
-    let checked = check::read(
-        file,
-        text,
-        &mut kinds,
-        &mut numbers,
-        &mut chains,
-        &mut places,
-    );
+    let mut codes = [0u64; 8192];
+    let checked = check::read(file, text, &mut codes);
     if checked.refusal != 0 {
         return refused(checked.refusal, checked.line);
     }
@@ -63,10 +53,7 @@ fn run_text(
         values,
         marks,
         sizes,
-        &kinds,
-        &numbers,
-        &chains,
-        &places,
+        &codes,
         program,
         machine,
         budget,

@@ -1,6 +1,7 @@
 -- What holds of the terms of a rule, and codes that agree below a place: rules whose codes stand there are the same.
-use Prim.Native.Nat.{ℕ, _-_, _≤_}
+use Prim.Native.Nat.{ℕ, _-_, _≤_, _<_}
 use mathlib.Core.Path.{_≡_, refl, ap, ap₂, subst}
+use mathlib.Core.List.{List}
 use native.Mathlib.Omega.{arith}
 use Rattle.program.specs.declared.term.Term.{Term}
 use Rattle.program.specs.declared.term.Term.the-variants.{Chain, Number, Tree}
@@ -10,7 +11,7 @@ use Rattle.program.specs.declared.rule.Rule.{Rule}
 use Rattle.program.specs.declared.rule.Rule.the-variants.{Set, Combine, Remote}
 use Rattle.program.specs.declared.rule.Slot.{Slot}
 use Rattle.program.specs.Program as P
-use Rattle.program.specs.Code.{decoded, Formed, Codes, codesOf, treeIn, SameBelow}
+use Rattle.program.specs.Code.{decoded, Formed, codeOf, codeAt, codesIn, treeIn, SameBelow}
 use Rattle.program.specs.Stored.{termIn, testIn, expressionIn, ruleIn}
 use Rattle.program.specs.Terms.{TestTerms, RuleTerms, SlotTerms, TermFrom, TermInside, TermFormed}
 use Rattle.program.proofs.Codes.{codes-agree}
@@ -54,34 +55,48 @@ from-less l (Chain c) h = tt
 from-less l (Number z) h = tt
 from-less l (Tree from to) h = omega (arith, l, h)
 
-module _ (k k′ : Codes) {n : ℕ} (same : SameBelow k k′ n) where
-  codes-same : (from to : ℕ) → to ≤ n → codesOf k from to ≡ codesOf k′ from to
-  codes-same from to h =
-      codes-agree (k .kinds) (k′ .kinds) (k .numbers) (k′ .numbers) (k .chains) (k′ .chains) from (to - from)
-      (λ j l b. same j (omega (arith, h, l, b)))
+-- codes that are the same below a place, wherever their chains are found
+module _ (codes codes′ : List ℕ) {n : ℕ} (alike : (i : ℕ) → i < n → codeAt codes i ≡ codeAt codes′ i) where
+  codes-alike : (from to : ℕ) → to ≤ n → codesIn codes from to ≡ codesIn codes′ from to
+  codes-alike from to h = codes-agree codes codes′ from (to - from) (λ j l b. alike j (omega (arith, h, l, b)))
 
-  pub term-same : (x : Term) → TermInside n x → termIn k x ≡ termIn k′ x
+  term-alike : (x : Term) → TermInside n x → termIn codes x ≡ termIn codes′ x
   unfolding termIn treeIn
-  term-same (Chain c) h = refl
-  term-same (Number z) h = refl
-  term-same (Tree from to) h = ap decoded (codes-same from to h)
+  term-alike (Chain c) h = refl
+  term-alike (Number z) h = refl
+  term-alike (Tree from to) h = ap decoded (codes-alike from to h)
 
-  pub formed-same : (x : Term) → TermInside n x → TermFormed k x → TermFormed k′ x
-  formed-same (Chain c) h f = tt
-  formed-same (Number z) h f = tt
-  formed-same (Tree from to) h f = record { formed = subst Formed (codes-same from to h) (f .formed); some = f .some }
+  pub formed-alike : (x : Term) → TermInside n x → TermFormed codes x → TermFormed codes′ x
+  formed-alike (Chain c) h f = tt
+  formed-alike (Number z) h f = tt
+  formed-alike (Tree from to) h f = record { formed = subst Formed (codes-alike from to h) (f .formed); some = f .some }
 
-  pub test-same : (x : Test) → TestTerms (TermInside n) x → testIn k x ≡ testIn k′ x
+  test-alike : (x : Test) → TestTerms (TermInside n) x → testIn codes x ≡ testIn codes′ x
   unfolding testIn
-  test-same Always h = refl
-  test-same (When x c y) h = ap₂ (λ (u v : P.Expression). P.when u c v) (term-same x (h .0)) (term-same y (h .1))
+  test-alike Always h = refl
+  test-alike (When x c y) h = ap₂ (λ (u v : P.Expression). P.when u c v) (term-alike x (h .0)) (term-alike y (h .1))
 
-  expression-same : (x : Rule) → RuleTerms (TermInside n) x → expressionIn k x ≡ expressionIn k′ x
+  expression-alike : (x : Rule) → RuleTerms (TermInside n) x → expressionIn codes x ≡ expressionIn codes′ x
   unfolding expressionIn
-  expression-same (Set f x) h = term-same x h
-  expression-same (Combine f op x y) h = ap₂ (P.operation op) (term-same x (h .0)) (term-same y (h .1))
-  expression-same (Remote sort f c x) h = term-same x h
+  expression-alike (Set f x) h = term-alike x h
+  expression-alike (Combine f op x y) h = ap₂ (P.operation op) (term-alike x (h .0)) (term-alike y (h .1))
+  expression-alike (Remote sort f c x) h = term-alike x h
 
-  pub rule-same : (x : Slot) → SlotTerms (TermInside n) x → ruleIn k x ≡ ruleIn k′ x
+  pub rule-alike : (x : Slot) → SlotTerms (TermInside n) x → ruleIn codes x ≡ ruleIn codes′ x
   unfolding ruleIn
-  rule-same x h = rw (test-same (x .test) (h .0), expression-same (x .rule) (h .1))
+  rule-alike x h = rw (test-alike (x .test) (h .0), expression-alike (x .rule) (h .1))
+
+-- codes that are the same there
+module _ (codes codes′ : List ℕ) {n : ℕ} (same : SameBelow codes codes′ n) where
+  pub alike : (i : ℕ) → i < n → codeAt codes i ≡ codeAt codes′ i
+  unfolding codeAt
+  alike i l = ap codeOf (same i l)
+
+  pub term-same : (x : Term) → TermInside n x → termIn codes x ≡ termIn codes′ x
+  term-same = term-alike codes codes′ alike
+
+  pub formed-same : (x : Term) → TermInside n x → TermFormed codes x → TermFormed codes′ x
+  formed-same = formed-alike codes codes′ alike
+
+  pub test-same : (x : Test) → TestTerms (TermInside n) x → testIn codes x ≡ testIn codes′ x
+  test-same = test-alike codes codes′ alike

@@ -15,7 +15,7 @@ use Rattle.program.specs.declared.rule.Operator.{Operator}
 use Rattle.program.specs.declared.rule.Operator.the-variants.{Plus, Minus, Smaller}
 use Rattle.program.specs.declared.rule.Sort.{Sort}
 use Rattle.program.specs.declared.rule.Sort.the-variants.{Total}
-use Rattle.program.specs.Program.{Expression, reading, constant, operation, Test, always, when, Target, own, remote, Rule, Step, Program, stepPlan, targetField, someTarget, isLeast, isTotal}
+use Rattle.program.specs.Program.{Expression, reading, constant, operation, operators, Test, always, when, Target, own, remote, Rule, Step, Program, stepPlan, targetField, someTarget, isLeast, isTotal}
 use Rattle.laws.specs.Lists.{Each}
 
 -- "Its kind is that of the outermost letter, `u` being a reference"
@@ -49,6 +49,11 @@ abbrev pub TestPasses : Sizes → Test → Type 0
 TestPasses s always = Unit {0}
 TestPasses s (when x c y) = ExpressionPasses s x × ExpressionPasses s y × (isReferenceExpression x ≡ isReferenceExpression y)
 
+-- 25: at most 64 operators in an expression, each side of a test being one
+abbrev pub TestFew : Test → Type 0
+TestFew always = Unit {0}
+TestFew (when x c y) = (operators x ≤ 64) × (operators y ≤ 64)
+
 -- C, "a chain of reference kind", and that the field of a `+=` is a measure
 pub record RemotePasses (s : Sizes) (k : Sort) (f : ℕ) (c : List ℕ) : Type 0 where
   pub passes : Passes s c
@@ -64,6 +69,7 @@ pub record RulePasses (s : Sizes) (r : Rule) : Type 0 where
   pub field : hasField s (targetField (r .target)) ≡ true
   pub target : TargetPasses s (r .target)
   pub expression : ExpressionPasses s (r .expression)
+  pub few : TestFew (r .test) × (operators (r .expression) ≤ 64)
   pub alike : isReference (targetField (r .target)) ≡ isReferenceExpression (r .expression)
 
 -- the rules of a step: "32 rules a step", "one field takes one sort of remote write"

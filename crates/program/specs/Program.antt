@@ -1,5 +1,5 @@
 -- The program that a rules text describes: steps of rules over the register's fields, the readings of a step and its plan.
-use Prim.Native.Nat.{ℕ, max}
+use Prim.Native.Nat.{ℕ, suc, _+_, max}
 use mathlib.Core.Bool.{Bool, true, false, _||_}
 use mathlib.Core.List.{List, [], _∷_, _++_}
 use lib.IntN.{ℤ}
@@ -17,6 +17,12 @@ pub data Expression : Type 0 where
   reading : List ℕ → Expression
   constant : ℤ → Expression
   operation : Operator → Expression → Expression → Expression
+
+-- how many operations an expression has
+unfoldable pub operators : Expression → ℕ
+operators (reading w) = 0
+operators (constant z) = 0
+operators (operation op x y) = suc (operators x + operators y)
 
 -- "Before any of them may stand `if X < Y: `"
 pub data Test : Type 0 where

@@ -12,31 +12,31 @@ use Rattle.program.specs.declared.rule.Rule.the-variants.{Set, Combine, 
 use Rattle.program.specs.declared.rule.Slot.{Slot}
 use Rattle.program.specs.declared.location.Located.{Located}
 use Rattle.program.specs.Program as P
-use Rattle.program.specs.Code.{Codes, treeIn}
+use Rattle.program.specs.Code.{treeIn}
 
--- a term, a test, where a rule writes and what, as the program has them; k are the codes beside the rules
-unfoldable pub termIn : Codes → Term → P.Expression
-termIn k (Chain n) = P.reading (unpack n)
-termIn k (Number z) = P.constant z
-termIn k (Tree from to) = treeIn k from to
+-- a term, a test, where a rule writes and what, as the program has them, with the codes beside the rules
+unfoldable pub termIn : List ℕ → Term → P.Expression
+termIn codes (Chain n) = P.reading (unpack n)
+termIn codes (Number z) = P.constant z
+termIn codes (Tree from to) = treeIn codes from to
 
-unfoldable pub testIn : Codes → Test → P.Test
-testIn k Always = P.always
-testIn k (When x c y) = P.when (termIn k x) c (termIn k y)
+unfoldable pub testIn : List ℕ → Test → P.Test
+testIn codes Always = P.always
+testIn codes (When x c y) = P.when (termIn codes x) c (termIn codes y)
 
 unfoldable pub targetIn : Rule → P.Target
 targetIn (Set f x) = P.own f
 targetIn (Combine f op x y) = P.own f
 targetIn (Remote k f c x) = P.remote k f (unpack c)
 
-unfoldable pub expressionIn : Codes → Rule → P.Expression
-expressionIn k (Set f x) = termIn k x
-expressionIn k (Combine f op x y) = P.operation op (termIn k x) (termIn k y)
-expressionIn k (Remote sort f c x) = termIn k x
+unfoldable pub expressionIn : List ℕ → Rule → P.Expression
+expressionIn codes (Set f x) = termIn codes x
+expressionIn codes (Combine f op x y) = P.operation op (termIn codes x) (termIn codes y)
+expressionIn codes (Remote sort f c x) = termIn codes x
 
-unfoldable pub ruleIn : Codes → Slot → P.Rule
-ruleIn k x = record { test = testIn k (x .test); target = targetIn (x .rule); expression = expressionIn k (x .rule) }
+unfoldable pub ruleIn : List ℕ → Slot → P.Rule
+ruleIn codes x = record { test = testIn codes (x .test); target = targetIn (x .rule); expression = expressionIn codes (x .rule) }
 
 -- the first n rules of a step's 32 places
-unfoldable pub rulesIn : Codes → ℕ → List Located → List P.Rule
-rulesIn k n places = map (λ x. ruleIn k (x .slot)) (take n places)
+unfoldable pub rulesIn : List ℕ → ℕ → List Located → List P.Rule
+rulesIn codes n places = map (λ x. ruleIn codes (x .slot)) (take n places)

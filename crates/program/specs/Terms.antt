@@ -1,7 +1,7 @@
 -- What holds of the terms of a rule in the array.
 use Prim.Native.Nat.{ℕ, _≤_, _<_}
 use mathlib.Core.List.{List}
-use Rattle.program.specs.Code.{Codes, Formed, codesOf, EachChain}
+use Rattle.program.specs.Code.{Formed, codesIn, EachChain}
 use Rattle.program.specs.declared.term.Term.{Term}
 use Rattle.program.specs.declared.term.Term.the-variants.{Chain, Number, Tree}
 use Rattle.program.specs.declared.rule.Test.{Test}
@@ -39,21 +39,21 @@ TermInside n (Number z) = Unit {0}
 TermInside n (Tree from to) = to ≤ n
 
 -- they are those of an expression
-pub record TreeFormed (k : Codes) (from to : ℕ) : Type 0 where
-  pub formed : Formed (codesOf k from to)
+pub record TreeFormed (codes : List ℕ) (from to : ℕ) : Type 0 where
+  pub formed : Formed (codesIn codes from to)
   pub some : from < to
 
-abbrev pub TermFormed : Codes → Term → Type 0
-TermFormed k (Chain c) = Unit {0}
-TermFormed k (Number z) = Unit {0}
-TermFormed k (Tree from to) = TreeFormed k from to
+abbrev pub TermFormed : List ℕ → Term → Type 0
+TermFormed codes (Chain c) = Unit {0}
+TermFormed codes (Number z) = Unit {0}
+TermFormed codes (Tree from to) = TreeFormed codes from to
 
--- P holds of the place of each chain, and of its word; the places of a tree's chains are beside its codes
-module _ (P : Location → List ℕ → Type 0) (kinds chains places : List ℕ) where
+-- P holds of where each chain is found, and of its word; of a tree's chains its codes tell it
+module _ (P : Location → List ℕ → Type 0) (codes : List ℕ) where
   abbrev pub TermPlaced : Location → Term → Type 0
   TermPlaced at (Chain c) = P at (unpack c)
   TermPlaced at (Number z) = Unit {0}
-  TermPlaced at (Tree from to) = EachChain P kinds chains places from to
+  TermPlaced at (Tree from to) = EachChain P codes from to
 
   abbrev pub TestPlaced : Places → Test → Type 0
   TestPlaced p Always = Unit {0}

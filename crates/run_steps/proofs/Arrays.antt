@@ -9,7 +9,6 @@ use lib.Seq.{drop-drop, getD-take, getD-drop, length-take-le, take-suc, take-suc
 use Rattle.program.specs.declared.location.Located.{Located}
 use Rattle.program.specs.declared.setting.Setting.the-variants.{Single}
 use Rattle.program.specs.Program.{Step, Program}
-use Rattle.program.specs.Code.{Codes}
 use Rattle.program.specs.Stored.{rulesIn}
 use Rattle.program.specs.declared.frame.Frame.{Frame}
 use Rattle.laws.specs.Lists.{Each}
@@ -31,7 +30,7 @@ noFrame = record {
 }
 
 -- step i has the rules of its 32 places, and its frame's setting
-steps-at : (codes : Codes) (slots : List Located) (fs : List Frame) (i : ℕ) (d : Step) (e : Frame) → i < length fs
+steps-at : (codes : List ℕ) (slots : List Located) (fs : List Frame) (i : ℕ) (d : Step) (e : Frame) → i < length fs
     → getD (stepsIn codes slots fs) i d ≡ record { rules = rulesIn codes (getD fs i e .rules) (take 32 (drop (32 * i) slots)); setting = getD fs i e .setting }
 unfolding stepsIn
 steps-at codes slots [] i d e h = absurd (omega arith)
@@ -42,7 +41,7 @@ steps-at codes slots (f ∷ fs) (suc i) d e h =
     ∙ ap (λ (l : List Located). record { rules = rulesIn codes (getD fs i e .rules) (take 32 l); setting = getD fs i e .setting })
     (drop-drop (32 * i) 32 slots ∙ ap (λ (k : ℕ). drop k slots) next)
 
-steps-length : (codes : Codes) (slots : List Located) (fs : List Frame) → length (stepsIn codes slots fs) ≡ length fs
+steps-length : (codes : List ℕ) (slots : List Located) (fs : List Frame) → length (stepsIn codes slots fs) ≡ length fs
 unfolding stepsIn
 steps-length codes slots [] = refl
 steps-length codes slots (f ∷ fs) = ap suc (steps-length codes (drop 32 slots) fs)
@@ -51,27 +50,27 @@ steps-length codes slots (f ∷ fs) = ap suc (steps-length codes (drop 32 slots)
 abbrev pub placesOf : List Located → ℕ → List Located
 placesOf slots i = take 32 (drop (32 * i) slots)
 
-abbrev StepLocated : Codes → List ℕ → Frame → List Located → Type 0
-StepLocated codes chained f places = Each (LocatedAmong (facts (f .plan)) (f .wanted) codes chained) (take (f .rules) places)
+abbrev StepLocated : List ℕ → Frame → List Located → Type 0
+StepLocated codes f places = Each (LocatedAmong (facts (f .plan)) (f .wanted) codes) (take (f .rules) places)
 
-located-at : (codes : Codes) (chained : List ℕ) (slots : List Located) (fs : List Frame) (i : ℕ) (e : Frame) → i < length fs → AllLocated codes chained slots fs → StepLocated codes chained (getD fs i e) (placesOf slots i)
-located-at codes chained slots [] i e h k = absurd (omega arith)
-located-at codes chained slots (f ∷ fs) zero e h k = k .0
-located-at codes chained slots (f ∷ fs) (suc i) e h k =
+located-at : (codes : List ℕ) (slots : List Located) (fs : List Frame) (i : ℕ) (e : Frame) → i < length fs → AllLocated codes slots fs → StepLocated codes (getD fs i e) (placesOf slots i)
+located-at codes slots [] i e h k = absurd (omega arith)
+located-at codes slots (f ∷ fs) zero e h k = k .0
+located-at codes slots (f ∷ fs) (suc i) e h k =
     let next : 32 + 32 * i ≡ 32 * suc i = omega arith in
-    subst (λ (l : List Located). StepLocated codes chained (getD fs i e) (take 32 l)) (drop-drop (32 * i) 32 slots ∙ ap (λ (k : ℕ). drop k slots) next)
-    (located-at codes chained (drop 32 slots) fs i e (omega arith) (k .1))
+    subst (λ (l : List Located). StepLocated codes (getD fs i e) (take 32 l)) (drop-drop (32 * i) 32 slots ∙ ap (λ (k : ℕ). drop k slots) next)
+    (located-at codes (drop 32 slots) fs i e (omega arith) (k .1))
 
 -- step i of a program that is kept in its arrays
-pub record StepAt (codes : Codes) (chained : List ℕ) (p : R.Program) (i : ℕ) (f : Frame) (x : Step) : Type 0 where
+pub record StepAt (codes : List ℕ) (p : R.Program) (i : ℕ) (f : Frame) (x : Step) : Type 0 where
   pub frame : FrameOf f (x .rules)
   pub setting-is : x .setting ≡ f .setting
   pub rules-are : x .rules ≡ rulesIn codes (f .rules) (placesOf (p .slots) i)
-  pub located : StepLocated codes chained f (placesOf (p .slots) i)
+  pub located : StepLocated codes f (placesOf (p .slots) i)
 
-pub step-at : (codes : Codes) (chained : List ℕ) (p : R.Program) (i : ℕ) (d : Step) (e : Frame) → Complete codes chained p → i < p .steps → StepAt codes chained p i (getD (p .frames) i e) (getD (programOf codes p) i d)
+pub step-at : (codes : List ℕ) (p : R.Program) (i : ℕ) (d : Step) (e : Frame) → Complete codes p → i < p .steps → StepAt codes p i (getD (p .frames) i e) (getD (programOf codes p) i d)
 unfolding programOf
-step-at codes chained p i d e k h =
+step-at codes p i d e k h =
     let fs = take (p .steps) (p .frames) in
     let inside : i < length (programOf codes p) = omega (arith, k .steps-are) in
     let there : i < length fs = omega (arith, steps-length codes (p .slots) fs, inside) in
@@ -81,14 +80,14 @@ step-at codes chained p i d e k h =
       frame = frame-at (p .frames) (programOf codes p) i d e (k .framed) inside;
       setting-is = ap (λ (x : Step). x .setting) at ∙ ap (λ (f : Frame). f .setting) same;
       rules-are = ap (λ (x : Step). x .rules) at ∙ ap (λ (f : Frame). rulesIn codes (f .rules) (placesOf (p .slots) i)) same;
-      located = subst (λ (f : Frame). StepLocated codes chained f (placesOf (p .slots) i)) same (located-at codes chained (p .slots) fs i e there (k .located));
+      located = subst (λ (f : Frame). StepLocated codes f (placesOf (p .slots) i)) same (located-at codes (p .slots) fs i e there (k .located));
     }
 
 -- the 32 places of step i
 abbrev pub slotsAt : R.Program → ℕ → List Located
 slotsAt p i = placesOf (p .slots) i
 
-module _ {codes : Codes} {chained : List ℕ} (p : R.Program) (i : ℕ) (k : Complete codes chained p) (h : i < 32) where
+module _ {codes : List ℕ} (p : R.Program) (i : ℕ) (k : Complete codes p) (h : i < 32) where
   pub slots-length : length (slotsAt p i) ≡ 32
   slots-length = length-take-le 32 (drop (32 * i) (p .slots)) (omega (arith, length-drop (32 * i) (p .slots), k .slots-length))
 

@@ -1,6 +1,6 @@
 -- The end of a turn: what the step's rules leave, where a sum or total stops it, and where the run stands behind it.
 use Prim.Native.Nat.{ℕ, suc, _+_, _≤_, _<_}
-use mathlib.Core.Path.{_≡_, refl, sym, ap, _∙_}
+use mathlib.Core.Path.{_≡_, refl, sym, ap, subst, _∙_}
 use mathlib.Core.Bool.{false}
 use mathlib.Core.List.{List}
 use native.Mathlib.Omega.{arith}
@@ -13,10 +13,11 @@ use Rattle.register.specs.declared.cells.Cell.{Cell}
 use Rattle.register.specs.declared.cells.Cell.the-variants.{Missing}
 use Rattle.program.specs.declared.location.Located.{Located}
 use Rattle.program.specs.declared.frame.Frame.{Frame}
-use Rattle.program.specs.Code.{Codes}
 use Rattle.program.specs.Kept.{programOf}
 use Rattle.program.specs.declared.Program as R
 use Rattle.machine.specs.Run.{direct}
+use Rattle.machine.specs.declared.message.Message.{Message}
+use Rattle.machine.specs.Remote.{recordMessages}
 use Rattle.machine.specs.Step.{stepCells}
 use Rattle.machine.proofs.Untouched.{step-untouched}
 use Rattle.machine.proofs.Folding.{stepCells-length}
@@ -28,7 +29,7 @@ use Rattle.step_cells.specs.Work.{HoldsCells, Same}
 use Rattle.step_cells.specs.declared.stop.Stop.{Stop}
 use Rattle.step_cells.specs.declared.stop.Stop.the-variants.{Nowhere, At}
 use Rattle.step_cells.proofs.Working.{same-refl, same-then, proper-held}
-use Rattle.step_rules.specs.Delivered.{Delivered}
+use Rattle.step_rules.specs.Delivered.{Delivers, Delivered, AllSend}
 use Rattle.step_rules.specs.Stepped.{GoesThrough}
 use Rattle.step_rules.proofs.Remotes.{silent-step}
 use Rattle.step_rules.proofs.Stepping.{AllDone, all-done, goes-through, total-stops}
@@ -40,10 +41,11 @@ use Rattle.run_turn.specs.Turned.{sendsBy, EndReady, StepCounted, FinishedBy}
 use Rattle.run_turn.proofs.Turning.{not-both}
 use Rattle.run_steps.specs.Answer.{stoppedAt, Ends}
 use Rattle.run_steps.proofs.Bounds.{few-more, writes-few}
+use Rattle.run_steps.proofs.Finding.{followed}
 use Rattle.run_steps.proofs.Counting.{counts-step}
 use Rattle.run_steps.proofs.Standing.{Behind, Stands, stands-offended, stands-next, passed-column, StandsBy, turns, turns-nearer}
 use Rattle.run_steps.proofs.Turn.{Turn, frame, at, base, cells, inside, stepHere, rs, at-step, step-passes, limits, out-whole, few-steps, setting-passes, Prepared, ls}
-use Rattle.run_steps.proofs.Turn.{rules-taken, filled, lines-before, lines-few, step-room, step-working, step-sends, room-still, Applied}
+use Rattle.run_steps.proofs.Turn.{rules-taken, filled, lines-before, lines-few, step-room, step-working, step-sends, room-still, agrees-still, Applied}
 
 -- what stands below `base` is kept
 kept-below : {base j : ℕ} {values values′ : List ℤ} {marks marks′ : List ℕ} → j < base → Same base values marks values′ marks′
@@ -54,8 +56,8 @@ kept-below {base} {j} {values} {values′} {marks} {marks′} h a =
       mark-is = sym (getD-take base marks′ j 0 h) ∙ ap (λ (l : List ℕ). getD l j 0) (a .marks-same) ∙ getD-take base marks j 0 h;
     }
 
-module _ {m : Machine} {s : Sizes} {codes : Codes} {chained : List ℕ} {p : R.Program} {budget : ℕ} {file : List ℕ} {run : Progress}
-    {out : List ℕ} {values : List ℤ} {marks : List ℕ} {f : Frame} {a : Turn m s codes chained p budget file run out values marks f}
+module _ {m : Machine} {s : Sizes} {codes : List ℕ} {p : R.Program} {budget : ℕ} {file : List ℕ} {run : Progress}
+    {out : List ℕ} {values : List ℤ} {marks : List ℕ} {f : Frame} {a : Turn m s codes p budget file run out values marks f}
     {places : List Located} {values₂ : List ℤ} {marks₂ : List ℕ} {begun : Begun} where
   -- a local sum is out of range
   ends-local : (b : Prepared a places values₂ marks₂ begun) {values₃ : List ℤ} {marks₃ : List ℕ} {stop : Stop} → Applied b values₃ marks₃ stop
@@ -67,25 +69,32 @@ module _ {m : Machine} {s : Sizes} {codes : Codes} {chained : List ℕ} {p : R.P
   -- the rules of the step are done, local and remote, where none stops
   pub record Done (b : Prepared a places values₂ marks₂ begun) (stop : Stop) (values₄ : List ℤ) (marks₄ : List ℕ) (sent : ℕ) : Type 0 where
     pub same : Same (base a) values₂ marks₂ values₄ marks₄
-    pub all : stop ≡ Nowhere → AllDone s (cells a) (base a) (rs a) values₄ marks₄ sent
+    pub all : stop ≡ Nowhere → AllDone s (followed s (cells a)) (cells a) (base a) (rs a) values₄ marks₄ sent
 
   module _ {b : Prepared a places values₂ marks₂ begun} {stop : Stop} {values₃ values₄ : List ℤ} {marks₃ marks₄ : List ℕ} {sent : ℕ}
       (l : Applied b values₃ marks₃ stop) where
-    delivers : Same (base a) values₃ marks₃ values₄ marks₄ → (stop ≡ Nowhere → Delivered s (cells a) (base a) (ls b) values₃ marks₃ values₄ marks₄ sent)
+    delivers : Same (base a) values₃ marks₃ values₄ marks₄ → (stop ≡ Nowhere → Delivers s (base a) (recordMessages (followed s (cells a)) (ls b) (s .records)) values₃ marks₃ values₄ marks₄ 0 sent)
         → Done b stop values₄ marks₄ sent
     delivers k d = record {
       same = same-then (l .same) k;
       all = λ e.
-          all-done s (cells a) (rs a) (a .stands .register .valid .count) (step-working b) (rw (rules-taken b) at (l .all e)) (rw (rules-taken b) at (d e));
+          all-done s (followed s (cells a)) (cells a) (rs a) (a .stands .register .valid .count) (step-working b) (rw (rules-taken b) at (l .all e))
+          (rw (rules-taken b) at (d e));
     }
 
-    pub done-remote : {values′ : List ℤ} {marks′ : List ℕ} {sent′ : ℕ} → Delivered s (cells a) (base a) (ls b) values₃ marks₃ values′ marks′ sent′
+    -- they are those that the places tell
+    pub done-remote : {values′ : List ℤ} {marks′ : List ℕ} {sent′ : ℕ}
+        → Delivered s (base a) (AllSend s (cells a) values₃ marks₃ (base a) codes (frame a .rules) places (λ read. recordMessages read (ls b) (s .records)))
+        values₃ marks₃ values′ marks′ 0 sent′
         → values₄ ≡ values′ → marks₄ ≡ marks′ → sent ≡ sent′ → Done b stop values₄ marks₄ sent
-    done-remote d v k n = delivers (rw (v, k) (d .same)) (λ e. rw (v, k, n) d)
+    done-remote {values′} {marks′} {sent′} d v k n =
+        delivers (rw (v, k) (d .delivers .same)) (λ e.
+        let told = d .tells (followed s (cells a)) (agrees-still b (l .same)) (l .all e .in-range) in
+        rw (v, k, n) (subst (λ (ms : List Message). Delivers s (base a) ms values₃ marks₃ values′ marks′ 0 sent′) told (d .delivers)))
 
     pub done-local : sendsBy stop (frame a .remote) ≡ false → values₄ ≡ values₃ → marks₄ ≡ marks₃ → sent ≡ 0 → Done b stop values₄ marks₄ sent
     done-local none v k n =
-        delivers (rw (v, k) same-refl) (λ e. rw (v, k, n) (silent-step s (cells a) (ls b) (sym (step-sends b) ∙ (rw e at none))))
+        delivers (rw (v, k) same-refl) (λ e. rw (v, k, n) (silent-step s (followed s (cells a)) (ls b) (sym (step-sends b) ∙ (rw e at none))))
 
   module _ {b : Prepared a places values₂ marks₂ begun} {stop : Stop} {values₄ : List ℤ} {marks₄ : List ℕ} {sent : ℕ}
       (d : Done b stop values₄ marks₄ sent) (e : stop ≡ Nowhere) where
@@ -111,14 +120,14 @@ module _ {m : Machine} {s : Sizes} {codes : Codes} {chained : List ℕ} {p : R.P
         → Ends m s (programOf codes p) budget file out′ (stoppedAt (run .finished) (run .counts) u c)
     unfolding direct
     ends-total h =
-        stands-offended (a .stands) (inside a) (a .later) (total-stops s out (rs a) (d .all e) (stop-first s after after-count (base a) after-held h))
+        stands-offended (a .stands) (inside a) (a .later) (total-stops s (followed s (cells a)) out (rs a) (d .all e) (stop-first s after after-count (base a) after-held h))
 
     -- or the step goes through
     goes : {out′ : List ℕ} → AllCommitted s (base a) (frame a .fields) values₄ marks₄ out out′
         → GoesThrough s (direct s (rs a) (cells a)) (rs a) out out′ (base a) values₄ marks₄ sent
     unfolding direct
     goes c =
-        goes-through s out (rs a) (d .all e) (committed-in-range s after after-count (base a) after-held (a .stands .register) untouched c)
+        goes-through s (followed s (cells a)) out (rs a) (d .all e) (committed-in-range s after after-count (base a) after-held (a .stands .register) untouched c)
         (committed-file s after after-count (base a) after-held (a .stands .register) untouched c)
 
     -- the column of the loop stands where it stood

@@ -16,6 +16,7 @@ use Rattle.laws.proofs.Lists.{each-of, each-all, mem-map}
 use Rattle.register.specs.Shape.{Valid}
 use Rattle.register.specs.declared.Sizes.{Sizes}
 use Rattle.register.specs.declared.cells.Cell.{Cell}
+use Rattle.chain.specs.declared.reading.Reading.{Reading}
 use Rattle.chain.specs.Word.{Passes, readable, unpack, hop, follow, valueAtRecord}
 use Rattle.plan_theory.specs.Plan.{Fact, read, lineIndex, line}
 use Rattle.plan_theory.proofs.Kept.{plan-promise}
@@ -30,10 +31,11 @@ use Rattle.program.specs.declared.location.Location.{Location}
 use Rattle.program.specs.declared.location.Places.{Places}
 use Rattle.program.specs.declared.location.Located.{Located}
 use Rattle.program.specs.Program as P
-use Rattle.program.specs.Program.{Target, own, remote, expressionReadings, testReadings, targetReadings, ruleReadings, readings, stepPlan}
-use Rattle.program.specs.Passed.{TargetPasses, RulePasses, RulesPass}
+use Rattle.program.specs.Program.{operators, expressionReadings, testReadings, targetReadings, ruleReadings, readings, stepPlan}
+use Rattle.program.specs.Passed.{TestFew, TargetPasses, RulePasses, RulesPass}
 use Rattle.program.specs.Stored.{termIn, testIn, targetIn, expressionIn, ruleIn, rulesIn}
-use Rattle.program.specs.Code.{Codes, decoded, codeReadings, codesOf, treeIn}
+use Rattle.program.specs.Code.{decoded, codeReadings, codesIn, treeIn, EachChain}
+use Rattle.program.specs.Terms.{TermPlaced, TestPlaced, RulePlaced, SlotPlaced}
 use Rattle.program.specs.Location.{locationOf, Wants, WordLocated, TreeLocated, TermLocated, TestLocated, RuleLocated, LocatedAmong}
 use Rattle.program.proofs.Codes.{postfix-readings, chain-listed}
 use Rattle.machine.specs.Run.{direct}
@@ -41,10 +43,14 @@ use Rattle.machine.proofs.Readings.{rule-pass}
 use Rattle.machine.proofs.Direct.{direct-refers}
 use Rattle.scratch.specs.Places.{placeAt, storedAt}
 use Rattle.gather_follow.specs.Filled.{Filled}
-use Rattle.step_terms.specs.Found.{foundAt, followed, WordFound, TreeFound, TermFound, TestFound, RuleFound, RuleReads}
-use Rattle.step_rules.specs.Ready.{Targets, RuleReady, AllReady}
+use Rattle.step_terms.specs.Found.{foundAt, Reaches, Agrees, TermReaches, TestReaches, RuleReaches, SlotReaches, TargetFound, Within}
+use Rattle.step_rules.specs.Ready.{RuleReady, AllReady, RuleAgrees, AllAgree}
 
--- the places of the lines that are wanted hold what is had by following
+-- what record u reads for a word, by following
+abbrev pub followed : Sizes → List Cell → ℕ → List ℕ → Reading
+followed s cells u w = valueAtRecord s cells w u
+
+-- the places of the lines that are wanted hold that
 pub record LinesHold (s : Sizes) (l : List Fact) (wanted : List Bool) (cells : List Cell) (values : List ℤ) (marks : List ℕ) : Type 0 where
   pub values-room : length l * s .records ≤ length values
   pub marks-room : length l * s .records ≤ length marks
@@ -87,10 +93,15 @@ parts-planned s l vs ws h = (λ w m. h w (Memᴰ·append-left ws m), λ w m. h w
 
 module _ (s : Sizes) (l : List Fact) (wanted : List Bool) (cells : List Cell) (values : List ℤ) (marks : List ℕ)
     (lines : LinesHold s l wanted cells values marks) (u : ℕ) (inside : u < s .records) where
-  word-found : (w : List ℕ) → WordPlanned s l w → Wants wanted (locationOf l w) → WordFound s cells values marks u (locationOf l w) w
+  -- a location leads somewhere, and there the reading of w is found
+  record WordFound (at : Location) (w : List ℕ) : Type 0 where
+    reaches : Reaches s values marks u at
+    agrees : Agrees s cells values marks u (followed s cells u) at w
+
+  word-found : (w : List ℕ) → WordPlanned s l w → Wants wanted (locationOf l w) → WordFound (locationOf l w) w
   unfolding locationOf foundAt readable valueAtRecord follow hop
-  word-found [] p h = record { reaches = tt; found-is = refl }
-  word-found (f ∷ []) p h = record { reaches = p .passes .follows; found-is = refl }
+  word-found [] p h = record { reaches = tt; agrees = refl }
+  word-found (f ∷ []) p h = record { reaches = p .passes .follows; agrees = refl }
   word-found (f ∷ g ∷ w) p h =
       let i = lineIndex l (read (f ∷ g ∷ w)) in
       let b : i < length l = p .has-line (omega arith) in
@@ -102,67 +113,78 @@ module _ (s : Sizes) (l : List Fact) (wanted : List Bool) (cells : List Cell) (v
           in-marks = omega (arith, below, lines .marks-room);
           fits = lines .fits i u (f ∷ g ∷ w) b inside e h;
         };
-        found-is = lines .holds i u (f ∷ g ∷ w) b inside e h;
+        agrees = lines .holds i u (f ∷ g ∷ w) b inside e h;
       }
 
-  located-found : (w : List ℕ) {at : Location} → WordLocated l wanted at w → WordPlanned s l w → WordFound s cells values marks u at w
+  located-found : (w : List ℕ) {at : Location} → WordLocated l wanted at w → WordPlanned s l w → WordFound at w
   located-found w h p = rw (h .at-is) (word-found w p (rw (h .at-is) at (h .wants)))
 
-  module _ (codes : Codes) (chained : List ℕ) where
+  -- the same of a term, of a test and of a rule
+  module _ (codes : List ℕ) where
+    abbrev Agreeing : Location → List ℕ → Type 0
+    Agreeing = Agrees s cells values marks u (followed s cells u)
+
     -- the chains of a tree are the readings of its expression
-    tree-found : {from to : ℕ} → TreeLocated l wanted codes chained from to → AllPlanned s l (expressionReadings (treeIn codes from to))
-        → TreeFound s cells values marks u codes chained from to
+    tree-found : {from to : ℕ} → TreeLocated l wanted codes from to → AllPlanned s l (expressionReadings (treeIn codes from to)) → EachChain WordFound codes from to
     unfolding treeIn
-    tree-found {from} {to} h p = record {
-      formed = h .formed;
-      some = h .some;
-      kept = h .kept;
-      found = λ i a b k.
-          let words : codeReadings (codesOf codes from to) ≡ expressionReadings (decoded (codesOf codes from to)) =
-          ap codeReadings (h .formed) ∙ postfix-readings (decoded (codesOf codes from to)) in
-          located-found _ (h .located i a b k)
-          (p _ (subst (List·Memᴰ _) words (chain-listed (codes .kinds) (codes .numbers) (codes .chains) from to i a b k)));
-    }
+    tree-found {from} {to} h p i a b k =
+        let words : codeReadings (codesIn codes from to) ≡ expressionReadings (decoded (codesIn codes from to)) =
+        ap codeReadings (h .formed) ∙ postfix-readings (decoded (codesIn codes from to)) in
+        located-found _ (h .located i a b k) (p _ (subst (List·Memᴰ _) words (chain-listed codes from to i a b k)))
 
-    term-found : (x : Term) (at : Location) → TermLocated l wanted codes chained at x → AllPlanned s l (expressionReadings (termIn codes x))
-        → TermFound s cells values marks u codes chained at x
+    term-found : (x : Term) (at : Location) → TermLocated l wanted codes at x → AllPlanned s l (expressionReadings (termIn codes x)) → operators (termIn codes x) ≤ 64
+        → TermReaches s values marks u codes at x × TermPlaced Agreeing codes at x
     unfolding termIn expressionReadings
-    term-found (Chain c) at h p = located-found (unpack c) h (p (unpack c) (List·Memᴰ·head refl))
-    term-found (Number z) at h p = tt
-    term-found (Tree from to) at h p = tree-found h p
+    term-found (Chain c) at h p few = let f = located-found (unpack c) h (p (unpack c) (List·Memᴰ·head refl)) in (f .reaches, f .agrees)
+    term-found (Number z) at h p few = (tt, tt)
+    term-found (Tree from to) at h p few =
+        let f = tree-found h p in
+        (record { formed = h .formed; few = few; some = h .some; kept = h .kept; reaches = λ i a b k. f i a b k .reaches }, λ i a b k. f i a b k .agrees)
 
-    terms-found : (x y : Term) (at : Places) → TermLocated l wanted codes chained (at .first) x × TermLocated l wanted codes chained (at .second) y
-        → AllPlanned s l (expressionReadings (termIn codes x) ++ expressionReadings (termIn codes y))
-        → TermFound s cells values marks u codes chained (at .first) x × TermFound s cells values marks u codes chained (at .second) y
-    terms-found x y at h p = let (a, b) = parts-planned s l _ _ p in (term-found x (at .first) (h .0) a, term-found y (at .second) (h .1) b)
+    terms-found : (x y : Term) (at : Places) → TermLocated l wanted codes (at .first) x × TermLocated l wanted codes (at .second) y
+        → AllPlanned s l (expressionReadings (termIn codes x) ++ expressionReadings (termIn codes y)) → operators (termIn codes x) ≤ 64 → operators (termIn codes y) ≤ 64
+        → (TermReaches s values marks u codes (at .first) x × TermReaches s values marks u codes (at .second) y)
+        × (TermPlaced Agreeing codes (at .first) x × TermPlaced Agreeing codes (at .second) y)
+    terms-found x y at h p few fewer =
+        let (v, w) = parts-planned s l _ _ p in
+        let a = term-found x (at .first) (h .0) v few in
+        let b = term-found y (at .second) (h .1) w fewer in
+        ((a .0, b .0), (a .1, b .1))
 
-    test-found : (t : Test) (at : Places) → TestLocated l wanted codes chained at t → AllPlanned s l (testReadings (testIn codes t))
-        → TestFound s cells values marks u codes chained at t
+    test-found : (t : Test) (at : Places) → TestLocated l wanted codes at t → AllPlanned s l (testReadings (testIn codes t)) → TestFew (testIn codes t)
+        → TestReaches s values marks u codes at t × TestPlaced Agreeing codes at t
     unfolding testIn testReadings
-    test-found Always at h p = tt
-    test-found (When x c y) at h p = terms-found x y at h p
+    test-found Always at h p few = (tt, tt)
+    test-found (When x c y) at h p few = terms-found x y at h p (few .0) (few .1)
 
-    rule-found : (x : Rule) (at : Places) → RuleLocated l wanted codes chained at x
-        → AllPlanned s l (targetReadings (targetIn x) ++ expressionReadings (expressionIn codes x)) → RuleFound s cells values marks u codes chained at x
-    unfolding targetIn expressionIn targetReadings expressionReadings
-    rule-found (Set f x) at h p = term-found x (at .first) h p
-    rule-found (Combine f op x y) at h p = terms-found x y at h p
-    rule-found (Remote k f c x) at h p =
-        (located-found (unpack c) (h .0) (p (unpack c) (List·Memᴰ·head refl)), term-found x (at .second) (h .1) (λ w m. p w (List·Memᴰ·tail m)))
+    rule-found : (x : Rule) (at : Places) → RuleLocated l wanted codes at x
+        → AllPlanned s l (targetReadings (targetIn x) ++ expressionReadings (expressionIn codes x)) → operators (expressionIn codes x) ≤ 64
+        → RuleReaches s values marks u codes at x × RulePlaced Agreeing codes at x
+    unfolding targetIn expressionIn targetReadings expressionReadings operators
+    rule-found (Set f x) at h p few = term-found x (at .first) h p few
+    rule-found (Combine f op x y) at h p few = terms-found x y at h p (omega (arith, few)) (omega (arith, few))
+    rule-found (Remote k f c x) at h p few =
+        let t = located-found (unpack c) (h .0) (p (unpack c) (List·Memᴰ·head refl)) in
+        let e = term-found x (at .second) (h .1) (λ w m. p w (List·Memᴰ·tail m)) few in
+        ((t .reaches, e .0), (t .agrees, e .1))
 
-    rule-reads : (x : Located) → LocatedAmong l wanted codes chained x → AllPlanned s l (ruleReadings (ruleIn codes (x .slot)))
-        → RuleReads s cells values marks u codes chained x
+    slot-found : (x : Located) → LocatedAmong l wanted codes x → AllPlanned s l (ruleReadings (ruleIn codes (x .slot))) → RulePasses s (ruleIn codes (x .slot))
+        → SlotReaches s values marks u codes x × SlotPlaced Agreeing codes x
     unfolding ruleIn ruleReadings
-    rule-reads x a p =
-        let (t, r) = parts-planned s l _ _ p in
-        record { test = test-found (x .slot .test) (x .at .test) (a .test) t; rule = rule-found (x .slot .rule) (x .at .rule) (a .rule) r }
+    slot-found x a p k =
+        let (v, w) = parts-planned s l _ _ p in
+        let t = test-found (x .slot .test) (x .at .test) (a .test) v (k .few .0) in
+        let r = rule-found (x .slot .rule) (x .at .rule) (a .rule) w (k .few .1) in
+        (record { test = t .0; rule = r .0 }, (t .1, r .1))
 
 -- a target is a reference, so it leads to a record
-target-refers : {s : Sizes} {cells : List Cell} → Valid s cells → (u : ℕ) → u < s .records → (t : Target) → TargetPasses s t
-    → Targets (s .records) (followed s cells u) t
-unfolding direct
-target-refers v u h (own f) p = tt
-target-refers v u h (remote k f c) p = direct-refers v [] u h c (p .passes) (p .reference)
+module _ {s : Sizes} {cells : List Cell} (v : Valid s cells) (values : List ℤ) (marks : List ℕ) (u : ℕ) (h : u < s .records) (codes : List ℕ) where
+  target-within : (p : Places) (r : Rule) → TargetPasses s (targetIn r) → RulePlaced (Agrees s cells values marks u (followed s cells u)) codes p r
+      → TargetFound (Within (s .records)) s cells values marks u p r
+  unfolding direct targetIn
+  target-within p (Set f x) k a = tt
+  target-within p (Combine f op x y) k a = tt
+  target-within p (Remote sort f c x) k a = rw (a .0) (direct-refers v [] u h (unpack c) (k .passes) (k .reference))
 
 -- the readings of a rule are among those of the step, so each has its line
 among : {r : P.Rule} {w : List ℕ} {rs : List P.Rule} → List·Memᴰ r rs → List·Memᴰ w (ruleReadings r) → List·Memᴰ w (readings rs)
@@ -178,15 +200,28 @@ rule-planned {s} {rs} {r} k m w i = record {
 }
 
 -- the located rules of a step
-module _ (s : Sizes) (codes : Codes) (chained : List ℕ) (n : ℕ) (slots : List Located) (passes : RulesPass s (rulesIn codes n slots)) (wanted : List Bool) where
-  pub all-ready : Each (LocatedAmong (stepPlan (rulesIn codes n slots)) wanted codes chained) (take n slots) → {cells : List Cell} {values : List ℤ} {marks : List ℕ}
-      → LinesHold s (stepPlan (rulesIn codes n slots)) wanted cells values marks → Valid s cells → AllReady s cells values marks codes chained (take n slots)
-  unfolding rulesIn ruleIn
-  all-ready located {cells} {values} {marks} lines v = each-all (RuleReady s cells values marks codes chained) (take n slots) (λ x m.
-      let here = mem-map (λ (y : Located). ruleIn codes (y .slot)) m in
-      let pass = each-of (RulePasses s) (passes .each) here in
+module _ (s : Sizes) (codes : List ℕ) (n : ℕ) (slots : List Located) (passes : RulesPass s (rulesIn codes n slots)) (wanted : List Bool)
+    (located : Each (LocatedAmong (stepPlan (rulesIn codes n slots)) wanted codes) (take n slots)) {cells : List Cell} {values : List ℤ} {marks : List ℕ}
+    (lines : LinesHold s (stepPlan (rulesIn codes n slots)) wanted cells values marks) where
+  rule-at : (x : Located) → List·Memᴰ x (take n slots) → List·Memᴰ (ruleIn codes (x .slot)) (rulesIn codes n slots)
+  unfolding rulesIn
+  rule-at x m = mem-map (λ (y : Located). ruleIn codes (y .slot)) m
+
+  found-at : (x : Located) (m : List·Memᴰ x (take n slots)) (u : ℕ) → u < s .records
+      → SlotReaches s values marks u codes x × SlotPlaced (Agrees s cells values marks u (followed s cells u)) codes x
+  found-at x m u h =
+      slot-found s (stepPlan (rulesIn codes n slots)) wanted cells values marks lines u h codes x (each-of _ located m) (rule-planned passes (rule-at x m))
+      (each-of (RulePasses s) (passes .each) (rule-at x m))
+
+  pub all-agree : AllAgree s cells values marks codes (followed s cells) (take n slots)
+  all-agree = each-all (RuleAgrees s cells values marks codes (followed s cells)) (take n slots) (λ x m u h. found-at x m u h .1)
+
+  pub all-ready : Valid s cells → AllReady s cells values marks codes (take n slots)
+  unfolding ruleIn
+  all-ready v = each-all (RuleReady s cells values marks codes) (take n slots) (λ x m.
+      let pass = each-of (RulePasses s) (passes .each) (rule-at x m) in
       record {
-        found = λ u h. rule-reads s (stepPlan (rulesIn codes n slots)) wanted cells values marks lines u h codes chained x (each-of _ located m) (rule-planned passes here);
+        reaches = λ u h. found-at x m u h .0;
         field = pass .field;
-        targets = λ u h. target-refers v u h (targetIn (x .slot .rule)) (pass .target);
+        targets = λ u h. target-within v values marks u h codes (x .at .rule) (x .slot .rule) (pass .target) (found-at x m u h .1 .1);
       })

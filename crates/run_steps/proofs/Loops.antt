@@ -10,10 +10,8 @@ use Rattle.register.specs.declared.Sizes.{Sizes}
 use Rattle.register.specs.declared.cells.Cell.{Cell}
 use Rattle.program.specs.Program.{Rule}
 use Rattle.program.specs.declared.location.Located.{Located}
-use Rattle.program.specs.Code.{Codes}
 use Rattle.program.specs.Stored.{rulesIn}
 use Rattle.machine.specs.Step.{sumOffence}
-use Rattle.step_terms.specs.Found.{followed}
 use Rattle.step_cells.specs.Work.{Same}
 use Rattle.step_cells.specs.declared.stop.Stop.{Stop}
 use Rattle.step_cells.specs.declared.stop.Stop.the-variants.{Nowhere, At}
@@ -22,6 +20,7 @@ use Rattle.step_rules.specs.Ready.{LocalRule, LocalDone}
 use Rattle.step_rules.proofs.Locals.{RecordDone, ruleAt, record-start, record-more, record-stops, records-start, records-more, records-all}
 use Rattle.run_turn.proofs.Turning.{not-both}
 use Rattle.run_steps.proofs.Arrays.{placesOf}
+use Rattle.run_steps.proofs.Finding.{followed}
 
 -- a loop that counts up to n comes to its end
 pub nearer : {i n : ℕ} → i < n → n - (i + 1) < n - i
@@ -34,21 +33,21 @@ pub record Taken (slots : List Located) (step used : ℕ) (rules : List Located)
   pub k≤ : k ≤ used
 
 -- the first k rules are done at record u, and no sum was out of range
-pub record RulesDone (s : Sizes) (cells : List Cell) (base : ℕ) (codes : Codes) (rules : List Located) (used u : ℕ)
+pub record RulesDone (s : Sizes) (cells : List Cell) (base : ℕ) (codes : List ℕ) (rules : List Located) (used u : ℕ)
     (values : List ℤ) (marks : List ℕ) (values′ : List ℤ) (marks′ : List ℕ) (stop : Stop) (k : ℕ) : Type 0 where
-  pub done : RecordDone s cells base codes rules u k values marks values′ marks′
+  pub done : RecordDone s (followed s cells) base codes rules u k values marks values′ marks′
   pub nowhere : stop ≡ Nowhere
   pub k≤ : k ≤ used
 
 -- all rules are done at the records below u, and no sum was out of range
-pub record RecordsDone (s : Sizes) (cells : List Cell) (base : ℕ) (codes : Codes) (rules : List Located) (used : ℕ)
+pub record RecordsDone (s : Sizes) (cells : List Cell) (base : ℕ) (codes : List ℕ) (rules : List Located) (used : ℕ)
     (values : List ℤ) (marks : List ℕ) (values′ : List ℤ) (marks′ : List ℕ) (stop : Stop) (u : ℕ) : Type 0 where
   pub same : Same base values marks values′ marks′
-  pub done : LocalDone s cells base (rulesIn codes used rules) u values marks values′ marks′
+  pub done : LocalDone s (followed s cells) base (rulesIn codes used rules) u values marks values′ marks′
   pub nowhere : stop ≡ Nowhere
   pub u≤ : u ≤ s .records
 
-module _ {s : Sizes} {cells : List Cell} {base : ℕ} {codes : Codes} {rules : List Located} {used : ℕ} {values : List ℤ} {marks : List ℕ} where
+module _ {s : Sizes} {cells : List Cell} {base : ℕ} {codes : List ℕ} {rules : List Located} {used : ℕ} {values : List ℤ} {marks : List ℕ} where
   pub rules-first : {u : ℕ} {stop : Stop} → stop ≡ Nowhere → RulesDone s cells base codes rules used u values marks values marks stop 0
   rules-first e = record { done = record-start; nowhere = e; k≤ = omega arith }
 
@@ -58,7 +57,7 @@ module _ {s : Sizes} {cells : List Cell} {base : ℕ} {codes : Codes} {rules : L
   module _ {values′ values″ : List ℤ} {marks′ marks″ : List ℕ} {stop : Stop} {u : ℕ} where
     -- one rule more at record u
     pub rules-next : {k : ℕ} → RulesDone s cells base codes rules used u values marks values′ marks′ stop k → k < used → used ≤ length rules
-        → {stop′ : Stop} → stop′ ≡ Nowhere → (x : Located) → LocalRule s cells base u (ruleAt codes (getD rules k x)) values′ marks′ values″ marks″ stop′
+        → {stop′ : Stop} → stop′ ≡ Nowhere → (x : Located) → LocalRule s (followed s cells u) base u (ruleAt codes (getD rules k x)) values′ marks′ values″ marks″ stop′
         → {k′ : ℕ} → k′ ≡ suc k → RulesDone s cells base codes rules used u values marks values″ marks″ stop′ k′
     rules-next a h fits e x rule q =
         record { done = record-more (a .done) x (omega arith) (rw e at rule) q; nowhere = e; k≤ = omega arith }
@@ -77,18 +76,18 @@ module _ {s : Sizes} {cells : List Cell} {base : ℕ} {codes : Codes} {rules : L
 
 -- what a rule left, where two ways have met
 pub local-as : (s : Sizes) (cells : List Cell) (base u : ℕ) (r : Rule) (values : List ℤ) (marks : List ℕ)
-    {values′ values″ : List ℤ} {marks′ marks″ : List ℕ} {stop stop′ : Stop} → values″ ≡ values′ → marks″ ≡ marks′ → stop′ ≡ stop → LocalRule s cells base u r values marks values′ marks′ stop
-    → LocalRule s cells base u r values marks values″ marks″ stop′
+    {values′ values″ : List ℤ} {marks′ marks″ : List ℕ} {stop stop′ : Stop} → values″ ≡ values′ → marks″ ≡ marks′ → stop′ ≡ stop → LocalRule s (followed s cells u) base u r values marks values′ marks′ stop
+    → LocalRule s (followed s cells u) base u r values marks values″ marks″ stop′
 local-as s cells base u r values marks v m t rule = rw (v, m, t) rule
 
 -- what the loops leave: all records are done, or one rule's sum is out of range
 pub record LocalsLeft (s : Sizes) (cells : List Cell) (base : ℕ) (rs : List Rule) (values : List ℤ) (marks : List ℕ)
     (values′ : List ℤ) (marks′ : List ℕ) (stop : Stop) : Type 0 where
   pub same : Same base values marks values′ marks′
-  pub all : stop ≡ Nowhere → LocalDone s cells base rs (s .records) values marks values′ marks′
+  pub all : stop ≡ Nowhere → LocalDone s (followed s cells) base rs (s .records) values marks values′ marks′
   pub stops : (u c : ℕ) → stop ≡ At u c → sumOffence s (followed s cells) rs ≡ some (record { row = u; column = c })
 
-module _ {s : Sizes} {cells : List Cell} {base : ℕ} {codes : Codes} {rules : List Located} {used : ℕ} {values values′ : List ℤ} {marks marks′ : List ℕ}
+module _ {s : Sizes} {cells : List Cell} {base : ℕ} {codes : List ℕ} {rules : List Located} {used : ℕ} {values values′ : List ℤ} {marks marks′ : List ℕ}
     {stop : Stop} {u : ℕ} (a : RecordsDone s cells base codes rules used values marks values′ marks′ stop u)
     {valuesₑ : List ℤ} {marksₑ : List ℕ} {stopₑ : Stop} where
   pub left-behind : s .records ≤ u → valuesₑ ≡ values′ → marksₑ ≡ marks′ → stopₑ ≡ stop
@@ -103,7 +102,7 @@ module _ {s : Sizes} {cells : List Cell} {base : ℕ} {codes : Codes} {rules : L
   pub left-within : {values″ values‴ : List ℤ} {marks″ marks‴ : List ℕ} {stop′ stop″ : Stop} {k v c : ℕ} → u < s .records
       → RulesDone s cells base codes rules used u values′ marks′ values″ marks″ stop′ k → k < used → used ≤ length rules
       → stop″ ≡ At v c → valuesₑ ≡ values‴ → marksₑ ≡ marks‴ → stopₑ ≡ stop″
-      → (x : Located) → LocalRule s cells base u (ruleAt codes (getD rules k x)) values″ marks″ values‴ marks‴ stop″
+      → (x : Located) → LocalRule s (followed s cells u) base u (ruleAt codes (getD rules k x)) values″ marks″ values‴ marks‴ stop″
       → LocalsLeft s cells base (rulesIn codes used rules) values marks valuesₑ marksₑ stopₑ
   left-within {k = k} row b h fits o vₑ mₑ t x rule =
       let inside : k < length rules = omega arith in
@@ -112,5 +111,5 @@ module _ {s : Sizes} {cells : List Cell} {base : ℕ} {codes : Codes} {rules : L
         same = same-then (same-then (a .same) (b .done .same)) (stops .0);
         all = λ e. not-both e (t ∙ o);
         stops = λ u c e.
-            record-stops codes rules k x inside h row (a .done .in-range) (b .done .in-range) ((rw (sym t ∙ e) at rule) .1);
+            record-stops (followed s cells) codes rules k x inside h row (a .done .in-range) (b .done .in-range) ((rw (sym t ∙ e) at rule) .1);
       })

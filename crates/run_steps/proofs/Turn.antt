@@ -8,6 +8,7 @@ use native.Mathlib.Nat.{mul-le-mul-right}
 use lib.IntN.{ℤ}
 use lib.ListN.{length, getD, take, set, length-set}
 use lib.Seq.{getD-set-same, take-suc-set}
+use Rattle.laws.specs.Lists.{Each}
 use Rattle.laws.proofs.Bools.{and-both}
 use Rattle.laws.proofs.Lists.{each-append}
 use Rattle.step_tests.specs.Plain.{plainSlot}
@@ -19,8 +20,8 @@ use Rattle.plan_lines.specs.Held.{facts}
 use Rattle.plan_lines.proofs.Appending.{holds-count}
 use Rattle.program.specs.declared.location.Located.{Located}
 use Rattle.program.specs.Program.{Rule, Step, Program, readings, stepPlan, hasRemote, mostLines}
-use Rattle.program.specs.Passed.{SettingPasses, StepPasses, ProgramPasses}
-use Rattle.program.specs.Code.{Codes}
+use Rattle.program.specs.Passed.{SettingPasses, RulesPass, StepPasses, ProgramPasses}
+use Rattle.program.specs.Location.{LocatedAmong}
 use Rattle.program.specs.Stored.{ruleIn, rulesIn}
 use Rattle.program.specs.declared.frame.Frame.{Frame}
 use Rattle.program.specs.Kept.{programOf, Complete}
@@ -33,8 +34,8 @@ use Rattle.scratch.proofs.Placed.{kept-again}
 use Rattle.gather_follow.specs.Filled.{Filled}
 use Rattle.step_cells.specs.Work.{Room, HoldsCells, Same, Small}
 use Rattle.step_cells.proofs.Working.{room-same, small-held}
-use Rattle.step_rules.specs.Ready.{RuleReady, AllReady, AllPlain, LocalDone}
-use Rattle.step_rules.proofs.Locals.{ready-at}
+use Rattle.step_rules.specs.Ready.{RuleReady, AllReady, RuleAgrees, AllAgree, AllPlain, LocalDone}
+use Rattle.step_rules.proofs.Locals.{all-at}
 use Rattle.step_cells.specs.declared.stop.Stop.{Stop}
 use Rattle.step_cells.specs.declared.stop.Stop.the-variants.{Nowhere}
 use Rattle.run_loop.specs.Column.{Space}
@@ -43,7 +44,7 @@ use Rattle.run_turn.specs.declared.Begun.{Begun}
 use Rattle.run_turn.specs.Turned.{TurnBegun}
 use Rattle.gather_exchanges.specs.Lines.{StepPlanned}
 use Rattle.run_steps.proofs.Arrays.{noFrame, StepAt, step-at, slotsAt, slots-length, slot-at, taken-next}
-use Rattle.run_steps.proofs.Finding.{LinesHold, filled-lines, all-ready}
+use Rattle.run_steps.proofs.Finding.{followed, LinesHold, filled-lines, all-ready, all-agree}
 use Rattle.run_steps.proofs.Loops.{Taken, LocalsLeft}
 use Rattle.run_steps.proofs.Standing.{noStep, Stands, here, comes}
 
@@ -90,11 +91,11 @@ plain-more {plain} rules k x y h q a e =
     rw (next, take-suc-set rules k x h) (each-append IsPlain (take k rules) (x ∷ []) (a before) (subst IsPlain same here, tt))
 
 -- The loop's turn for the step of the program p that comes next: the run stands before it, and the budget allows it.
-pub record Turn (m : Machine) (s : Sizes) (codes : Codes) (chained : List ℕ) (p : R.Program) (budget : ℕ) (file : List ℕ) (run : Progress)
+pub record Turn (m : Machine) (s : Sizes) (codes : List ℕ) (p : R.Program) (budget : ℕ) (file : List ℕ) (run : Progress)
     (out : List ℕ) (values : List ℤ) (marks : List ℕ) (f : Frame) : Type 0 where
   pub nowhere : run .stop ≡ Nowhere
   pub held : f ≡ getD (p .frames) (run .step) noFrame
-  pub complete : Complete codes chained p
+  pub complete : Complete codes p
   pub passes : ProgramPasses s (programOf codes p)
   pub few-lines : p .lines ≤ 64
   pub whole : length file ≡ 12 + 5 * cellCount s
@@ -102,8 +103,8 @@ pub record Turn (m : Machine) (s : Sizes) (codes : Codes) (chained : List ℕ) (
   pub more : run .step < p .steps
   pub later : run .finished < budget
 
-module _ {m : Machine} {s : Sizes} {codes : Codes} {chained : List ℕ} {p : R.Program} {budget : ℕ} {file : List ℕ} {run : Progress}
-    {out : List ℕ} {values : List ℤ} {marks : List ℕ} {f : Frame} (a : Turn m s codes chained p budget file run out values marks f) where
+module _ {m : Machine} {s : Sizes} {codes : List ℕ} {p : R.Program} {budget : ℕ} {file : List ℕ} {run : Progress}
+    {out : List ℕ} {values : List ℤ} {marks : List ℕ} {f : Frame} (a : Turn m s codes p budget file run out values marks f) where
   abbrev pub frame : Frame
   frame = f
 
@@ -141,8 +142,8 @@ module _ {m : Machine} {s : Sizes} {codes : Codes} {chained : List ℕ} {p : R.P
   abbrev pub rs : List Rule
   rs = stepHere .rules
 
-  pub at-step : StepAt codes chained p (run .step) frame stepHere
-  at-step = rw (a .held) (step-at codes chained p (run .step) noStep noFrame (a .complete) (a .more))
+  pub at-step : StepAt codes p (run .step) frame stepHere
+  at-step = rw (a .held) (step-at codes p (run .step) noStep noFrame (a .complete) (a .more))
 
   pub step-passes : StepPasses s stepHere
   step-passes = running-passes (t .running) (comes t inside) (a .passes)
@@ -201,8 +202,8 @@ module _ {m : Machine} {s : Sizes} {codes : Codes} {chained : List ℕ} {p : R.P
     pub begins : TurnBegun m s at (frame .setting) cells (facts (frame .plan)) (frame .wanted) values marks values₂ marks₂ run begun
 
 -- then the step can be run
-module _ {m : Machine} {s : Sizes} {codes : Codes} {chained : List ℕ} {p : R.Program} {budget : ℕ} {file : List ℕ} {run : Progress}
-    {out : List ℕ} {values : List ℤ} {marks : List ℕ} {f : Frame} {a : Turn m s codes chained p budget file run out values marks f}
+module _ {m : Machine} {s : Sizes} {codes : List ℕ} {p : R.Program} {budget : ℕ} {file : List ℕ} {run : Progress}
+    {out : List ℕ} {values : List ℤ} {marks : List ℕ} {f : Frame} {a : Turn m s codes p budget file run out values marks f}
     {places : List Located} {values₂ : List ℤ} {marks₂ : List ℕ} {begun : Begun} (b : Prepared a places values₂ marks₂ begun) where
   abbrev n : ℕ
   n = frame a .rules
@@ -267,12 +268,22 @@ module _ {m : Machine} {s : Sizes} {codes : Codes} {chained : List ℕ} {p : R.P
         mark-is = λ j h. kept-cell j .mark-is ∙ a .stands .working .mark-is j h;
       }
 
-  pub step-ready : AllReady s held (take (base a) values₂) (take (base a) marks₂) codes chained (take n places)
+  -- where the readings of the step's rules are located
+  located : Each (LocatedAmong (stepPlan (rulesIn codes n (slotsAt p (run .step)))) (frame a .wanted) codes) (take n (slotsAt p (run .step)))
+  located = rw (at-step a .frame .holds .facts-are, at-step a .rules-are) at (at-step a .located)
+
+  abbrev passing : RulesPass s (rulesIn codes n (slotsAt p (run .step)))
+  passing = rw (← at-step a .rules-are) (step-passes a .rules)
+
+  pub step-ready : AllReady s held (take (base a) values₂) (take (base a) marks₂) codes (take n places)
   step-ready =
-      let located = rw (at-step a .frame .holds .facts-are, at-step a .rules-are) at (at-step a .located) in
       rw (b .taken .so-far)
-      (all-ready s codes chained n (slotsAt p (run .step)) (rw (← at-step a .rules-are) (step-passes a .rules)) (frame a .wanted) located
-      (rw (at-step a .rules-are) at lines) (a .stands .register .valid))
+      (all-ready s codes n (slotsAt p (run .step)) passing (frame a .wanted) located (rw (at-step a .rules-are) at lines) (a .stands .register .valid))
+
+  -- and the places agree with what is had by following
+  pub step-agrees : AllAgree s held (take (base a) values₂) (take (base a) marks₂) codes (followed s held) (take n places)
+  step-agrees =
+      rw (b .taken .so-far) (all-agree s codes n (slotsAt p (run .step)) passing (frame a .wanted) located (rw (at-step a .rules-are) at lines))
 
   pub step-sends : frame a .remote ≡ hasRemote ls
   step-sends = at-step a .frame .remote-is ∙ ap hasRemote (sym rules-taken)
@@ -286,13 +297,21 @@ module _ {m : Machine} {s : Sizes} {codes : Codes} {chained : List ℕ} {p : R.P
     pub room-still : Room (base a) (cellCount s) values′ marks′
     room-still = room-same same step-room
 
-    pub ready-still : AllReady s held (take (base a) values′) (take (base a) marks′) codes chained (take n places)
+    pub ready-still : AllReady s held (take (base a) values′) (take (base a) marks′) codes (take n places)
     ready-still = rw (same .values-same, same .marks-same) step-ready
 
-    pub rule-ready : (k : ℕ) (x : Located) → k < n → RuleReady s held (take (base a) values′) (take (base a) marks′) codes chained (getD places k x)
-    rule-ready k x h = ready-at codes places k x (omega (arith, rules-fit)) h ready-still
+    pub agrees-still : AllAgree s held (take (base a) values′) (take (base a) marks′) codes (followed s held) (take n places)
+    agrees-still = rw (same .values-same, same .marks-same) step-agrees
+
+    module _ (k : ℕ) (x : Located) (h : k < n) where
+      pub rule-ready : RuleReady s held (take (base a) values′) (take (base a) marks′) codes (getD places k x)
+      rule-ready = all-at codes places k x (omega (arith, rules-fit)) (RuleReady s held (take (base a) values′) (take (base a) marks′) codes) h ready-still
+
+      pub rule-agrees : RuleAgrees s held (take (base a) values′) (take (base a) marks′) codes (followed s held) (getD places k x)
+      rule-agrees =
+          all-at codes places k x (omega (arith, rules-fit)) (RuleAgrees s held (take (base a) values′) (take (base a) marks′) codes (followed s held)) h agrees-still
 
     -- and the remote writes besides
-    pub small-still : LocalDone s held (base a) ls (s .records) values₂ marks₂ values′ marks′
+    pub small-still : LocalDone s (followed s held) (base a) ls (s .records) values₂ marks₂ values′ marks′
         → Small 2147483648 (base a) (cellCount s) values′ marks′
     small-still l = let valid = a .stands .register .valid in l .small (small-held (valid .count) (valid .values) step-working)

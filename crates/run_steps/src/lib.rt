@@ -3,7 +3,6 @@ ghost use Prim.Native.Nat.{_+_, _*_};
 ghost use Rattle.register.specs.File.{cellsOfFile};
 ghost use Rattle.register.specs.Shape.{Register};
 ghost use Rattle.step_cells.specs.Work.{HoldsCells};
-ghost use Rattle.program.specs.Code.{codesKept};
 ghost use Rattle.program.specs.Passed.{ProgramPasses};
 ghost use Rattle.program.specs.Kept.{programOf, Complete};
 ghost use Rattle.run_steps.specs.Answer.{AnswerIs, inArrays, Scratch, Ends};
@@ -71,10 +70,7 @@ fn run_steps(
     values: &mut [i64],
     marks: &mut [u8],
     sizes: Sizes,
-    kinds: &[u8],
-    numbers: &[i32],
-    chains: &[u64],
-    places: &[u8],
+    codes: &[u64],
     slots: [Located; 1024],
     frames: [Frame; 32],
     steps: usize,
@@ -83,10 +79,10 @@ fn run_steps(
     budget: u16,
 ) -> RunAnswer
     requires { ⌜ Register sizes (now out) × Scratch sizes lines (now values) (now marks)
-        × Complete (codesKept (now kinds) (now numbers) (now chains)) (now places) (inArrays slots frames steps lines)
-        × ProgramPasses sizes (programOf (codesKept (now kinds) (now numbers) (now chains)) (inArrays slots frames steps lines))
+        × Complete (now codes) (inArrays slots frames steps lines)
+        × ProgramPasses sizes (programOf (now codes) (inArrays slots frames steps lines))
         × HoldsCells (lines * sizes .records + sizes .records) (cellsOfFile sizes (now out)) (now values) (now marks) ⌝ }
-    ensures { λ r. ⌜ Ends machine sizes (programOf (codesKept (now (kinds .entry)) (now (numbers .entry)) (now (chains .entry))) (inArrays slots frames steps lines))
+    ensures { λ r. ⌜ Ends machine sizes (programOf (now (codes .entry)) (inArrays slots frames steps lines))
         budget (now (out .entry)) (now (out .exit)) r ⌝ }
 {
     let at = lines * sizes.records;
@@ -137,19 +133,7 @@ fn run_steps(
                 if plain {
                     stop = local::apply_plain(out, values, marks, sizes, base, u, rules[k]);
                 } else {
-                    stop = local::apply_rule(
-                        out,
-                        values,
-                        marks,
-                        sizes,
-                        base,
-                        u,
-                        kinds,
-                        numbers,
-                        chains,
-                        places,
-                        rules[k],
-                    );
+                    stop = local::apply_rule(out, values, marks, sizes, base, u, codes, rules[k]);
                 }
                 if let Stop::At(_, _) = stop {
                     break 'records;
@@ -158,20 +142,7 @@ fn run_steps(
         }
         let mut sent = 0;
         if run_turn::sends(stop, frame.remote) {
-            sent = remote::apply(
-                out,
-                values,
-                marks,
-                sizes,
-                base,
-                kinds,
-                numbers,
-                chains,
-                places,
-                rules,
-                used,
-                plain,
-            );
+            sent = remote::apply(out, values, marks, sizes, base, codes, rules, used, plain);
         }
         let fields = frame.fields;
         run = run_turn::finish(
@@ -199,17 +170,14 @@ pub fn run_program(
     values: &mut [i64],
     marks: &mut [u8],
     sizes: Sizes,
-    kinds: &[u8],
-    numbers: &[i32],
-    chains: &[u64],
-    places: &[u8],
+    codes: &[u64],
     program: Program,
     machine: Machine,
     budget: u16,
 ) -> RunAnswer
-    requires { ⌜ Register sizes (now out) × Scratch sizes (program .lines) (now values) (now marks) × Complete (codesKept (now kinds) (now numbers) (now chains)) (now places) program
-        × ProgramPasses sizes (programOf (codesKept (now kinds) (now numbers) (now chains)) program) ⌝ }
-    ensures { λ r. ⌜ Ends machine sizes (programOf (codesKept (now (kinds .entry)) (now (numbers .entry)) (now (chains .entry))) program) budget
+    requires { ⌜ Register sizes (now out) × Scratch sizes (program .lines) (now values) (now marks) × Complete (now codes) program
+        × ProgramPasses sizes (programOf (now codes) program) ⌝ }
+    ensures { λ r. ⌜ Ends machine sizes (programOf (now (codes .entry)) program) budget
         (now (out .entry)) (now (out .exit)) r ⌝ }
 {
     let at = program.lines * sizes.records;
@@ -221,10 +189,7 @@ pub fn run_program(
         values,
         marks,
         sizes,
-        kinds,
-        numbers,
-        chains,
-        places,
+        codes,
         slots,
         frames,
         program.steps,

@@ -17,7 +17,6 @@ use Rattle.program.specs.declared.rule.Rule.the-variants.{Remote}
 use Rattle.program.specs.declared.rule.Slot.{Slot}
 use Rattle.chain.specs.Word.{unpack}
 use Rattle.program.specs.declared.rule.Sort.{Sort}
-use Rattle.program.specs.Code.{Codes}
 use Rattle.program.specs.Program.{Target, own, remote, isRemote, targetField}
 use Rattle.program.specs.Stored.{termIn, testIn, targetIn, expressionIn, ruleIn}
 use Rattle.machine.specs.Value.{value, holds}
@@ -33,7 +32,7 @@ use Rattle.step_operations.specs.Evaluated.{ofReading, evaluated}
 use Rattle.step_operations.specs.Tests.{tested}
 use Rattle.step_tests.proofs.Sides.{both-first, both-second}
 use Rattle.step_operations.proofs.Testing.{test-tells}
-use Rattle.step_effects.specs.Answers.{targetWrite, doneBy, effectOf, writeOf}
+use Rattle.step_effects.specs.Answers.{targetWrite, doneBy, effectOf, writeOf, DoneFor}
 use Rattle.step_effects.specs.declared.stored.Write.the-variants as W
 
 -- a missing value stores nothing
@@ -47,6 +46,11 @@ pub value-stored : (f : ℕ) {t : Target} {v : Evaluated} {z : ℤ} → v ≡ E.
 unfolding doneBy targetWrite
 value-stored f {z = z} p q h = ap (W.Store f) (kept z h) ∙ sym (ap₂ doneBy q p)
 
+-- nothing is done with a missing value
+pub nothing-done : (t : Target) → DoneFor t W.Nothing
+unfolding doneBy
+nothing-done t = record { value = E.Missing; is = missing-unstored t }
+
 -- a value that is told where a test holds
 value-held : (h : Bool) (w : Reading) {z : ℤ} → E.Value z ≡ cond h (ofReading w) E.Missing → (h ≡ true) × (w ≡ Value z)
 unfolding ofReading
@@ -55,7 +59,7 @@ value-held true Missing e = absurd (let q : _≡_ {A = ℕ} 0 1 = cc in omega ar
 value-held false w e = absurd (let q : _≡_ {A = ℕ} 0 1 = cc in omega arith)
 
 -- what one record, which reads this, makes of a rule
-module _ (read : List ℕ → Reading) (k : Codes) where
+module _ (read : List ℕ → Reading) (k : List ℕ) where
   module _ (x : Slot) where
     pub send-local : isRemote (targetIn (x .rule)) ≡ false → [] ≡ ruleMessages read (ruleIn k x)
     unfolding ruleIn

@@ -1,7 +1,8 @@
 -- What the answers of the code mean.
+use mathlib.Core.Path.{_≡_}
 use mathlib.Core.Bool.{cond}
 use mathlib.Core.List.{List, [], _∷_}
-use Prim.Native.Nat.{ℕ}
+use Prim.Native.Nat.{ℕ, _<_}
 use Rattle.chain.specs.declared.reading.Reading.{Reading}
 use Rattle.chain.specs.declared.reading.Reading.the-variants.{Missing, Value}
 use Rattle.program.specs.Program.{Target, own, remote, Rule, targetField}
@@ -42,3 +43,13 @@ writeOf read r =
 unfoldable pub messagesIn : Sent → List Message
 messagesIn S.Nothing = []
 messagesIn (S.One m) = m ∷ []
+
+-- what is done with some value for this target
+pub record DoneFor (t : Target) (w : Write) : Type 0 where
+  pub value : Evaluated
+  pub is : w ≡ doneBy t value
+
+-- a message to this field of a record that is within all that its target is
+abbrev pub GoesTo : ℕ → (ℕ → Type 0) → Sent → Type 0
+GoesTo f Within S.Nothing = Unit {0}
+GoesTo f Within (S.One m) = (m .field ≡ f) × ((n : ℕ) → Within n → m .target < n)

@@ -4,12 +4,13 @@ ghost use mathlib.Core.Bool.{false};
 ghost use Prim.Native.Nat.{_<_};
 ghost use Rattle.register.specs.Cells.{cellsOf};
 ghost use Rattle.register.specs.Shape.{Parts};
+ghost use Rattle.program.specs.Program.{targetField};
 ghost use Rattle.program.specs.Stored.{ruleIn, targetIn};
-ghost use Rattle.program.specs.Code.{codesKept};
+ghost use Rattle.program.specs.Terms.{SlotPlaced};
 ghost use Rattle.machine.specs.Local.{offends};
 ghost use Rattle.machine.specs.Remote.{ruleMessages};
-ghost use Rattle.step_terms.specs.Found.{readsOf, RuleReads, Points};
-ghost use Rattle.step_effects.specs.Answers.{messagesIn};
+ghost use Rattle.step_terms.specs.Found.{Told, SlotReaches, TargetFound, Within, Names};
+ghost use Rattle.step_effects.specs.Answers.{messagesIn, GoesTo};
 use crate::stored;
 use chain::reading::Reading;
 use machine::message::Message;
@@ -25,7 +26,7 @@ pub enum Sent {
     One(Message),
 }
 
-// What a rule sends from record u, none of whose sums leaves the range: "One whose C or X is unfilled does nothing."
+// What a rule sends from record u where none of its sums leaves the range: "One whose C or X is unfilled does nothing."
 pub fn message_of(
     cells: &[u8],
     filled: &[u8],
@@ -33,18 +34,15 @@ pub fn message_of(
     marks: &[u8],
     sizes: Sizes,
     u: usize,
-    kinds: &[u8],
-    numbers: &[i32],
-    chains: &[u64],
-    places: &[u8],
+    codes: &[u64],
     located: Located,
 ) -> Sent
-    requires { ⌜ Parts sizes (now cells) (now filled) × (u < sizes .records) × RuleReads sizes (cellsOf (now cells) (now filled)) (now values) (now marks) u
-        (codesKept (now kinds) (now numbers) (now chains)) (now places) located ⌝ }
-    requires { let read = readsOf sizes (now cells) (now filled) u in
-        ⌜ Points read (targetIn (located .slot .rule)) × (offends read (ruleIn (codesKept (now kinds) (now numbers) (now chains)) (located .slot)) ≡ false) ⌝ }
-    ensures { λ r. ⌜ messagesIn r ≡ ruleMessages (readsOf sizes (now (cells .entry)) (now (filled .entry)) u)
-        (ruleIn (codesKept (now (kinds .entry)) (now (numbers .entry)) (now (chains .entry))) (located .slot)) ⌝ }
+    requires { ⌜ Parts sizes (now cells) (now filled) × (u < sizes .records) × SlotReaches sizes (now values) (now marks) u (now codes) located
+        × TargetFound Names sizes (cellsOf (now cells) (now filled)) (now values) (now marks) u (located .at .rule) (located .slot .rule) ⌝ }
+    ensures { λ r. ⌜ GoesTo (targetField (targetIn (located .slot .rule)))
+        (λ n. TargetFound (Within n) sizes (cellsOf (now (cells .entry)) (now (filled .entry))) (now (values .entry)) (now (marks .entry)) u (located .at .rule) (located .slot .rule)) r
+        × Told sizes (cellsOf (now (cells .entry)) (now (filled .entry))) (now (values .entry)) (now (marks .entry)) u (λ P. SlotPlaced P (now (codes .entry)) located)
+        (λ read. offends read (ruleIn (now (codes .entry)) (located .slot)) ≡ false → messagesIn r ≡ ruleMessages read (ruleIn (now (codes .entry)) (located .slot))) ⌝ }
 {
     let slot = located.slot;
     let rule = slot.rule;
@@ -56,19 +54,7 @@ pub fn message_of(
     let Reading::Value(to) = term::found_at(cells, filled, values, marks, sizes, u, first) else {
         return Sent::Nothing;
     };
-    let value = stored::effect(
-        cells,
-        filled,
-        values,
-        marks,
-        sizes,
-        u,
-        kinds,
-        numbers,
-        chains,
-        places,
-        located,
-    );
+    let value = stored::effect(cells, filled, values, marks, sizes, u, codes, located);
     let Evaluated::Value(amount) = value else {
         return Sent::Nothing;
     };

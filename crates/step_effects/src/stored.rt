@@ -4,12 +4,12 @@ ghost use Prim.Native.Nat.{_<_};
 ghost use Rattle.register.specs.Cells.{cellsOf};
 ghost use Rattle.register.specs.Shape.{Parts};
 ghost use Rattle.program.specs.declared.rule.Rule.the-variants.{Combine};
-ghost use Rattle.program.specs.Code.{codesKept};
 ghost use Rattle.program.specs.Program.{operation as operationOn, targetField};
 ghost use Rattle.program.specs.Stored.{ruleIn, targetIn, expressionIn, termIn};
-ghost use Rattle.step_terms.specs.Found.{readsOf, RuleFound, RuleReads};
+ghost use Rattle.program.specs.Terms.{RulePlaced, SlotPlaced};
+ghost use Rattle.step_terms.specs.Found.{Told, RuleReaches, SlotReaches};
 ghost use Rattle.step_operations.specs.Evaluated.{evaluated};
-ghost use Rattle.step_effects.specs.Answers.{doneBy, effectOf, writeOf};
+ghost use Rattle.step_effects.specs.Answers.{doneBy, effectOf, writeOf, DoneFor};
 use program::location::Located;
 use program::location::Places;
 use program::rule::Operator;
@@ -62,52 +62,22 @@ fn combine(
     marks: &[u8],
     sizes: Sizes,
     u: usize,
-    kinds: &[u8],
-    numbers: &[i32],
-    chains: &[u64],
-    places: &[u8],
+    codes: &[u64],
     field: u64,
     operator: Operator,
     x: Term,
     y: Term,
     at: Places,
 ) -> Evaluated
-    requires { ⌜ Parts sizes (now cells) (now filled) × (u < sizes .records) × RuleFound sizes (cellsOf (now cells) (now filled)) (now values) (now marks) u
-        (codesKept (now kinds) (now numbers) (now chains)) (now places) at (Combine field operator x y) ⌝ }
-    ensures { λ r. let k = codesKept (now (kinds .entry)) (now (numbers .entry)) (now (chains .entry)) in
-        ⌜ r ≡ evaluated (readsOf sizes (now (cells .entry)) (now (filled .entry)) u) (operationOn operator (termIn k x) (termIn k y)) ⌝ }
+    requires { ⌜ Parts sizes (now cells) (now filled) × (u < sizes .records) × RuleReaches sizes (now values) (now marks) u (now codes) at (Combine field operator x y) ⌝ }
+    ensures { λ r. ⌜ Told sizes (cellsOf (now (cells .entry)) (now (filled .entry))) (now (values .entry)) (now (marks .entry)) u
+        (λ P. RulePlaced P (now (codes .entry)) at (Combine field operator x y)) (λ read. r ≡ evaluated read (operationOn operator (termIn (now (codes .entry)) x) (termIn (now (codes .entry)) y))) ⌝ }
 {
     let first = at.first;
     let second = at.second;
-    let a = term::term_value(
-        cells,
-        filled,
-        values,
-        marks,
-        sizes,
-        u,
-        kinds,
-        numbers,
-        chains,
-        places,
-        x,
-        first,
-    );
-    let b = term::term_value(
-        cells,
-        filled,
-        values,
-        marks,
-        sizes,
-        u,
-        kinds,
-        numbers,
-        chains,
-        places,
-        y,
-        second,
-    );
-    operation::join(operation::kind_of(operator), a, b)
+    let a = term::term_value(cells, filled, values, marks, sizes, u, codes, x, first);
+    let b = term::term_value(cells, filled, values, marks, sizes, u, codes, y, second);
+    operation::join(operator, a, b)
 }
 
 // The expression of a rule at record u.
@@ -118,17 +88,13 @@ fn expression(
     marks: &[u8],
     sizes: Sizes,
     u: usize,
-    kinds: &[u8],
-    numbers: &[i32],
-    chains: &[u64],
-    places: &[u8],
+    codes: &[u64],
     rule: Rule,
     at: Places,
 ) -> Evaluated
-    requires { ⌜ Parts sizes (now cells) (now filled) × (u < sizes .records) × RuleFound sizes (cellsOf (now cells) (now filled)) (now values) (now marks) u
-        (codesKept (now kinds) (now numbers) (now chains)) (now places) at rule ⌝ }
-    ensures { λ r. ⌜ r ≡ evaluated (readsOf sizes (now (cells .entry)) (now (filled .entry)) u)
-        (expressionIn (codesKept (now (kinds .entry)) (now (numbers .entry)) (now (chains .entry))) rule) ⌝ }
+    requires { ⌜ Parts sizes (now cells) (now filled) × (u < sizes .records) × RuleReaches sizes (now values) (now marks) u (now codes) at rule ⌝ }
+    ensures { λ r. ⌜ Told sizes (cellsOf (now (cells .entry)) (now (filled .entry))) (now (values .entry)) (now (marks .entry)) u
+        (λ P. RulePlaced P (now (codes .entry)) at rule) (λ read. r ≡ evaluated read (expressionIn (now (codes .entry)) rule)) ⌝ }
 {
     let first = at.first;
     let second = at.second;
@@ -140,10 +106,7 @@ fn expression(
             marks,
             sizes,
             u,
-            kinds,
-            numbers,
-            chains,
-            places,
+            codes,
             x,
             first,
         ),
@@ -154,10 +117,7 @@ fn expression(
             marks,
             sizes,
             u,
-            kinds,
-            numbers,
-            chains,
-            places,
+            codes,
             field,
             operator,
             x,
@@ -171,10 +131,7 @@ fn expression(
             marks,
             sizes,
             u,
-            kinds,
-            numbers,
-            chains,
-            places,
+            codes,
             x,
             second,
         ),
@@ -189,16 +146,12 @@ pub fn effect(
     marks: &[u8],
     sizes: Sizes,
     u: usize,
-    kinds: &[u8],
-    numbers: &[i32],
-    chains: &[u64],
-    places: &[u8],
+    codes: &[u64],
     located: Located,
 ) -> Evaluated
-    requires { ⌜ Parts sizes (now cells) (now filled) × (u < sizes .records) × RuleReads sizes (cellsOf (now cells) (now filled)) (now values) (now marks) u
-        (codesKept (now kinds) (now numbers) (now chains)) (now places) located ⌝ }
-    ensures { λ r. ⌜ r ≡ effectOf (readsOf sizes (now (cells .entry)) (now (filled .entry)) u)
-        (ruleIn (codesKept (now (kinds .entry)) (now (numbers .entry)) (now (chains .entry))) (located .slot)) ⌝ }
+    requires { ⌜ Parts sizes (now cells) (now filled) × (u < sizes .records) × SlotReaches sizes (now values) (now marks) u (now codes) located ⌝ }
+    ensures { λ r. ⌜ Told sizes (cellsOf (now (cells .entry)) (now (filled .entry))) (now (values .entry)) (now (marks .entry)) u
+        (λ P. SlotPlaced P (now (codes .entry)) located) (λ read. r ≡ effectOf read (ruleIn (now (codes .entry)) (located .slot))) ⌝ }
 {
     let slot = located.slot;
     let rule = slot.rule;
@@ -210,10 +163,7 @@ pub fn effect(
         marks,
         sizes,
         u,
-        kinds,
-        numbers,
-        chains,
-        places,
+        codes,
         test,
         located.at.test,
     ) {
@@ -221,20 +171,7 @@ pub fn effect(
         Tested::OutOfRange => Evaluated::OutOfRange,
         Tested::Holds => {
             let at = located.at.rule;
-            expression(
-                cells,
-                filled,
-                values,
-                marks,
-                sizes,
-                u,
-                kinds,
-                numbers,
-                chains,
-                places,
-                rule,
-                at,
-            )
+            expression(cells, filled, values, marks, sizes, u, codes, rule, at)
         }
     }
 }
@@ -247,31 +184,16 @@ pub fn local_write(
     marks: &[u8],
     sizes: Sizes,
     u: usize,
-    kinds: &[u8],
-    numbers: &[i32],
-    chains: &[u64],
-    places: &[u8],
+    codes: &[u64],
     located: Located,
 ) -> Write
-    requires { ⌜ Parts sizes (now cells) (now filled) × (u < sizes .records) × RuleReads sizes (cellsOf (now cells) (now filled)) (now values) (now marks) u
-        (codesKept (now kinds) (now numbers) (now chains)) (now places) located ⌝ }
-    ensures { λ r. ⌜ r ≡ writeOf (readsOf sizes (now (cells .entry)) (now (filled .entry)) u)
-        (ruleIn (codesKept (now (kinds .entry)) (now (numbers .entry)) (now (chains .entry))) (located .slot)) ⌝ }
+    requires { ⌜ Parts sizes (now cells) (now filled) × (u < sizes .records) × SlotReaches sizes (now values) (now marks) u (now codes) located ⌝ }
+    ensures { λ r. ⌜ DoneFor (targetIn (located .slot .rule)) r
+        × Told sizes (cellsOf (now (cells .entry)) (now (filled .entry))) (now (values .entry)) (now (marks .entry)) u
+        (λ P. SlotPlaced P (now (codes .entry)) located) (λ read. r ≡ writeOf read (ruleIn (now (codes .entry)) (located .slot))) ⌝ }
 {
     let slot = located.slot;
     let rule = slot.rule;
-    let value = effect(
-        cells,
-        filled,
-        values,
-        marks,
-        sizes,
-        u,
-        kinds,
-        numbers,
-        chains,
-        places,
-        located,
-    );
+    let value = effect(cells, filled, values, marks, sizes, u, codes, located);
     write_value(rule, value)
 }

@@ -1,4 +1,2 @@
--- Laws of answers, of expressions and tests, and of codes.
-pub mod Joining
-pub mod Reading
+-- Laws of codes that are worked out.
 pub mod Waiting

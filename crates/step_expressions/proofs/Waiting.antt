@@ -1,54 +1,110 @@
--- An expression worked out from left to right, its operands waiting for what follows them.
-use Prim.Native.Nat.{ℕ, zero, suc, _+_, _≤_, _<_}
+-- An expression worked out from its codes, from left to right: operands wait for their operator.
+use Prim.Native.Nat.{ℕ, zero, suc, _+_, _-_, _≤_, _<_}
 use mathlib.Core.Path.{_≡_, refl, sym, ap, ap₂, subst, _∙_}
-use mathlib.Core.List.{List, [], _∷_, _++_, map, append-nil, append-assoc}
+use mathlib.Core.Logic.{⊎-elim}
+use mathlib.Core.Bool.{Bool, true, false}
+use mathlib.Core.List.{List, [], _∷_, _++_, append-nil, append-assoc}
 use native.Mathlib.Omega.{arith}
+use borrow.Author.Tests.{eq-eqb, eqb-true}
+use lib.Dec.{eqb}
 use lib.IntN.{ℤ, pos}
 use lib.ListN.{length, getD, set, length-set}
 use lib.Signed.{mag}
 use lib.Seq.{getD-set-same, getD-set-other}
 use mir.Syntax.{w64}
 use mir.Val.{toZ, ofZ}
+use Rattle.laws.proofs.Cases.{lt-or-le}
 use Rattle.register.specs.declared.Sizes.{Sizes}
 use Rattle.register.specs.declared.cells.Cell.{Cell}
 use Rattle.chain.specs.declared.reading.Reading.{Reading}
 use Rattle.program.specs.declared.rule.Operator.{Operator}
-use Rattle.program.specs.Program.{Expression, operation}
-use Rattle.program.specs.Code.{Code, operator, postfix, operatorOf, codesIn}
-use Rattle.program.proofs.Codes.{codes-none}
-use Rattle.step_terms.specs.Found.{followed}
+use Rattle.program.specs.declared.rule.Operator.the-variants.{Plus, Minus, Smaller}
+use Rattle.program.specs.Program.{Expression, reading, constant, operation, operators}
+use Rattle.program.specs.Code.{Code, chain, number, operator, unknown, postfix, kindIn, kindOf, ofKind, codeOf, codeAt, codesIn, treeIn, EachChain}
+use Rattle.program.proofs.Codes.{codes-first, codes-none, sign-coded}
+use Rattle.machine.specs.Value.{value, overflows}
+use Rattle.step_terms.specs.Found.{Agrees, Told, TreeReaches}
 use Rattle.step_operations.specs.declared.operation.Evaluated.{Evaluated}
-use Rattle.step_operations.specs.Evaluated.{answerOf, evaluated, joined}
-use Rattle.step_expressions.specs.Codes.{termAt, Ends, CodesFound, Evaluates}
+use Rattle.step_operations.specs.declared.operation.Evaluated.the-variants.{Value}
+use Rattle.step_operations.specs.Evaluated.{ofReading, answerOf, evaluated, joined, JoinsBy}
 use Rattle.step_operations.proofs.Operating.{read-back, operation-joined}
-use Rattle.step_expressions.proofs.Joining.{Joins, wrapped, joinCodes, opened}
-use Rattle.step_expressions.proofs.Reading.{first-code, no-code, term-at, no-end-at, operator-at, more, term-value, begins}
+use Rattle.step_expressions.specs.Codes.{termAt}
 
--- the operands that wait, the last first: the operator that the next one is joined by, the operand, and what is joined behind
-abbrev pub Levels : Type 0
-Levels = List (Operator × Expression × Joins)
+-- codes that go on from n answers: an operator finds two, and there are never more than m
+abbrev pub Takes : ℕ → ℕ → List Code → Type 0
+Takes m n [] = Unit {0}
+Takes m n (chain w ∷ cs) = (n < m) × Takes m (suc n) cs
+Takes m n (number z ∷ cs) = (n < m) × Takes m (suc n) cs
+Takes m n (operator op ∷ cs) = (1 < n) × Takes m (n - 1) cs
+Takes m n (unknown ∷ cs) = ⊥
 
-unfoldable pub whole : Expression → Joins → Levels → Expression
-whole x js [] = wrapped x js
-whole x js (w ∷ ws) = whole (operation (w .0) (w .1) (wrapped x js)) (w .2) ws
+-- an expression needs one place, and one more for each operator
+takes-postfix : (m n : ℕ) (e : Expression) (cs : List Code) → n + operators e < m → Takes m (suc n) cs → Takes m n (postfix e ++ cs)
+unfolding postfix operators
+takes-postfix m n (reading w) cs h t = (omega arith, t)
+takes-postfix m n (constant z) cs h t = (omega arith, t)
+takes-postfix m n (operation op x y) cs h t =
+    let back : suc n ≡ suc (suc n) - 1 = omega arith in
+    subst (Takes m n) (sym (append-assoc (postfix x) (postfix y ++ (operator op ∷ [])) cs))
+    (takes-postfix m n x ((postfix y ++ (operator op ∷ [])) ++ cs) (omega arith)
+    (subst (Takes m (suc n)) (sym (append-assoc (postfix y) (operator op ∷ []) cs))
+    (takes-postfix m (suc n) y (operator op ∷ cs) (omega arith) (omega arith, subst (λ (i : ℕ). Takes m i cs) back t))))
 
--- the codes that are left
-unfoldable pub behind : Joins → Levels → List Code
-behind js [] = joinCodes js
-behind js (w ∷ ws) = joinCodes js ++ (operator (w .0) ∷ behind (w .2) ws)
+-- what codes make of the answers before them, the last one first
+unfoldable pub operated : Operator → List Evaluated → List Evaluated
+operated op [] = []
+operated op (y ∷ []) = []
+operated op (y ∷ x ∷ vs) = joined op x y ∷ vs
 
-module _ (op : Operator) (y : Expression) (js : Joins) where
-  whole-join : (x : Expression) (ls : Levels) → whole x ((op, y) ∷ js) ls ≡ whole (operation op x y) js ls
-  unfolding whole wrapped
-  whole-join x [] = refl
-  whole-join x (w ∷ ws) = refl
+unfoldable pub ran : (List ℕ → Reading) → List Code → List Evaluated → List Evaluated
+ran read [] vs = vs
+ran read (chain w ∷ cs) vs = ran read cs (ofReading (read w) ∷ vs)
+ran read (number z ∷ cs) vs = ran read cs (Value z ∷ vs)
+ran read (operator op ∷ cs) vs = ran read cs (operated op vs)
+ran read (unknown ∷ cs) vs = []
 
-  behind-join : (ls : Levels) → behind ((op, y) ∷ js) ls ≡ postfix y ++ (operator op ∷ behind js ls)
-  unfolding behind joinCodes
-  behind-join [] = refl
-  behind-join (w ∷ ws) = append-assoc (postfix y) (operator op ∷ joinCodes js) (operator (w .0) ∷ behind (w .2) ws)
+ran-postfix : (read : List ℕ → Reading) (e : Expression) (cs : List Code) (vs : List Evaluated) → ran read (postfix e ++ cs) vs ≡ ran read cs (evaluated read e ∷ vs)
+unfolding postfix ran operated evaluated value overflows ofReading
+ran-postfix read (reading w) cs vs = refl
+ran-postfix read (constant z) cs vs = refl
+ran-postfix read (operation op x y) cs vs =
+    ap (λ (l : List Code). ran read l vs) (append-assoc (postfix x) (postfix y ++ (operator op ∷ [])) cs)
+    ∙ ran-postfix read x ((postfix y ++ (operator op ∷ [])) ++ cs) vs
+    ∙ ap (λ (l : List Code). ran read l (evaluated read x ∷ vs)) (append-assoc (postfix y) (operator op ∷ []) cs)
+    ∙ ran-postfix read y (operator op ∷ cs) (evaluated read x ∷ vs)
+    ∙ ap (λ (v : Evaluated). ran read cs (v ∷ vs)) (sym (operation-joined op read x y))
 
--- the answers of the first n numbers of an array, the last first
+-- a code that is an operator
+record Sign (c : ℕ) : Type 0 where
+  op : Operator
+  kind-is : kindIn c ≡ kindOf op
+  code-is : codeOf c ≡ operator op
+
+sign : (c m n : ℕ) (cs : List Code) → 1 < kindIn c → Takes m n (codeOf c ∷ cs) → Sign c
+unfolding ofKind kindOf
+sign c m n cs h t = go (eqb (kindIn c) 2) (eqb (kindIn c) 3) (eqb (kindIn c) 4) refl refl refl
+  where
+    is : codeOf c ≡ ofKind (kindIn c)
+    is = sign-coded c (λ e. omega (arith, e, h)) (λ e. omega (arith, e, h))
+
+    go : (a b d : Bool) → eqb (kindIn c) 2 ≡ a → eqb (kindIn c) 3 ≡ b → eqb (kindIn c) 4 ≡ d → Sign c
+    go true b d p q r = record { op = Plus; kind-is = eqb-true (kindIn c) 2 p; code-is = is ∙ simp p }
+    go false true d p q r = record { op = Minus; kind-is = eqb-true (kindIn c) 3 q; code-is = is ∙ simp (p, q) }
+    go false false true p q r = record { op = Smaller; kind-is = eqb-true (kindIn c) 4 r; code-is = is ∙ simp (p, q, r) }
+    go false false false p q r =
+        let none : codeOf c ≡ unknown = is ∙ simp (p, q, r) in
+        absurd (subst (λ (x : Code). Takes m n (x ∷ cs)) none t)
+
+-- a code that is a term
+term-takes : (c m n : ℕ) (cs : List Code) → kindIn c ≤ 1 → Takes m n (codeOf c ∷ cs) → (n < m) × Takes m (suc n) cs
+unfolding codeOf
+term-takes c m n cs h t =
+    ⊎-elim
+    (λ (b : kindIn c < 1). let z : kindIn c ≡ 0 = omega arith in simp (eq-eqb (kindIn c) 0 z) at t)
+    (λ (b : 1 ≤ kindIn c). let o : kindIn c ≡ 1 = omega arith in simp o at t)
+    (lt-or-le (kindIn c) 1)
+
+-- the answers of the first n numbers of an array, the last one first
 unfoldable pub lastFirst : List ℤ → ℕ → List Evaluated
 lastFirst l zero = []
 lastFirst l (suc n) = answerOf (getD l n (pos 0)) ∷ lastFirst l n
@@ -62,165 +118,125 @@ one-more : (l : List ℤ) (n : ℕ) (v : ℤ) → n < length l → lastFirst (se
 unfolding lastFirst
 one-more l n v h = ap₂ _∷_ (ap answerOf (getD-set-same l n v (pos 0) h)) (kept-before l n n v (omega arith))
 
--- an expression whose part so far comes to a value, with the answers of what waits, and the codes that are left
-pub record Worked (read : List ℕ → Reading) (e : Expression) (value : Evaluated) (waiting : List Evaluated) (l : List Code) : Type 0 where
-  pub part : Expression
-  pub joins : Joins
-  pub levels : Levels
-  pub value-is : value ≡ evaluated read part
-  pub waiting-are : waiting ≡ map (λ w. evaluated read (w .1)) levels
-  pub whole-is : whole part joins levels ≡ e
-  pub codes-are : l ≡ behind joins levels
-
-first-answer : {x y : Evaluated} {l m : List Evaluated} → x ∷ l ≡ y ∷ m → (x ≡ y) × (l ≡ m)
-first-answer e = (cc, cc)
-
-no-answer : {x : Evaluated} {l : List Evaluated} → x ∷ l ≡ [] → ⊥
-no-answer e = absurd (let z : _≡_ {A = ℕ} 0 1 = cc in omega arith)
-
-module _ (s : Sizes) (cells : List Cell) (values : List ℤ) (marks : List ℕ) (u : ℕ) (kinds : List ℕ) (numbers : List ℤ) (places : List ℕ) (to : ℕ)
-    (chains : List ℕ) (e : Expression) where
-  abbrev read : List ℕ → Reading
-  read = followed s cells u
-
+module _ (s : Sizes) (cells : List Cell) (values : List ℤ) (marks : List ℕ) (u : ℕ) (codes : List ℕ) (from to : ℕ) where
+  -- the codes from a place on
   abbrev left : ℕ → List Code
-  left i = codesIn kinds numbers chains i to
+  left i = codesIn codes i to
 
-  -- the first term
-  first : (i : ℕ) → i < to → CodesFound s cells values marks u kinds chains places i to → left i ≡ postfix e
-      → Worked read e (termAt s cells values marks u kinds numbers places i) [] (left (i + 1))
-  unfolding whole behind
-  first i h found q =
-      let r = begins s cells values marks u kinds numbers places to chains e [] i h found (q ∙ sym (append-nil (postfix e))) in
-      record {
-        part = r .part;
-        joins = r .joins;
-        levels = [];
-        value-is = r .value-is;
-        waiting-are = refl;
-        whole-is = r .whole;
-        codes-are = r .codes ∙ append-nil (joinCodes (r .joins));
-      }
+  abbrev code : ℕ → ℕ
+  code i = getD codes i 0
 
-  -- an operand begins: the part so far waits
-  push : (i : ℕ) → i < to → getD kinds i 0 < 2 → CodesFound s cells values marks u kinds chains places i to → {v : Evaluated} {st : List Evaluated}
-      → Worked read e v st (left i) → Worked read e (termAt s cells values marks u kinds numbers places i) (v ∷ st) (left (i + 1))
-  unfolding whole behind joinCodes
-  push i h k found {v} {st} r = go (r .joins) (r .levels) (r .waiting-are) (r .whole-is) (r .codes-are)
-    where
-      go : (js : Joins) (ls : Levels) → st ≡ map (λ w. evaluated read (w .1)) ls → whole (r .part) js ls ≡ e → left i ≡ behind js ls
-          → Worked read e (termAt s cells values marks u kinds numbers places i) (v ∷ st) (left (i + 1))
-      go [] [] a w l = absurd (no-code (sym l ∙ more s cells values marks u kinds numbers places to chains i h))
-      go [] (x ∷ xs) a w l =
-          absurd (no-end-at s cells values marks u kinds numbers places to chains i (left (i + 1)) k
-          (subst Ends (sym l ∙ more s cells values marks u kinds numbers places to chains i h) tt))
-      go (j ∷ js) ls a w l =
-          let o = opened (j .1) in
-          let q = l ∙ behind-join (j .0) (j .1) js ls ∙ ap (λ (m : List Code). m ++ (operator (j .0) ∷ behind js ls)) (o .codes) in
-          let (c, rest) = first-code (sym (more s cells values marks u kinds numbers places to chains i h) ∙ q) in
-          record {
-            part = o .first;
-            joins = o .joins;
-            levels = (j .0, r .part, js) ∷ ls;
-            value-is = term-value s cells values marks u kinds numbers places to chains i h found (o .first) c (o .term);
-            waiting-are = ap₂ _∷_ (r .value-is) a;
-            whole-is = ap (λ (z : Expression). whole (operation (j .0) (r .part) z) js ls) (o .whole) ∙ sym (whole-join (j .0) (j .1) js (r .part) ls) ∙ w;
-            codes-are = rest;
-          }
+  more : (i : ℕ) → i < to → left i ≡ codeOf (code i) ∷ left (i + 1)
+  unfolding codeAt
+  more i h = let q : suc i ≡ i + 1 = omega arith in codes-first codes i to h ∙ ap (λ (j : ℕ). codeOf (code i) ∷ left j) q
 
-  -- an operator: what waited last is joined with the part so far
-  pop : (i : ℕ) → i < to → 1 < getD kinds i 0 → {v x : Evaluated} {st : List Evaluated} → Worked read e v (x ∷ st) (left i)
-      → Worked read e (joined (operatorOf (getD kinds i 0)) x v) st (left (i + 1))
-  unfolding whole behind joinCodes wrapped
-  pop i h k {v} {x} {st} r = go (r .joins) (r .levels) (r .waiting-are) (r .whole-is) (r .codes-are)
-    where
-      go : (js : Joins) (ls : Levels) → x ∷ st ≡ map (λ w. evaluated read (w .1)) ls → whole (r .part) js ls ≡ e → left i ≡ behind js ls
-          → Worked read e (joined (operatorOf (getD kinds i 0)) x v) st (left (i + 1))
-      go (j ∷ js) ls a w l =
-          let o = opened (j .1) in
-          let q = l ∙ behind-join (j .0) (j .1) js ls ∙ ap (λ (m : List Code). m ++ (operator (j .0) ∷ behind js ls)) (o .codes) in
-          let c = first-code (sym (more s cells values marks u kinds numbers places to chains i h) ∙ q) .0 in
-          absurd (let t = term-at s cells values marks u kinds numbers places to chains i (o .first) c (o .term) in omega arith)
-      go [] [] a w l = absurd (no-answer a)
-      go [] (y ∷ ys) a w l =
-          let (c, rest) = first-code (sym (more s cells values marks u kinds numbers places to chains i h) ∙ l) in
-          let (is, others) = first-answer a in
-          record {
-            part = operation (y .0) (y .1) (r .part);
-            joins = y .2;
-            levels = ys;
-            value-is = rw (operator-at s cells values marks u kinds numbers places to chains i (y .0) c, is, r .value-is)
-                (sym (operation-joined (y .0) read (y .1) (r .part)));
-            waiting-are = others;
-            whole-is = w;
-            codes-are = rest;
-          }
+  -- a term at work
+  term-ran : (read : List ℕ → Reading) → EachChain (Agrees s cells values marks u read) codes from to → (i : ℕ) → from ≤ i → i < to
+      → kindIn (code i) ≤ 1 → (vs : List Evaluated) → ran read (left i) vs ≡ ran read (left (i + 1)) (termAt s cells values marks u (code i) ∷ vs)
+  unfolding ran termAt codeOf
+  term-ran read agrees i l h k vs =
+      rw (more i h)
+      (⊎-elim
+      (λ (b : kindIn (code i) < 1).
+      let z : kindIn (code i) ≡ 0 = omega arith in
+      simp (eq-eqb (kindIn (code i)) 0 z) (ap (λ (x : Reading). ran read (left (i + 1)) (ofReading x ∷ vs)) (sym (agrees i l h z))))
+      (λ (b : 1 ≤ kindIn (code i)). let o : kindIn (code i) ≡ 1 = omega arith in simp o)
+      (lt-or-le (kindIn (code i)) 1))
 
-  -- the end
-  worked : (i : ℕ) → to ≤ i → {v : Evaluated} {st : List Evaluated} → Worked read e v st (left i) → v ≡ evaluated read e
-  unfolding whole behind joinCodes wrapped
-  worked i h {v} {st} r = go (r .joins) (r .levels) (r .whole-is) (r .codes-are)
-    where
-      none : left i ≡ []
-      none = codes-none kinds numbers chains i to h
-
-      go : (js : Joins) (ls : Levels) → whole (r .part) js ls ≡ e → left i ≡ behind js ls → v ≡ evaluated read e
-      go [] [] w l = r .value-is ∙ ap (evaluated read) w
-      go [] (x ∷ xs) w l = absurd (no-code (sym none ∙ l))
-      go (j ∷ js) ls w l =
-          let o = opened (j .1) in
-          absurd (no-code (sym none ∙ l ∙ behind-join (j .0) (j .1) js ls ∙ ap (λ (m : List Code). m ++ (operator (j .0) ∷ behind js ls)) (o .codes)))
-
--- the codes from `from` up to `at` are worked out, and the answers of the first `count` numbers of an array wait
-module _ (s : Sizes) (cells : List Cell) (values : List ℤ) (marks : List ℕ) (u : ℕ) (kinds : List ℕ) (numbers : List ℤ) (places : List ℕ) (from to : ℕ) where
+  -- the codes up to `at` are worked out, and the answers of the first `count` numbers of an array wait
   pub record WorkedTo (waiting : List ℤ) (count : ℕ) (v : ℤ) (at : ℕ) : Type 0 where
     pub beyond : from < at
     pub within : at ≤ to
-    pub room : length waiting ≡ 18
-    pub few : count ≤ 18
-    pub works : (chains : List ℕ) → CodesFound s cells values marks u kinds chains places from to → (e : Expression)
-        → codesIn kinds numbers chains from to ≡ postfix e → Worked (followed s cells u) e (answerOf v) (lastFirst waiting count) (codesIn kinds numbers chains at to)
+    pub room : length waiting ≡ 64
+    pub few : count ≤ 64
+    pub takes : Takes 65 (suc count) (left at)
+    pub works : Told s cells values marks u (λ P. EachChain P codes from to)
+        (λ read. ran read (left at) (answerOf v ∷ lastFirst waiting count) ≡ evaluated read (treeIn codes from to) ∷ [])
 
-  pub worked-first : {waiting : List ℤ} {v : ℤ} → from < to → length waiting ≡ 18 → answerOf v ≡ termAt s cells values marks u kinds numbers places from
-      → WorkedTo waiting 0 v (from + 1)
-  unfolding lastFirst
-  worked-first h n q = record {
-    beyond = omega arith;
-    within = omega arith;
-    room = n;
-    few = omega arith;
-    works = λ chains found e p. rw q (first s cells values marks u kinds numbers places to chains e from h found p);
-  }
+  -- the first is a term
+  module _ (t : TreeReaches s values marks u codes from to) where
+    tree-takes : Takes 65 0 (left from)
+    unfolding treeIn
+    tree-takes =
+        subst (Takes 65 0) (append-nil _ ∙ sym (t .formed)) (takes-postfix 65 0 (treeIn codes from to) [] (omega (arith, t .few)) tt)
+
+    first-takes : Takes 65 0 (codeOf (code from) ∷ left (from + 1))
+    first-takes = subst (Takes 65 0) (more from (t .some)) tree-takes
+
+    first-term : kindIn (code from) ≤ 1
+    first-term =
+        ⊎-elim
+        (λ (b : 1 < kindIn (code from)).
+        let none = subst (λ (x : Code). Takes 65 0 (x ∷ left (from + 1))) (sign (code from) 65 0 (left (from + 1)) b first-takes .code-is) first-takes .0 in
+        absurd (omega (arith, none)))
+        (λ b. b)
+        (lt-or-le 1 (kindIn (code from)))
+
+    pub worked-first : {waiting : List ℤ} {v : ℤ} → length waiting ≡ 64 → answerOf v ≡ termAt s cells values marks u (code from) → WorkedTo waiting 0 v (from + 1)
+    unfolding treeIn lastFirst ran
+    worked-first n q = record {
+      beyond = omega arith;
+      within = omega (arith, t .some);
+      room = n;
+      few = omega arith;
+      takes = term-takes (code from) 65 0 (left (from + 1)) first-term first-takes .1;
+      works = λ read agrees.
+          rw q
+          (sym (term-ran read agrees from (omega arith) (t .some) first-term [])
+          ∙ ap (λ (l : List Code). ran read l []) (t .formed ∙ sym (append-nil _)) ∙ ran-postfix read (treeIn codes from to) [] []);
+    }
 
   module _ {waiting : List ℤ} {count : ℕ} {v : ℤ} {at : ℕ} (r : WorkedTo waiting count v at) (h : at < to) where
-    pub worked-push : getD kinds at 0 ≤ 1 → count < 18 → {z : ℤ} → answerOf z ≡ termAt s cells values marks u kinds numbers places at
-        → WorkedTo (set waiting count v) (count + 1) z (at + 1)
-    worked-push k l {z} q =
+    here : Takes 65 (suc count) (codeOf (code at) ∷ left (at + 1))
+    here = subst (Takes 65 (suc count)) (more at h) (r .takes)
+
+    -- an operand begins: the part so far waits
+    pub push-room : kindIn (code at) ≤ 1 → count < 64
+    push-room k = omega (arith, term-takes (code at) 65 (suc count) (left (at + 1)) k here .0)
+
+    pub worked-push : kindIn (code at) ≤ 1 → {z : ℤ} → answerOf z ≡ termAt s cells values marks u (code at) → WorkedTo (set waiting count v) (count + 1) z (at + 1)
+    worked-push k {z} q =
         let next : count + 1 ≡ suc count = omega arith in
         record {
           beyond = omega (arith, r .beyond);
           within = omega arith;
           room = length-set waiting count v ∙ r .room;
-          few = omega arith;
-          works = λ chains found e p.
-              rw (q, ap (lastFirst (set waiting count v)) next ∙ one-more waiting count v (omega (arith, r .room)))
-              (push s cells values marks u kinds numbers places to chains e at h (omega arith) (λ i b. found i (omega (arith, r .beyond))) (r .works chains found e p));
+          few = omega (arith, push-room k);
+          takes = rw next (term-takes (code at) 65 (suc count) (left (at + 1)) k here .1);
+          works = λ read agrees.
+              rw (q, next, one-more waiting count v (omega (arith, r .room, push-room k)))
+              (sym (term-ran read agrees at (omega (arith, r .beyond)) h k _) ∙ r .works read agrees);
         }
 
-    -- what waits is read back from its bits
-    pub worked-pop : 1 < getD kinds at 0 → {n : ℕ} → count ≡ suc n → mag (getD waiting n (pos 0)) < 9223372036854775808 → {z : ℤ}
-        → answerOf z ≡ joined (operatorOf (getD kinds at 0)) (answerOf (toZ w64 (ofZ w64 (getD waiting n (pos 0))))) (answerOf v) → WorkedTo waiting n z (at + 1)
-    unfolding lastFirst
-    worked-pop k {n} q b a = record {
-      beyond = omega (arith, r .beyond);
-      within = omega arith;
-      room = r .room;
-      few = omega (arith, r .few);
-      works = λ chains found e p.
-          rw (a, read-back (getD waiting n (pos 0)) b)
-          (pop s cells values marks u kinds numbers places to chains e at h k
-          (subst (λ (i : ℕ). Worked (followed s cells u) e (answerOf v) (lastFirst waiting i) (codesIn kinds numbers chains at to)) q (r .works chains found e p)));
-    }
+    -- an operator: what waited last is joined with the part so far
+    module _ (k : 1 < kindIn (code at)) where
+      abbrev op : Sign (code at)
+      op = sign (code at) 65 (suc count) (left (at + 1)) k here
+
+      operator-takes : (1 < suc count) × Takes 65 (suc count - 1) (left (at + 1))
+      operator-takes = subst (λ (x : Code). Takes 65 (suc count) (x ∷ left (at + 1))) (op .code-is) here
+
+      pub some-wait : 0 < count
+      some-wait = omega (arith, operator-takes .0)
+
+      -- what waits is read back from its bits
+      pub worked-pop : mag (getD waiting (count - 1) (pos 0)) < 9223372036854775808 → {z : ℤ}
+          → JoinsBy (kindIn (code at)) (answerOf (toZ w64 (ofZ w64 (getD waiting (count - 1) (pos 0))))) (answerOf v) (answerOf z) → WorkedTo waiting (count - 1) z (at + 1)
+      unfolding ran operated lastFirst
+      worked-pop b {z} a =
+          let n : count ≡ suc (count - 1) = omega (arith, some-wait) in
+          let m : suc count - 1 ≡ suc (count - 1) = omega (arith, some-wait) in
+          record {
+            beyond = omega (arith, r .beyond);
+            within = omega arith;
+            room = r .room;
+            few = omega (arith, r .few);
+            takes = subst (λ (i : ℕ). Takes 65 i (left (at + 1))) m (operator-takes .1);
+            works = λ read agrees.
+                rw (a (op .op) (op .kind-is), read-back (getD waiting (count - 1) (pos 0)) b)
+                (sym (ap₂ (λ (l : List Code) (i : ℕ). ran read l (answerOf v ∷ lastFirst waiting i)) (more at h ∙ ap (λ (x : Code). x ∷ left (at + 1)) (op .code-is)) n)
+                ∙ r .works read agrees);
+          }
 
   -- under the names that a later state has
   pub worked-as : {waiting waiting′ : List ℤ} {count count′ : ℕ} {v v′ : ℤ} {at : ℕ} → WorkedTo waiting count v at
@@ -228,5 +244,10 @@ module _ (s : Sizes) (cells : List Cell) (values : List ℤ) (marks : List ℕ) 
   worked-as r w n q = rw (w, n, q) r
 
   pub worked-all : {waiting : List ℤ} {count : ℕ} {v : ℤ} {at : ℕ} → WorkedTo waiting count v at → to ≤ at
-      → Evaluates s cells values marks u kinds numbers places from to (answerOf v)
-  worked-all {at} r h chains found e q = worked s cells values marks u kinds numbers places to chains e at h (r .works chains found e q)
+      → Told s cells values marks u (λ P. EachChain P codes from to) (λ read. answerOf v ≡ evaluated read (treeIn codes from to))
+  unfolding ran
+  worked-all {waiting} {count} {v} {at} r h read agrees =
+      only (sym (ap (λ (l : List Code). ran read l (answerOf v ∷ lastFirst waiting count)) (codes-none codes at to h)) ∙ r .works read agrees)
+    where
+      only : {x y : Evaluated} {l m : List Evaluated} → x ∷ l ≡ y ∷ m → x ≡ y
+      only e = cc

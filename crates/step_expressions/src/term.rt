@@ -3,9 +3,9 @@ ghost use mathlib.Core.Path.{_≡_};
 ghost use Prim.Native.Nat.{_<_};
 ghost use Rattle.register.specs.Cells.{cellsOf};
 ghost use Rattle.register.specs.Shape.{Parts};
-ghost use Rattle.program.specs.Code.{codesKept};
 ghost use Rattle.program.specs.Stored.{termIn, testIn};
-ghost use Rattle.step_terms.specs.Found.{readsOf, TermFound, TestFound};
+ghost use Rattle.program.specs.Terms.{TermPlaced, TestPlaced};
+ghost use Rattle.step_terms.specs.Found.{Told, TermReaches, TestReaches};
 ghost use Rattle.step_operations.specs.Evaluated.{evaluated};
 ghost use Rattle.step_operations.specs.Tests.{tested};
 use crate::evaluate;
@@ -20,7 +20,7 @@ use step_operations::operation;
 use step_operations::operation::Evaluated;
 use step_terms::term;
 
-// A term at record u. The chains of the codes are for the contract: the places say where they are found.
+// A term at record u, where its chains are found.
 pub fn term_value(
     cells: &[u8],
     filled: &[u8],
@@ -28,17 +28,13 @@ pub fn term_value(
     marks: &[u8],
     sizes: Sizes,
     u: usize,
-    kinds: &[u8],
-    numbers: &[i32],
-    chains: &[u64],
-    places: &[u8],
+    codes: &[u64],
     term: Term,
     at: Location,
 ) -> Evaluated
-    requires { ⌜ Parts sizes (now cells) (now filled) × (u < sizes .records) × TermFound sizes (cellsOf (now cells) (now filled)) (now values) (now marks) u
-        (codesKept (now kinds) (now numbers) (now chains)) (now places) at term ⌝ }
-    ensures { λ r. ⌜ r ≡ evaluated (readsOf sizes (now (cells .entry)) (now (filled .entry)) u)
-        (termIn (codesKept (now (kinds .entry)) (now (numbers .entry)) (now (chains .entry))) term) ⌝ }
+    requires { ⌜ Parts sizes (now cells) (now filled) × (u < sizes .records) × TermReaches sizes (now values) (now marks) u (now codes) at term ⌝ }
+    ensures { λ r. ⌜ Told sizes (cellsOf (now (cells .entry)) (now (filled .entry))) (now (values .entry)) (now (marks .entry)) u
+        (λ P. TermPlaced P (now (codes .entry)) at term) (λ read. r ≡ evaluated read (termIn (now (codes .entry)) term)) ⌝ }
 {
     match term {
         Term::Chain(_) => operation::of_reading(term::found_at(
@@ -58,9 +54,7 @@ pub fn term_value(
             marks,
             sizes,
             u,
-            kinds,
-            numbers,
-            places,
+            codes,
             from as usize,
             to as usize,
         ),
@@ -75,51 +69,21 @@ pub fn test_at(
     marks: &[u8],
     sizes: Sizes,
     u: usize,
-    kinds: &[u8],
-    numbers: &[i32],
-    chains: &[u64],
-    places: &[u8],
+    codes: &[u64],
     test: Test,
     at: Places,
 ) -> Tested
-    requires { ⌜ Parts sizes (now cells) (now filled) × (u < sizes .records) × TestFound sizes (cellsOf (now cells) (now filled)) (now values) (now marks) u
-        (codesKept (now kinds) (now numbers) (now chains)) (now places) at test ⌝ }
-    ensures { λ r. ⌜ r ≡ tested (readsOf sizes (now (cells .entry)) (now (filled .entry)) u)
-        (testIn (codesKept (now (kinds .entry)) (now (numbers .entry)) (now (chains .entry))) test) ⌝ }
+    requires { ⌜ Parts sizes (now cells) (now filled) × (u < sizes .records) × TestReaches sizes (now values) (now marks) u (now codes) at test ⌝ }
+    ensures { λ r. ⌜ Told sizes (cellsOf (now (cells .entry)) (now (filled .entry))) (now (values .entry)) (now (marks .entry)) u
+        (λ P. TestPlaced P (now (codes .entry)) at test) (λ read. r ≡ tested read (testIn (now (codes .entry)) test)) ⌝ }
 {
     match test {
         Test::Always => Tested::Holds,
         Test::When(x, comparison, y) => {
             let first = at.first;
             let second = at.second;
-            let left = term_value(
-                cells,
-                filled,
-                values,
-                marks,
-                sizes,
-                u,
-                kinds,
-                numbers,
-                chains,
-                places,
-                x,
-                first,
-            );
-            let right = term_value(
-                cells,
-                filled,
-                values,
-                marks,
-                sizes,
-                u,
-                kinds,
-                numbers,
-                chains,
-                places,
-                y,
-                second,
-            );
+            let left = term_value(cells, filled, values, marks, sizes, u, codes, x, first);
+            let right = term_value(cells, filled, values, marks, sizes, u, codes, y, second);
             comparison::compare_sides(left, comparison, right)
         }
     }

@@ -1,6 +1,7 @@
 -- Operations on values as the code holds them, and on answers.
 use Prim.Native.Nat.{ℕ, zero, suc, _≤_, _<_}
 use mathlib.Core.Path.{_≡_, refl, sym, ap, ap₂, _∙_}
+use mathlib.Core.Logic.{_≢_}
 use mathlib.Core.Bool.{Bool, true, false, cond, not, _||_}
 use mathlib.Core.List.{List}
 use native.Mathlib.Omega.{arith}
@@ -19,11 +20,41 @@ use Rattle.chain.specs.declared.reading.Reading.{Reading}
 use Rattle.chain.specs.declared.reading.Reading.the-variants as R
 use Rattle.program.specs.declared.rule.Operator.{Operator}
 use Rattle.program.specs.declared.rule.Operator.the-variants.{Plus, Minus, Smaller}
+use Rattle.program.specs.Code.{kindOf}
 use Rattle.program.specs.Program.{Expression, operation}
 use Rattle.machine.specs.Value.{both, operate, combined, value, readingInRange, overflows}
 use Rattle.step_operations.specs.declared.operation.Evaluated.{Evaluated}
 use Rattle.step_operations.specs.declared.operation.Evaluated.the-variants.{Missing, Value, OutOfRange}
 use Rattle.step_operations.specs.Evaluated.{ofReading, ofSum, answerOf, evaluated, joined}
+
+-- the operator that has a kind of code
+module _ (op : Operator) {kind : ℕ} (is : kind ≡ kindOf op) where
+  pub plus-kind : kind ≡ 2 → op ≡ Plus
+  unfolding kindOf
+  plus-kind h = go op (sym is ∙ h)
+    where
+      go : (op : Operator) → kindOf op ≡ 2 → op ≡ Plus
+      go Plus e = refl
+      go Minus e = absurd (omega arith)
+      go Smaller e = absurd (omega arith)
+
+  pub minus-kind : kind ≡ 3 → op ≡ Minus
+  unfolding kindOf
+  minus-kind h = go op (sym is ∙ h)
+    where
+      go : (op : Operator) → kindOf op ≡ 3 → op ≡ Minus
+      go Plus e = absurd (omega arith)
+      go Minus e = refl
+      go Smaller e = absurd (omega arith)
+
+  pub smaller-kind : kind ≢ 2 → kind ≢ 3 → op ≡ Smaller
+  unfolding kindOf
+  smaller-kind two three = go op is
+    where
+      go : (op : Operator) → kind ≡ kindOf op → op ≡ Smaller
+      go Plus e = absurd (two e)
+      go Minus e = absurd (three e)
+      go Smaller e = refl
 
 -- how far an operation on two values can reach
 negated : (z : ℤ) → mag (negℤ z) ≤ suc (mag z)

@@ -1,5 +1,6 @@
 -- What an expression comes to at one record: unfilled, a value, or out of range where one of its sums is.
 use Prim.Native.Nat.{ℕ}
+use mathlib.Core.Path.{_≡_}
 use mathlib.Core.Bool.{cond}
 use mathlib.Core.List.{List}
 use lib.IntN.{ℤ, pos}
@@ -10,6 +11,7 @@ use Rattle.integers.specs.declared.Sum.the-variants as S
 use Rattle.chain.specs.declared.reading.Reading.{Reading}
 use Rattle.chain.specs.declared.reading.Reading.the-variants as R
 use Rattle.program.specs.declared.rule.Operator.{Operator}
+use Rattle.program.specs.Code.{kindOf}
 use Rattle.program.specs.Program.{Expression}
 use Rattle.machine.specs.Value.{operate, value, overflows}
 use Rattle.step_operations.specs.declared.operation.Evaluated.{Evaluated}
@@ -40,3 +42,10 @@ joined op Missing (Value b) = Missing
 joined op (Value a) OutOfRange = OutOfRange
 joined op (Value a) Missing = Missing
 joined op (Value a) (Value b) = ofSum (sumOf (operate op a b))
+
+-- the result of the operator that has a kind of code, on two values and on two answers
+abbrev pub OperatesBy : ℕ → ℤ → ℤ → ℤ → Type 0
+OperatesBy kind a b r = (op : Operator) → kind ≡ kindOf op → r ≡ operate op a b
+
+abbrev pub JoinsBy : ℕ → Evaluated → Evaluated → Evaluated → Type 0
+JoinsBy kind x y r = (op : Operator) → kind ≡ kindOf op → r ≡ joined op x y

@@ -1,9 +1,9 @@
 // Answers of expressions, and operations on them.
 ghost use mathlib.Core.Path.{_≡_};
 ghost use Rattle.integers.specs.Range.{sumOf};
-ghost use Rattle.program.specs.Code.{operatorOf};
+ghost use Rattle.program.specs.Code.{kindOf};
 ghost use Rattle.machine.specs.Value.{operate as operateOn};
-ghost use Rattle.step_operations.specs.Evaluated.{ofReading, ofSum, answerOf, joined};
+ghost use Rattle.step_operations.specs.Evaluated.{ofReading, ofSum, answerOf, joined, OperatesBy, JoinsBy};
 use chain::reading::Reading;
 use integers::Sum;
 use program::rule::Operator;
@@ -39,7 +39,7 @@ fn of_sum(sum: Sum) -> Evaluated
 // The exact result of an operation, by the kind of its code: a match on an operator made of the kind is not seen through by the
 // compiler.
 fn operate_by(kind: u8, a: i32, b: i32) -> i64
-    ensures { λ r. ⌜ r ≡ operateOn (operatorOf kind) a b ⌝ }
+    ensures { λ r. ⌜ OperatesBy kind a b r ⌝ }
 {
     if kind == 2 {
         return a as i64 + b as i64;
@@ -84,7 +84,7 @@ pub fn answer_of(number: i64) -> Evaluated
 // An operation on two answers as numbers, by the kind of its code: a sum out of range stays so, and an unfilled operand makes
 // the whole unfilled.
 pub fn join_by(kind: u8, x: i64, y: i64) -> i64
-    ensures { λ r. ⌜ answerOf r ≡ joined (operatorOf kind) (answerOf x) (answerOf y) ⌝ }
+    ensures { λ r. ⌜ JoinsBy kind (answerOf x) (answerOf y) (answerOf r) ⌝ }
 {
     match integers::in_range(x) {
         Sum::InRange(a) => {
@@ -106,8 +106,8 @@ pub fn join_by(kind: u8, x: i64, y: i64) -> i64
 }
 
 // The kind of an operator's code.
-pub fn kind_of(operator: Operator) -> u8
-    ensures { λ r. ⌜ operatorOf r ≡ operator ⌝ }
+fn kind_of(operator: Operator) -> u8
+    ensures { λ r. ⌜ r ≡ kindOf operator ⌝ }
 {
     match operator {
         Operator::Plus => 2,
@@ -116,9 +116,9 @@ pub fn kind_of(operator: Operator) -> u8
     }
 }
 
-// An operation on two answers, by the kind of its code.
-pub fn join(kind: u8, x: Evaluated, y: Evaluated) -> Evaluated
-    ensures { λ r. ⌜ r ≡ joined (operatorOf kind) x y ⌝ }
+// An operation on two answers.
+pub fn join(operator: Operator, x: Evaluated, y: Evaluated) -> Evaluated
+    ensures { λ r. ⌜ r ≡ joined operator x y ⌝ }
 {
-    answer_of(join_by(kind, number_of(x), number_of(y)))
+    answer_of(join_by(kind_of(operator), number_of(x), number_of(y)))
 }

@@ -15,7 +15,6 @@ use Rattle.program.specs.declared.term.Term.{Term}
 use Rattle.program.specs.declared.rule.Rule.{Rule}
 use Rattle.program.specs.declared.rule.Rule.the-variants.{Set, Combine, Remote}
 use Rattle.program.specs.declared.rule.Slot.{Slot}
-use Rattle.program.specs.Code.{Codes}
 use Rattle.program.specs.Program.{Target, own, operation, isRemote, targetField}
 use Rattle.program.specs.Stored.{termIn, testIn, targetIn, expressionIn, ruleIn}
 use Rattle.program.specs.declared.rule.Operator.{Operator}
@@ -46,7 +45,7 @@ done-is t false Missing = refl
 done-is t false (Value z) = refl
 
 -- what one record, which reads this, makes of a rule
-module _ (read : List ℕ → Reading) (k : Codes) where
+module _ (read : List ℕ → Reading) (k : List ℕ) where
   -- a remote rule whose amount is plain
   record Amount (r : Rule) : Type 0 where
     formed : overflows read (expressionIn k r) ≡ false

@@ -3,13 +3,12 @@ ghost use mathlib.Core.Path.{_≡_};
 ghost use Prim.Native.Nat.{_<_};
 ghost use Rattle.register.specs.Cells.{cellsOf};
 ghost use Rattle.register.specs.Shape.{Parts};
-ghost use Rattle.chain.specs.Word.{unpack};
 ghost use Rattle.program.specs.declared.rule.Rule.the-variants.{Set, Combine, Remote};
 ghost use Rattle.program.specs.Program.{own, isRemote};
 ghost use Rattle.program.specs.Stored.{targetIn};
-ghost use Rattle.step_terms.specs.Found.{readsOf, Names, Points};
+ghost use mathlib.Core.List.{[]};
+ghost use Rattle.step_terms.specs.Found.{foundAt, RuleReaches, SlotReaches, TargetFound, Names};
 ghost use Rattle.step_operations.specs.Evaluated.{ofReading, ofSum};
-ghost use Rattle.step_tests.specs.Plain.{PlainRuleFound, PlainReads};
 ghost use Rattle.step_effects.specs.Answers.{doneBy};
 ghost use Rattle.step_plain.specs.Done.{PlainDone, PlainSent, PlainWrite, PlainMessages};
 use chain::reading::Reading;
@@ -70,8 +69,8 @@ fn combine(
     y: Term,
     at: Places,
 ) -> Write
-    requires { ⌜ Parts sizes (now cells) (now filled) × (u < sizes .records) × PlainRuleFound sizes (cellsOf (now cells) (now filled)) (now values) (now marks) u at (Combine field operator x y) ⌝ }
-    ensures { λ r. ⌜ PlainDone (readsOf sizes (now (cells .entry)) (now (filled .entry)) u) (Combine field operator x y) r ⌝ }
+    requires { ⌜ Parts sizes (now cells) (now filled) × (u < sizes .records) × RuleReaches sizes (now values) (now marks) u [] at (Combine field operator x y) ⌝ }
+    ensures { λ r. ⌜ PlainDone sizes (cellsOf (now (cells .entry)) (now (filled .entry))) (now (values .entry)) (now (marks .entry)) u at (Combine field operator x y) r ⌝ }
 {
     let first = at.first;
     let Reading::Value(a) = step_tests::term_value(cells, filled, values, marks, sizes, u, x, first)
@@ -104,8 +103,8 @@ pub fn local_write(
     u: usize,
     located: Located,
 ) -> Write
-    requires { ⌜ Parts sizes (now cells) (now filled) × (u < sizes .records) × PlainReads sizes (cellsOf (now cells) (now filled)) (now values) (now marks) u located ⌝ }
-    ensures { λ r. ⌜ PlainWrite (readsOf sizes (now (cells .entry)) (now (filled .entry)) u) (located .slot) r ⌝ }
+    requires { ⌜ Parts sizes (now cells) (now filled) × (u < sizes .records) × SlotReaches sizes (now values) (now marks) u [] located ⌝ }
+    ensures { λ r. ⌜ PlainWrite sizes (cellsOf (now (cells .entry)) (now (filled .entry))) (now (values .entry)) (now (marks .entry)) u located r ⌝ }
 {
     let slot = located.slot;
     let rule = slot.rule;
@@ -157,9 +156,9 @@ fn send(
     x: Term,
     at: Places,
 ) -> Sent
-    requires { ⌜ Parts sizes (now cells) (now filled) × (u < sizes .records) × PlainRuleFound sizes (cellsOf (now cells) (now filled)) (now values) (now marks) u at (Remote sort field target x) ⌝ }
-    requires { ⌜ Names (readsOf sizes (now cells) (now filled) u (unpack target)) ⌝ }
-    ensures { λ r. ⌜ PlainSent (readsOf sizes (now (cells .entry)) (now (filled .entry)) u) sort field target x r ⌝ }
+    requires { ⌜ Parts sizes (now cells) (now filled) × (u < sizes .records) × RuleReaches sizes (now values) (now marks) u [] at (Remote sort field target x) ⌝ }
+    requires { ⌜ Names (foundAt sizes (cellsOf (now cells) (now filled)) (now values) (now marks) u (at .first)) ⌝ }
+    ensures { λ r. ⌜ PlainSent sizes (cellsOf (now (cells .entry)) (now (filled .entry))) (now (values .entry)) (now (marks .entry)) u at sort field target x r ⌝ }
 {
     let first = at.first;
     let Reading::Value(to) = term::found_at(cells, filled, values, marks, sizes, u, first) else {
@@ -196,9 +195,9 @@ pub fn message_of(
     u: usize,
     located: Located,
 ) -> Sent
-    requires { ⌜ Parts sizes (now cells) (now filled) × (u < sizes .records) × PlainReads sizes (cellsOf (now cells) (now filled)) (now values) (now marks) u located ⌝ }
-    requires { ⌜ Points (readsOf sizes (now cells) (now filled) u) (targetIn (located .slot .rule)) ⌝ }
-    ensures { λ r. ⌜ PlainMessages (readsOf sizes (now (cells .entry)) (now (filled .entry)) u) (located .slot) r ⌝ }
+    requires { ⌜ Parts sizes (now cells) (now filled) × (u < sizes .records) × SlotReaches sizes (now values) (now marks) u [] located ⌝ }
+    requires { ⌜ TargetFound Names sizes (cellsOf (now cells) (now filled)) (now values) (now marks) u (located .at .rule) (located .slot .rule) ⌝ }
+    ensures { λ r. ⌜ PlainMessages sizes (cellsOf (now (cells .entry)) (now (filled .entry))) (now (values .entry)) (now (marks .entry)) u located r ⌝ }
 {
     let slot = located.slot;
     let rule = slot.rule;

@@ -1,52 +1,57 @@
 -- What the remote writes of a step leave.
 use mathlib.Core.Path.{_≡_}
 use mathlib.Core.List.{List}
-use mathlib.Core.Bool.{true}
-use Prim.Native.Nat.{ℕ, _+_, _≤_, _<_}
+use mathlib.Core.Bool.{true, false}
+use Prim.Native.Nat.{ℕ, _+_, _*_, _≤_, _<_}
 use lib.IntN.{ℤ}
-use lib.ListN.{length}
+use lib.ListN.{length, take}
 use Rattle.register.specs.File.{cellCount}
 use Rattle.register.specs.declared.Sizes.{Sizes}
 use Rattle.register.specs.declared.cells.Cell.{Cell}
+use Rattle.chain.specs.declared.reading.Reading.{Reading}
 use Rattle.chain.specs.Word.{hasField}
-use Rattle.program.specs.Program.{Rule}
-use Rattle.program.specs.declared.rule.Slot.{Slot}
-use Rattle.program.specs.Code.{Codes}
-use Rattle.program.specs.Stored.{ruleIn}
-use Rattle.machine.specs.Remote.{ruleMessages, recordMessages, deliverAll}
-use Rattle.step_terms.specs.Found.{followed}
-use Rattle.step_effects.specs.Answers.{messagesIn}
+use Rattle.program.specs.declared.location.Located.{Located}
+use Rattle.program.specs.Stored.{ruleIn, rulesIn}
+use Rattle.program.specs.Terms.{SlotPlaced}
+use Rattle.machine.specs.declared.message.Message.{Message}
+use Rattle.machine.specs.Local.{offends}
+use Rattle.machine.specs.Remote.{ruleMessages, deliverAll}
+use Rattle.step_terms.specs.Found.{Told}
 use Rattle.step_effects.specs.declared.sent.Sent.{Sent}
 use Rattle.step_effects.specs.declared.sent.Sent.the-variants.{Nothing, One}
 use Rattle.step_cells.specs.Work.{HoldsCells, Same, Small}
-
--- by one rule at record u, whose messages are counted behind the n before; a value grows by one amount at most
-pub record RuleDelivered (s : Sizes) (cells : List Cell) (base u : ℕ) (r : Rule) (values : List ℤ) (marks : List ℕ)
-    (values′ : List ℤ) (marks′ : List ℕ) (n n′ : ℕ) : Type 0 where
-  pub same : Same base values marks values′ marks′
-  pub holds : (d : List Cell) → length d ≡ cellCount s → HoldsCells base d values marks
-      → HoldsCells base (deliverAll s d (ruleMessages (followed s cells u) r)) values′ marks′
-  pub sent-is : n′ ≡ n + length (ruleMessages (followed s cells u) r)
-  pub sent≤ : n′ ≤ n + 1
-  pub small : (b : ℕ) → Small b base (cellCount s) values marks → Small (b + 2147483648) base (cellCount s) values′ marks′
+use Rattle.step_rules.specs.Ready.{AllAgree, AllInRange}
 
 -- a message goes to a record and a field of the register
 abbrev pub Addresses : Sizes → Sent → Type 0
 Addresses s Nothing = Unit {0}
 Addresses s (One m) = (m .target < s .records) × (hasField s (m .field) ≡ true)
 
--- where a rule's message is delivered, and by a plain rule
-abbrev pub Posted : Sizes → ℕ → Sent → List ℤ → List ℕ → List ℤ → List ℕ → ℕ → ℕ → Type 0
-Posted s base m values marks values′ marks′ n n′ =
-    (cells : List Cell) (u : ℕ) (r : Rule) → messagesIn m ≡ ruleMessages (followed s cells u) r → RuleDelivered s cells base u r values marks values′ marks′ n n′
-
-abbrev pub PlainDelivered : Sizes → List Cell → ℕ → ℕ → Slot → List ℤ → List ℕ → List ℤ → List ℕ → ℕ → ℕ → Type 0
-PlainDelivered s cells base u x values marks values′ marks′ n n′ = (k : Codes) → RuleDelivered s cells base u (ruleIn k x) values marks values′ marks′ n n′
-
--- by all, which send n messages
-pub record Delivered (s : Sizes) (cells : List Cell) (base : ℕ) (rs : List Rule) (values : List ℤ) (marks : List ℕ)
-    (values′ : List ℤ) (marks′ : List ℕ) (n : ℕ) : Type 0 where
+-- by these messages, which are counted behind the n before; a value grows by one amount for each
+pub record Delivers (s : Sizes) (base : ℕ) (ms : List Message) (values : List ℤ) (marks : List ℕ) (values′ : List ℤ) (marks′ : List ℕ) (n n′ : ℕ) : Type 0 where
   pub same : Same base values marks values′ marks′
-  pub holds : (d : List Cell) → length d ≡ cellCount s → HoldsCells base d values marks
-      → HoldsCells base (deliverAll s d (recordMessages (followed s cells) rs (s .records))) values′ marks′
-  pub sent-is : n ≡ length (recordMessages (followed s cells) rs (s .records))
+  pub holds : (d : List Cell) → length d ≡ cellCount s → HoldsCells base d values marks → HoldsCells base (deliverAll s d ms) values′ marks′
+  pub sent-is : n′ ≡ n + length ms
+  pub small : (b : ℕ) → Small b base (cellCount s) values marks → Small (b + 2147483648 * length ms) base (cellCount s) values′ marks′
+
+-- by messages of which this is told
+pub record Delivered (s : Sizes) (base : ℕ) (Tells : List Message → Type 0) (values : List ℤ) (marks : List ℕ) (values′ : List ℤ) (marks′ : List ℕ)
+    (n n′ : ℕ) : Type 0 where
+  pub messages : List Message
+  pub tells : Tells messages
+  pub delivers : Delivers s base messages values marks values′ marks′ n n′
+
+-- at most one message of a rule at record u, told by every reader with which no sum of it leaves the range; of a plain rule, whatever the codes are
+abbrev pub RuleSends : Sizes → List Cell → List ℤ → List ℕ → ℕ → ℕ → List ℕ → Located → List Message → Type 0
+RuleSends s cells values marks base u codes x ms = (length ms ≤ 1)
+    × Told s cells (take base values) (take base marks) u (λ P. SlotPlaced P codes x)
+    (λ read. offends read (ruleIn codes (x .slot)) ≡ false → ms ≡ ruleMessages read (ruleIn codes (x .slot)))
+
+abbrev pub PlainSends : Sizes → List Cell → List ℤ → List ℕ → ℕ → ℕ → Located → List Message → Type 0
+PlainSends s cells values marks base u x ms = (codes : List ℕ) → RuleSends s cells values marks base u codes x ms
+
+-- the messages that a reader tells, where it agrees with the first count rules and no sum of theirs leaves the range
+abbrev pub AllSend : Sizes → List Cell → List ℤ → List ℕ → ℕ → List ℕ → ℕ → List Located → ((ℕ → List ℕ → Reading) → List Message) → List Message → Type 0
+AllSend s cells values marks base codes count rules told ms =
+    (read : ℕ → List ℕ → Reading) → AllAgree s cells (take base values) (take base marks) codes read (take count rules)
+    → AllInRange s read (rulesIn codes count rules) → ms ≡ told read

@@ -1,16 +1,15 @@
 // A local rule of a step at one record.
 ghost use mathlib.Core.Path.{_≡_};
 ghost use mathlib.Core.Bool.{true};
+ghost use mathlib.Core.List.{[]};
 ghost use Prim.Native.Nat.{_+_, _*_, _<_};
 ghost use lib.ListN.{length, take};
 ghost use Rattle.register.specs.File.{cellCount, cellIndex, cellsOfFile};
 ghost use Rattle.register.specs.Shape.{Limits};
 ghost use Rattle.chain.specs.Word.{hasField, column as columnOf};
-ghost use Rattle.program.specs.Code.{codesKept};
-ghost use Rattle.program.specs.Stored.{ruleIn};
 ghost use Rattle.register.specs.declared.cells.Cell.the-variants.{WorkedOut};
 ghost use Rattle.step_cells.specs.Work.{Room, Put};
-ghost use Rattle.step_rules.specs.Ready.{RuleReady, PlainReady, LocalRule, WritesField, Performed, PlainLocal};
+ghost use Rattle.step_rules.specs.Ready.{RuleReady, WritesField, Performed, RuleLeaves, PlainLeaves};
 use chain::follow;
 use program::location::Located;
 use register::Sizes;
@@ -69,17 +68,12 @@ pub fn apply_rule(
     sizes: Sizes,
     base: usize,
     u: usize,
-    kinds: &[u8],
-    numbers: &[i32],
-    chains: &[u64],
-    places: &[u8],
+    codes: &[u64],
     rule: Located,
 ) -> Stop
     requires { ⌜ Limits sizes × (length (now out) ≡ 12 + 5 * cellCount sizes) × (u < sizes .records) × Room base (cellCount sizes) (now values) (now marks) ⌝ }
-    requires { ⌜ RuleReady sizes (cellsOfFile sizes (now out)) (take base (now values)) (take base (now marks))
-        (codesKept (now kinds) (now numbers) (now chains)) (now places) rule ⌝ }
-    ensures { λ r. ⌜ LocalRule sizes (cellsOfFile sizes (now (out .entry))) base u
-        (ruleIn (codesKept (now (kinds .entry)) (now (numbers .entry)) (now (chains .entry))) (rule .slot))
+    requires { ⌜ RuleReady sizes (cellsOfFile sizes (now out)) (take base (now values)) (take base (now marks)) (now codes) rule ⌝ }
+    ensures { λ r. ⌜ RuleLeaves sizes (cellsOfFile sizes (now (out .entry))) base u (now (codes .entry)) rule
         (now (values .entry)) (now (marks .entry)) (now (values .exit)) (now (marks .exit)) r ⌝ }
 {
     let write = stored::local_write(
@@ -89,10 +83,7 @@ pub fn apply_rule(
         &marks[..base],
         sizes,
         u,
-        kinds,
-        numbers,
-        chains,
-        places,
+        codes,
         rule,
     );
     perform(values, marks, sizes, base, u, write)
@@ -109,8 +100,8 @@ pub fn apply_plain(
     rule: Located,
 ) -> Stop
     requires { ⌜ Limits sizes × (length (now out) ≡ 12 + 5 * cellCount sizes) × (u < sizes .records) × Room base (cellCount sizes) (now values) (now marks) ⌝ }
-    requires { ⌜ PlainReady sizes (cellsOfFile sizes (now out)) (take base (now values)) (take base (now marks)) rule ⌝ }
-    ensures { λ r. ⌜ PlainLocal sizes (cellsOfFile sizes (now (out .entry))) base u (rule .slot)
+    requires { ⌜ RuleReady sizes (cellsOfFile sizes (now out)) (take base (now values)) (take base (now marks)) [] rule ⌝ }
+    ensures { λ r. ⌜ PlainLeaves sizes (cellsOfFile sizes (now (out .entry))) base u rule
         (now (values .entry)) (now (marks .entry)) (now (values .exit)) (now (marks .exit)) r ⌝ }
 {
     let write = step_plain::local_write(

@@ -1,18 +1,17 @@
 // The remote writes of a step, delivered to the working cells.
 ghost use mathlib.Core.Path.{_≡_};
-ghost use mathlib.Core.Bool.{false};
+ghost use mathlib.Core.List.{[]};
 ghost use Prim.Native.Nat.{_+_, _*_, _≤_, _<_};
 ghost use lib.ListN.{length, take};
 ghost use Rattle.register.specs.Cells.{cellsOf};
 ghost use Rattle.register.specs.File.{cellCount, cellsOfFile};
 ghost use Rattle.register.specs.Shape.{Limits, Parts};
-ghost use Rattle.program.specs.Code.{codesKept};
-ghost use Rattle.program.specs.Stored.{ruleIn, rulesIn};
-ghost use Rattle.machine.specs.Local.{offends};
-ghost use Rattle.step_terms.specs.Found.{followed};
+ghost use Rattle.program.specs.Stored.{rulesIn};
+ghost use Rattle.machine.specs.Remote.{recordMessages};
+ghost use Rattle.step_effects.specs.Answers.{messagesIn};
 ghost use Rattle.step_cells.specs.Work.{Room, Small};
-ghost use Rattle.step_rules.specs.Ready.{RuleReady, PlainReady, AllReady, AllPlain, AllInRange};
-ghost use Rattle.step_rules.specs.Delivered.{Addresses, Posted, RuleDelivered, PlainDelivered, Delivered};
+ghost use Rattle.step_rules.specs.Ready.{RuleReady, AllReady, AllPlain};
+ghost use Rattle.step_rules.specs.Delivered.{Addresses, Delivers, Delivered, RuleSends, PlainSends, AllSend};
 use program::location::Located;
 use register::Sizes;
 use register::cells;
@@ -33,7 +32,7 @@ fn post(
 ) -> usize
     requires { ⌜ Limits sizes × Addresses sizes message × Room base (cellCount sizes) (now values) (now marks) ⌝ }
     requires { ⌜ Small 4611686018427387904 base (cellCount sizes) (now values) (now marks) × (sent < 131072) ⌝ }
-    ensures { λ r. ⌜ Posted sizes base message (now (values .entry)) (now (marks .entry)) (now (values .exit)) (now (marks .exit)) sent r ⌝ }
+    ensures { λ r. ⌜ Delivers sizes base (messagesIn message) (now (values .entry)) (now (marks .entry)) (now (values .exit)) (now (marks .exit)) sent r ⌝ }
 {
     match message {
         Sent::Nothing => sent,
@@ -55,20 +54,14 @@ fn apply_rule(
     sizes: Sizes,
     base: usize,
     u: usize,
-    kinds: &[u8],
-    numbers: &[i32],
-    chains: &[u64],
-    places: &[u8],
+    codes: &[u64],
     rule: Located,
     sent: usize,
 ) -> usize
     requires { ⌜ Parts sizes (now cells) (now filled) × (u < sizes .records) × Room base (length (now filled)) (now values) (now marks) ⌝ }
-    requires { ⌜ RuleReady sizes (cellsOf (now cells) (now filled)) (take base (now values)) (take base (now marks))
-        (codesKept (now kinds) (now numbers) (now chains)) (now places) rule
-        × (offends (followed sizes (cellsOf (now cells) (now filled)) u) (ruleIn (codesKept (now kinds) (now numbers) (now chains)) (rule .slot)) ≡ false) ⌝ }
+    requires { ⌜ RuleReady sizes (cellsOf (now cells) (now filled)) (take base (now values)) (take base (now marks)) (now codes) rule ⌝ }
     requires { ⌜ Small 4611686018427387904 base (length (now filled)) (now values) (now marks) × (sent < 131072) ⌝ }
-    ensures { λ r. ⌜ RuleDelivered sizes (cellsOf (now (cells .entry)) (now (filled .entry))) base u
-        (ruleIn (codesKept (now (kinds .entry)) (now (numbers .entry)) (now (chains .entry))) (rule .slot))
+    ensures { λ r. ⌜ Delivered sizes base (RuleSends sizes (cellsOf (now (cells .entry)) (now (filled .entry))) (now (values .entry)) (now (marks .entry)) base u (now (codes .entry)) rule)
         (now (values .entry)) (now (marks .entry)) (now (values .exit)) (now (marks .exit)) sent r ⌝ }
 {
     let message = sent::message_of(
@@ -78,10 +71,7 @@ fn apply_rule(
         &marks[..base],
         sizes,
         u,
-        kinds,
-        numbers,
-        chains,
-        places,
+        codes,
         rule,
     );
     post(values, marks, sizes, base, message, sent)
@@ -100,9 +90,9 @@ fn apply_plain(
     sent: usize,
 ) -> usize
     requires { ⌜ Parts sizes (now cells) (now filled) × (u < sizes .records) × Room base (length (now filled)) (now values) (now marks) ⌝ }
-    requires { ⌜ PlainReady sizes (cellsOf (now cells) (now filled)) (take base (now values)) (take base (now marks)) rule ⌝ }
+    requires { ⌜ RuleReady sizes (cellsOf (now cells) (now filled)) (take base (now values)) (take base (now marks)) [] rule ⌝ }
     requires { ⌜ Small 4611686018427387904 base (length (now filled)) (now values) (now marks) × (sent < 131072) ⌝ }
-    ensures { λ r. ⌜ PlainDelivered sizes (cellsOf (now (cells .entry)) (now (filled .entry))) base u (rule .slot)
+    ensures { λ r. ⌜ Delivered sizes base (PlainSends sizes (cellsOf (now (cells .entry)) (now (filled .entry))) (now (values .entry)) (now (marks .entry)) base u rule)
         (now (values .entry)) (now (marks .entry)) (now (values .exit)) (now (marks .exit)) sent r ⌝ }
 {
     let message = step_plain::message_of(
@@ -124,22 +114,18 @@ pub fn apply(
     marks: &mut [u8],
     sizes: Sizes,
     base: usize,
-    kinds: &[u8],
-    numbers: &[i32],
-    chains: &[u64],
-    places: &[u8],
+    codes: &[u64],
     rules: [Located; 32],
     count: usize,
     plain: bool,
 ) -> usize
     requires { ⌜ Limits sizes × (length (now out) ≡ 12 + 5 * cellCount sizes) × Room base (cellCount sizes) (now values) (now marks) × (count ≤ 32) × (length rules ≡ 32) ⌝ }
-    requires { ⌜ AllReady sizes (cellsOfFile sizes (now out)) (take base (now values)) (take base (now marks))
-        (codesKept (now kinds) (now numbers) (now chains)) (now places) (take count rules)
-        × AllInRange sizes (cellsOfFile sizes (now out)) (rulesIn (codesKept (now kinds) (now numbers) (now chains)) count rules) ⌝ }
+    requires { ⌜ AllReady sizes (cellsOfFile sizes (now out)) (take base (now values)) (take base (now marks)) (now codes) (take count rules) ⌝ }
     requires { ⌜ Small 2147483648 base (cellCount sizes) (now values) (now marks) × AllPlain plain (take count rules) ⌝ }
-    ensures { λ r. ⌜ Delivered sizes (cellsOfFile sizes (now (out .entry))) base
-        (rulesIn (codesKept (now (kinds .entry)) (now (numbers .entry)) (now (chains .entry))) count rules)
-        (now (values .entry)) (now (marks .entry)) (now (values .exit)) (now (marks .exit)) r ⌝ }
+    ensures { λ r. ⌜ Delivered sizes base
+        (AllSend sizes (cellsOfFile sizes (now (out .entry))) (now (values .entry)) (now (marks .entry)) base (now (codes .entry)) count rules
+        (λ read. recordMessages read (rulesIn (now (codes .entry)) count rules) (sizes .records)))
+        (now (values .entry)) (now (marks .entry)) (now (values .exit)) (now (marks .exit)) 0 r ⌝ }
 {
     let cells = cells::values_part(out, sizes);
     let filled = cells::marks_part(out, sizes);
@@ -157,10 +143,7 @@ pub fn apply(
                     sizes,
                     base,
                     u,
-                    kinds,
-                    numbers,
-                    chains,
-                    places,
+                    codes,
                     rules[k],
                     sent,
                 );

@@ -2,19 +2,18 @@
 use mathlib.Core.Path.{_≡_}
 use mathlib.Core.Bool.{true}
 use mathlib.Core.List.{List}
-use Prim.Native.Nat.{ℕ, _+_, _*_, _<_}
+use Prim.Native.Nat.{ℕ, _+_, _*_, _≤_, _<_}
 use lib.Dec.{T}
 use lib.IntN.{ℤ, pos}
 use lib.ListN.{length, getD}
 use lib.Signed.{nonNeg}
 use mir.Syntax.{w32}
 use mir.Val.{SFits}
-use Rattle.register.specs.Cells.{cellsOf}
 use Rattle.register.specs.declared.Sizes.{Sizes}
 use Rattle.register.specs.declared.cells.Cell as C
 use Rattle.chain.specs.declared.reading.Reading.{Reading}
 use Rattle.chain.specs.declared.reading.Reading.the-variants.{Missing, Value}
-use Rattle.chain.specs.Word.{hasField, readCell, unpack, valueAtRecord}
+use Rattle.chain.specs.Word.{hasField, readCell, refersTo}
 use Rattle.program.specs.declared.term.Term.{Term}
 use Rattle.program.specs.declared.term.Term.the-variants.{Chain, Number, Tree}
 use Rattle.program.specs.declared.rule.Test.{Test}
@@ -25,8 +24,8 @@ use Rattle.program.specs.declared.location.Location.{Location}
 use Rattle.program.specs.declared.location.Location.the-variants.{Own, Cell, Line}
 use Rattle.program.specs.declared.location.Places.{Places}
 use Rattle.program.specs.declared.location.Located.{Located}
-use Rattle.program.specs.Program.{Target, own, remote}
-use Rattle.program.specs.Code.{Codes, Arrays, Formed, codesOf, EachChain}
+use Rattle.program.specs.Program.{operators}
+use Rattle.program.specs.Code.{Formed, codesIn, treeIn, EachChain}
 use Rattle.scratch.specs.Places.{placeAt}
 
 -- "Line i, from 0, and origin u have place i × n + u"
@@ -51,54 +50,53 @@ Reaches s values marks u Own = Unit {0}
 Reaches s values marks u (Cell f) = hasField s f ≡ true
 Reaches s values marks u (Line i) = LineReaches s values marks u i
 
--- what record u reads for a word, by following
-abbrev pub followed : Sizes → List C.Cell → ℕ → List ℕ → Reading
-followed s cells u w = valueAtRecord s cells w u
+-- a reader says of a word what record u finds where the word is located
+abbrev pub Agrees : Sizes → List C.Cell → List ℤ → List ℕ → ℕ → (List ℕ → Reading) → Location → List ℕ → Type 0
+Agrees s cells values marks u read at w = foundAt s cells values marks u at ≡ read w
 
--- the same in a register of these bytes and marks
-abbrev pub readsOf : Sizes → List ℕ → List ℕ → ℕ → List ℕ → Reading
-readsOf s bytes filled u = followed s (cellsOf bytes filled) u
+-- P holds of every reader that agrees with all that is located so: "takes every reading that has a line from there alone"
+abbrev pub Told : Sizes → List C.Cell → List ℤ → List ℕ → ℕ → ((Location → List ℕ → Type 0) → Type 0) → ((List ℕ → Reading) → Type 0) → Type 0
+Told s cells values marks u Located P = (read : List ℕ → Reading) → Located (Agrees s cells values marks u read) → P read
 
--- record u finds the reading of w at a location
-pub record WordFound (s : Sizes) (cells : List C.Cell) (values : List ℤ) (marks : List ℕ) (u : ℕ) (at : Location) (w : List ℕ) : Type 0 where
-  pub reaches : Reaches s values marks u at
-  pub found-is : foundAt s cells values marks u at ≡ followed s cells u w
-
--- the codes from..to are those of an expression, and record u finds each chain of them where its place says
-pub record TreeFound (s : Sizes) (cells : List C.Cell) (values : List ℤ) (marks : List ℕ) (u : ℕ) (k : Codes) (places : List ℕ)
-    (from to : ℕ) : Type 0 where
-  pub formed : Formed (codesOf k from to)
+-- the codes from..to are those of an expression of at most 64 operators, and each chain of them leads somewhere
+pub record TreeReaches (s : Sizes) (values : List ℤ) (marks : List ℕ) (u : ℕ) (codes : List ℕ) (from to : ℕ) : Type 0 where
+  pub formed : Formed (codesIn codes from to)
+  pub few : operators (treeIn codes from to) ≤ 64
   pub some : from < to
-  pub kept : Arrays (k .kinds) (k .numbers) places to
-  pub found : EachChain (WordFound s cells values marks u) (k .kinds) (k .chains) places from to
+  pub kept : to ≤ length codes
+  pub reaches : EachChain (λ at w. Reaches s values marks u at) codes from to
 
--- record u finds each reading of a term, of a test and of a rule; k are the codes beside the rules, with the place of each chain
-module _ (s : Sizes) (cells : List C.Cell) (values : List ℤ) (marks : List ℕ) (u : ℕ) (k : Codes) (places : List ℕ) where
-  abbrev pub TermFound : Location → Term → Type 0
-  TermFound at (Chain c) = WordFound s cells values marks u at (unpack c)
-  TermFound at (Number z) = Unit {0}
-  TermFound at (Tree from to) = TreeFound s cells values marks u k places from to
+-- each reading of a term, of a test and of a rule leads somewhere; with no codes, the terms are chains and numbers
+module _ (s : Sizes) (values : List ℤ) (marks : List ℕ) (u : ℕ) (codes : List ℕ) where
+  abbrev pub TermReaches : Location → Term → Type 0
+  TermReaches at (Chain c) = Reaches s values marks u at
+  TermReaches at (Number z) = Unit {0}
+  TermReaches at (Tree from to) = TreeReaches s values marks u codes from to
 
-  abbrev pub TestFound : Places → Test → Type 0
-  TestFound p Always = Unit {0}
-  TestFound p (When x c y) = TermFound (p .first) x × TermFound (p .second) y
+  abbrev pub TestReaches : Places → Test → Type 0
+  TestReaches p Always = Unit {0}
+  TestReaches p (When x c y) = TermReaches (p .first) x × TermReaches (p .second) y
 
-  abbrev pub RuleFound : Places → Rule → Type 0
-  RuleFound p (Set f x) = TermFound (p .first) x
-  RuleFound p (Combine f op x y) = TermFound (p .first) x × TermFound (p .second) y
-  RuleFound p (Remote sort f c x) = WordFound s cells values marks u (p .first) (unpack c) × TermFound (p .second) x
+  abbrev pub RuleReaches : Places → Rule → Type 0
+  RuleReaches p (Set f x) = TermReaches (p .first) x
+  RuleReaches p (Combine f op x y) = TermReaches (p .first) x × TermReaches (p .second) y
+  RuleReaches p (Remote sort f c x) = Reaches s values marks u (p .first) × TermReaches (p .second) x
 
-  -- every reading of a rule and its test
-  pub record RuleReads (x : Located) : Type 0 where
-    pub test : TestFound (x .at .test) (x .slot .test)
-    pub rule : RuleFound (x .at .rule) (x .slot .rule)
+  -- a rule with its test
+  pub record SlotReaches (x : Located) : Type 0 where
+    pub test : TestReaches (x .at .test) (x .slot .test)
+    pub rule : RuleReaches (x .at .rule) (x .slot .rule)
 
--- a reading that is missing or names a record
+-- Q holds of what record u finds for the record that a remote write goes to, where there is one
+abbrev pub TargetFound : (Reading → Type 0) → Sizes → List C.Cell → List ℤ → List ℕ → ℕ → Places → Rule → Type 0
+TargetFound Q s cells values marks u p (Set f x) = Unit {0}
+TargetFound Q s cells values marks u p (Combine f op x y) = Unit {0}
+TargetFound Q s cells values marks u p (Remote sort f c x) = Q (foundAt s cells values marks u (p .first))
+
+-- a reading that is missing or leads to one of n records, and one that is missing or names a record
+abbrev pub Within : ℕ → Reading → Type 0
+Within n x = refersTo n x ≡ true
+
 abbrev pub Names : Reading → Type 0
 Names Missing = Unit {0}
 Names (Value z) = T (nonNeg z)
-
--- the record that a remote write goes to, where there is one, is named
-abbrev pub Points : (List ℕ → Reading) → Target → Type 0
-Points read (own f) = Unit {0}
-Points read (remote k f c) = Names (read c)

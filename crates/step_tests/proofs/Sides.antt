@@ -1,14 +1,16 @@
 -- Two readings, one of which may be missing.
-use Prim.Native.Nat.{_<_}
+use Prim.Native.Nat.{ℕ, _<_}
+use mathlib.Core.Bool.{true}
 use mathlib.Core.Path.{_≡_, refl, sym, ap, ap₂, subst, _∙_}
 use lib.Dec.{T}
-use lib.IntN.{ℤ}
+use lib.IntN.{ℤ, natAbs}
 use lib.Signed.{mag, nonNeg}
 use mir.Syntax.{w32}
 use mir.Val.{toZ, ofZ}
-use Rattle.integers.proofs.Complement.{kept}
+use Rattle.integers.proofs.Complement.{kept, index-is}
 use Rattle.chain.specs.declared.reading.Reading.{Reading}
 use Rattle.chain.specs.declared.reading.Reading.the-variants.{Missing, Value}
+use Rattle.chain.specs.Word.{refersTo}
 use Rattle.machine.specs.Value.{both}
 use Rattle.step_terms.specs.Found.{Names}
 
@@ -32,3 +34,8 @@ module _ {A : Type 0} (else : A) (f : ℤ → ℤ → A) where
 -- the number of a record that a reading names, as the code holds it
 pub named : {x : Reading} {a : ℤ} → x ≡ Value a → mag a < 2147483648 → Names x → T (nonNeg (toZ w32 (ofZ w32 a)))
 named {a} e h n = rw (kept a h) (subst Names e n)
+
+-- and one of the register, where the reading leads to one of n records
+pub named-within : {x : Reading} {a : ℤ} {t : ℕ} → x ≡ Value a → mag a < 2147483648 → t ≡ natAbs (toZ w32 (ofZ w32 a)) → (n : ℕ) → refersTo n x ≡ true → t < n
+unfolding refersTo
+named-within {a = a} e h q n r = rw (q ∙ ap natAbs (kept a h)) (index-is n a (subst (λ (x : Reading). refersTo n x ≡ true) e r) .1)

@@ -5,8 +5,9 @@ ghost use Prim.Native.Nat.{_<_};
 ghost use Rattle.register.specs.Cells.{cellsOf};
 ghost use Rattle.register.specs.Shape.{Parts};
 ghost use Rattle.machine.specs.Value.{compareReadings};
-ghost use Rattle.step_terms.specs.Found.{readsOf};
-ghost use Rattle.step_tests.specs.Plain.{isPlain, plainTest, plainRule, plainSlot, PlainFound, PlainTestFound, PlainValue, PlainHolds};
+ghost use mathlib.Core.List.{[]};
+ghost use Rattle.step_terms.specs.Found.{TermReaches, TestReaches};
+ghost use Rattle.step_tests.specs.Plain.{isPlain, plainTest, plainRule, plainSlot, PlainValue, PlainHolds};
 use chain::reading::Reading;
 use program::location::Located;
 use program::location::Location;
@@ -84,8 +85,8 @@ pub fn term_value(
     term: Term,
     at: Location,
 ) -> Reading
-    requires { ⌜ Parts sizes (now cells) (now filled) × (u < sizes .records) × PlainFound sizes (cellsOf (now cells) (now filled)) (now values) (now marks) u at term ⌝ }
-    ensures { λ r. ⌜ PlainValue (readsOf sizes (now (cells .entry)) (now (filled .entry)) u) term r ⌝ }
+    requires { ⌜ Parts sizes (now cells) (now filled) × (u < sizes .records) × TermReaches sizes (now values) (now marks) u [] at term ⌝ }
+    ensures { λ r. ⌜ PlainValue sizes (cellsOf (now (cells .entry)) (now (filled .entry))) (now (values .entry)) (now (marks .entry)) u at term r ⌝ }
 {
     let Term::Number(value) = term else {
         return term::found_at(cells, filled, values, marks, sizes, u, at);
@@ -117,8 +118,8 @@ pub fn holds(
     test: Test,
     at: Places,
 ) -> bool
-    requires { ⌜ Parts sizes (now cells) (now filled) × (u < sizes .records) × PlainTestFound sizes (cellsOf (now cells) (now filled)) (now values) (now marks) u at test ⌝ }
-    ensures { λ r. ⌜ PlainHolds (readsOf sizes (now (cells .entry)) (now (filled .entry)) u) test r ⌝ }
+    requires { ⌜ Parts sizes (now cells) (now filled) × (u < sizes .records) × TestReaches sizes (now values) (now marks) u [] at test ⌝ }
+    ensures { λ r. ⌜ PlainHolds sizes (cellsOf (now (cells .entry)) (now (filled .entry))) (now (values .entry)) (now (marks .entry)) u at test r ⌝ }
 {
     match test {
         Test::Always => true,

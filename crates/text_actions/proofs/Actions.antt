@@ -11,7 +11,7 @@ use Rattle.program.specs.declared.rule.Rule.{Rule}
 use Rattle.program.specs.declared.rule.Rule.the-variants.{Remote}
 use Rattle.program.specs.declared.rule.Sort.{Sort}
 use Rattle.program.specs.declared.term.Term.{Term}
-use Rattle.program.specs.Code.{Codes}
+use Rattle.program.specs.Code.{chainIn}
 use Rattle.text_syntax.specs.Token.{letter, write}
 use Rattle.text_syntax.specs.Form.{Form}
 use Rattle.text_syntax.specs.Written.{Action, chain, set, remote}
@@ -22,7 +22,6 @@ use Rattle.text_codes.specs.declared.summary.Summary.{Summary}
 use Rattle.text_codes.specs.declared.code.TermParts.{TermParts}
 use Rattle.text_places.specs.Place.{tokensFrom, Behind, Passing}
 use Rattle.text_codes.specs.Coded.{partsOf}
-use Rattle.text_codes.specs.Codes.{Roomy}
 use Rattle.text_sides.specs.Expression.{ExpressionFormed}
 use Rattle.text_places.specs.Word.{isEmpty, Assigned}
 use Rattle.text_checks.specs.Checks.{summaryChecks, termChecks, bothChecks}
@@ -37,11 +36,7 @@ use Rattle.text_sides.proofs.Expressions.{passed-codes, passed-kept}
 use Rattle.text_actions.proofs.Rules.{rule-held, remote-held}
 use Rattle.text_actions.proofs.Forms.{whole-end, local-formed, sent-formed}
 
--- there is room behind a later place too
-pub roomy-later : {a : Codes} {line : List ℕ} {at i count : ℕ} → Behind line at i → Roomy a line at count → Roomy a line i count
-roomy-later v r = record { kinds = omega arith; numbers = omega arith; chains = omega arith }
-
-module _ {s : Sizes} {line : List ℕ} {a b : Codes} {count : ℕ} (lim : Limits s) where
+module _ {s : Sizes} {line : List ℕ} {a b : List ℕ} {count : ℕ} (lim : Limits s) where
   -- `F[u] := X`
   pub local-read : {at start end to : ℕ} {g : Summary} (f : ℕ) {x : ℕ} {r : Rule} {named : Bool} {k : Checks} {n : ℕ} → Assigned line at start
       → ExpressionFormed s line start a b count g end to → isEmpty (tokensFrom false line end) ≡ true → x ≡ letterField f → r ≡ ruleHeld b x count to
@@ -65,12 +60,12 @@ module _ {s : Sizes} {line : List ℕ} {a b : Codes} {count : ℕ} (lim : Limits
       }
 
   -- `remote F[C] <?= X`, `remote F[C] += X`
-  pub sent-read : {at start end to : ℕ} {g : Summary} {x : Term} (f : ℕ) {y : ℕ} (c : List ℕ) {p : TermParts} (k : Sort) {named : Bool} {m : Checks} → p ≡ partsOf s (chain c)
+  pub sent-read : {at start end to : ℕ} {g : Summary} {x : Term} (f : ℕ) {y z : ℕ} (c : List ℕ) {p : TermParts} (k : Sort) {named : Bool} {m : Checks}
+      → p ≡ partsOf s (chain c)
       → Passing false true (write k) line at start → SideFormed s line start a b count g x end to → isEmpty (tokensFrom false line end) ≡ true
-      → y ≡ letterField f
-      → named ≡ names s f → m ≡ remoteChecks k f named p g
-      → ActionFormed s line at (sentForm (f ∷ c) (tokensFrom false line at)) a b count (Remote k y (p .packed) x) m to
-  sent-read {g = g} f c {p} k e v w h i o d =
+      → y ≡ letterField f → z ≡ chainIn (p .code) → named ≡ names s f → m ≡ remoteChecks k f named p g
+      → ActionFormed s line at (sentForm (f ∷ c) (tokensFrom false line at)) a b count (Remote k y z x) m to
+  sent-read {g = g} f c {p} k e v w h i j o d =
       let q = d ∙ ap (λ (x : Bool). remoteChecks k f x p g) o in
       record {
         written = remote k f c (w .written);
@@ -78,13 +73,13 @@ module _ {s : Sizes} {line : List ℕ} {a b : Codes} {count : ℕ} (lim : Limits
         checks-are = q ∙ remote-checks s k f c (w .written) e (w .summary-is);
         held = λ pass.
             let ok = both-pass (termChecks p) (summaryChecks g) (kinds-pass (bothChecks (termChecks p) (summaryChecks g)) _ _ (sym (ap allPass q) ∙ pass)) in
-            rw i (remote-held k f c lim e (ok .0) (w .holds (ok .1)) (w .kept (ok .1)));
+            rw (i, j) (remote-held k f c lim e (ok .0) (w .holds (ok .1)) (w .kept (ok .1)));
         more-codes = w .more-codes;
         few-codes = omega (arith, w .few-codes, w .inside, v .behind .onward);
       }
 
 -- what was read behind the first token, from before it
-pub action-from : (s : Sizes) (line : List ℕ) {at i : ℕ} {f g : Form Action} (a b : Codes) (count : ℕ) → Behind line at i → g ≡ f → (r : ActionRead)
+pub action-from : (s : Sizes) (line : List ℕ) {at i : ℕ} {f g : Form Action} (a b : List ℕ) (count : ℕ) → Behind line at i → g ≡ f → (r : ActionRead)
     → ActionAt s line i f a b count r → ActionAt s line at g a b count r
 action-from s line a b count v e (ActionParts x k to) w = rw e (record {
   written = w .written;

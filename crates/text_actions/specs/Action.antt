@@ -10,7 +10,7 @@ use Rattle.chain_text.specs.Text.{isCapital}
 use Rattle.program.specs.declared.rule.Rule.{Rule}
 use Rattle.program.specs.Stored.{targetIn, expressionIn}
 use Rattle.program.specs.Terms.{RuleTerms, TermFormed, TermFrom, TermInside}
-use Rattle.program.specs.Code.{Codes, SameBelow}
+use Rattle.program.specs.Code.{SameBelow}
 use Rattle.text_syntax.specs.Token.{Token}
 use Rattle.text_syntax.specs.Form.{Form, formed, unformed, then, or, whole}
 use Rattle.text_syntax.specs.Written.{Action, chain}
@@ -32,7 +32,7 @@ unfoldable pub actionForm : List Token → Form Action
 actionForm ts = or (remoteForm ts) (localForm ts)
 
 -- a rule in the array is the written one; the codes of its terms stand from..to, and those before are as they were
-pub record ActionHeld (a b : Codes) (from to : ℕ) (x : Action) (r : Rule) : Type 0 where
+pub record ActionHeld (a b : List ℕ) (from to : ℕ) (x : Action) (r : Rule) : Type 0 where
   pub target-is : targetIn r ≡ targetOf x
   pub expression-is : expressionIn b r ≡ sourceOf x
   pub formed : RuleTerms (TermFormed b) r
@@ -41,7 +41,7 @@ pub record ActionHeld (a b : Codes) (from to : ℕ) (x : Action) (r : Rule) : Ty
   pub kept : SameBelow a b from
 
 -- what was read from a place on is a rule to the end of the line: if it passes, the rule in the array is that one
-pub record ActionFormed (s : Sizes) (line : List ℕ) (at : ℕ) (form : Form Action) (a b : Codes) (count : ℕ) (r : Rule) (k : Checks) (to : ℕ) : Type 0 where
+pub record ActionFormed (s : Sizes) (line : List ℕ) (at : ℕ) (form : Form Action) (a b : List ℕ) (count : ℕ) (r : Rule) (k : Checks) (to : ℕ) : Type 0 where
   pub written : Action
   pub form-is : whole form ≡ some written
   pub checks-are : k ≡ actionChecks s written
@@ -52,7 +52,7 @@ pub record ActionFormed (s : Sizes) (line : List ℕ) (at : ℕ) (form : Form Ac
 pub record NoAction (form : Form Action) : Type 0 where
   pub none : whole form ≡ none
 
-abbrev pub ActionAt : Sizes → List ℕ → ℕ → Form Action → Codes → Codes → ℕ → ActionRead → Type 0
+abbrev pub ActionAt : Sizes → List ℕ → ℕ → Form Action → List ℕ → List ℕ → ℕ → ActionRead → Type 0
 ActionAt s line at form a b count (ActionParts r k to) = ActionFormed s line at form a b count r k to
 ActionAt s line at form a b count NoForm = NoAction form
 
@@ -72,6 +72,6 @@ TargetAt s line at (Target l p end) = TargetFormed s line at l p end
 TargetAt s line at NoTargetRead = NoTarget line at
 
 -- what stands behind `remote F[C]`, for every C of these parts
-abbrev pub SentBehind : Sizes → List ℕ → ℕ → ℕ → TermParts → Codes → Codes → ℕ → ActionRead → Type 0
+abbrev pub SentBehind : Sizes → List ℕ → ℕ → ℕ → TermParts → List ℕ → List ℕ → ℕ → ActionRead → Type 0
 SentBehind s line at l p a b count r =
     (c : List ℕ) → p ≡ partsOf s (chain c) → ActionAt s line at (sentForm (l ∷ c) (tokensFrom false line at)) a b count r

@@ -6,13 +6,13 @@ ghost use Prim.Native.Nat.{_≤_};
 ghost use lib.ListN.{length};
 ghost use Rattle.register.specs.Shape.{Limits};
 ghost use Rattle.chain_text.specs.Text.{isCapital};
-ghost use Rattle.program.specs.Code.{codesKept};
 ghost use Rattle.text_syntax.specs.Token as T;
 ghost use Rattle.text_syntax.specs.Grammar.{localForm};
 ghost use Rattle.text_places.specs.Place.{tokensFrom};
 ghost use Rattle.text_codes.specs.Codes.{Roomy};
 ghost use Rattle.text_actions.specs.Action.{TargetAt, SentBehind, actionForm, ActionAt};
 use chain_text::letters;
+use program::code;
 use program::rule::Rule;
 use register::Sizes;
 use text_codes::code::TermParts;
@@ -44,37 +44,26 @@ fn read_local(
     at: usize,
     letter: u8,
     sizes: Sizes,
-    kinds: &mut [u8],
-    numbers: &mut [i32],
-    chains: &mut [u64],
+    codes: &mut [u64],
     count: usize,
 ) -> ActionRead
     requires { ⌜ Limits sizes × (at ≤ length (now line)) × (isCapital letter ≡ true)
-        × Roomy (codesKept (now kinds) (now numbers) (now chains)) (now line) at count × (length (now kinds) ≤ 65536) ⌝ }
-    ensures { λ r.
-        ⌜ ActionAt sizes (now (line .entry)) at (localForm (T.letter letter ∷ tokensFrom false (now (line .entry)) at))
-        (codesKept (now (kinds .entry)) (now (numbers .entry)) (now (chains .entry)))
-        (codesKept (now (kinds .exit)) (now (numbers .exit)) (now (chains .exit))) count r ⌝ }
+        × Roomy (now codes) (now line) at count × (length (now codes) ≤ 65536) ⌝ }
+    ensures { λ r. ⌜ ActionAt sizes (now (line .entry)) at (localForm (T.letter letter ∷ tokensFrom false (now (line .entry)) at))
+        (now (codes .entry)) (now (codes .exit)) count r ⌝ }
 {
     let Place::At(start) = word::assigned(line, at) else {
         return ActionRead::NoForm;
     };
-    let ExpressionRead::Parts(seen, end, to) = expression::read(
-        line,
-        start,
-        sizes,
-        kinds,
-        numbers,
-        chains,
-        count,
-    ) else {
+    let ExpressionRead::Parts(seen, end, to) = expression::read(line, start, sizes, codes, count)
+    else {
         return ActionRead::NoForm;
     };
     if !word::ends(line, end) {
         return ActionRead::NoForm;
     }
     let field = letters::field_of(letter);
-    let held = side::set_in(kinds, numbers, chains, field, count, to);
+    let held = side::set_in(codes, field, count, to);
     let asked = rule::local(letter, letters::names_field(sizes, letter), seen);
     ActionRead::Action(held, asked, side::codes_behind_set(count, to))
 }
@@ -112,70 +101,42 @@ fn read_sent(
     letter: u8,
     parts: TermParts,
     sizes: Sizes,
-    kinds: &mut [u8],
-    numbers: &mut [i32],
-    chains: &mut [u64],
+    codes: &mut [u64],
     count: usize,
 ) -> ActionRead
     requires { ⌜ Limits sizes × (at ≤ length (now line)) × (isCapital letter ≡ true)
-        × Roomy (codesKept (now kinds) (now numbers) (now chains)) (now line) at count × (length (now kinds) ≤ 65536) ⌝ }
-    ensures { λ r.
-        ⌜ SentBehind sizes (now (line .entry)) at letter parts
-        (codesKept (now (kinds .entry)) (now (numbers .entry)) (now (chains .entry)))
-        (codesKept (now (kinds .exit)) (now (numbers .exit)) (now (chains .exit))) count r ⌝ }
+        × Roomy (now codes) (now line) at count × (length (now codes) ≤ 65536) ⌝ }
+    ensures { λ r. ⌜ SentBehind sizes (now (line .entry)) at letter parts (now (codes .entry)) (now (codes .exit)) count r ⌝ }
 {
     let WriteRead::Write(sort, start) = word::write(line, at) else {
         return ActionRead::NoForm;
     };
-    let SideRead::Side(seen, term, end, codes) = side::read(
-        line,
-        start,
-        sizes,
-        kinds,
-        numbers,
-        chains,
-        count,
-    ) else {
+    let SideRead::Side(seen, term, end, used) = side::read(line, start, sizes, codes, count) else {
         return ActionRead::NoForm;
     };
     if !word::ends(line, end) {
         return ActionRead::NoForm;
     }
-    let held = Rule::Remote(sort, letters::field_of(letter), parts.packed, term);
+    let held = Rule::Remote(
+        sort,
+        letters::field_of(letter),
+        code::chain(parts.code),
+        term,
+    );
     let named = letters::names_field(sizes, letter);
-    ActionRead::Action(held, rule::remote(sort, letter, named, parts, seen), codes)
+    ActionRead::Action(held, rule::remote(sort, letter, named, parts, seen), used)
 }
 
 // The rule at `at`, by its first token.
-pub fn read(
-    line: &[u8],
-    at: usize,
-    sizes: Sizes,
-    kinds: &mut [u8],
-    numbers: &mut [i32],
-    chains: &mut [u64],
-    count: usize,
-) -> ActionRead
-    requires { ⌜ Limits sizes × (at ≤ length (now line)) × Roomy (codesKept (now kinds) (now numbers) (now chains)) (now line) at count
-        × (length (now kinds) ≤ 65536) ⌝ }
-    ensures { λ r.
-        ⌜ ActionAt sizes (now (line .entry)) at (actionForm (tokensFrom false (now (line .entry)) at))
-        (codesKept (now (kinds .entry)) (now (numbers .entry)) (now (chains .entry)))
-        (codesKept (now (kinds .exit)) (now (numbers .exit)) (now (chains .exit))) count r ⌝ }
+pub fn read(line: &[u8], at: usize, sizes: Sizes, codes: &mut [u64], count: usize) -> ActionRead
+    requires { ⌜ Limits sizes × (at ≤ length (now line)) × Roomy (now codes) (now line) at count × (length (now codes) ≤ 65536) ⌝ }
+    ensures { λ r. ⌜ ActionAt sizes (now (line .entry)) at (actionForm (tokensFrom false (now (line .entry)) at))
+        (now (codes .entry)) (now (codes .exit)) count r ⌝ }
 {
     let first = lexer::next_token(line, at, false);
     let token = first.token;
     match token {
-        Token::Letter(letter) => read_local(
-            line,
-            first.end,
-            letter,
-            sizes,
-            kinds,
-            numbers,
-            chains,
-            count,
-        ),
+        Token::Letter(letter) => read_local(line, first.end, letter, sizes, codes, count),
         Token::Remote => match read_target(line, first.end, sizes) {
             TargetRead::Target(letter, parts, end) => read_sent(
                 line,
@@ -183,9 +144,7 @@ pub fn read(
                 letter,
                 parts,
                 sizes,
-                kinds,
-                numbers,
-                chains,
+                codes,
                 count,
             ),
             TargetRead::NoForm => ActionRead::NoForm,

@@ -2,15 +2,14 @@
 use Prim.Native.Nat.{ℕ, suc, _+_, _-_, _≤_, _<_}
 use mathlib.Core.Path.{_≡_, refl, sym, ap, subst, _∙_}
 use mathlib.Core.Logic.{_≢_}
-use mathlib.Core.Bool.{Bool, true, false, cond}
+use mathlib.Core.Bool.{Bool, true, false}
 use mathlib.Core.List.{List, [], _∷_, _++_, append-nil}
 use native.Mathlib.Omega.{arith}
-use lib.Dec.{eqb}
 use lib.ListN.{length}
 use Rattle.register.specs.declared.Sizes.{Sizes}
 use Rattle.text_syntax.specs.Token as S
 use Rattle.program.specs.Code as P
-use Rattle.program.specs.Code.{Code, operatorOf, Codes, codesKept}
+use Rattle.program.specs.Code.{Code, kindIn, kindOf, ofKind, codeOf}
 use Rattle.program.specs.declared.rule.Operator.{Operator}
 use Rattle.program.specs.declared.rule.Operator.the-variants.{Plus, Minus, Smaller}
 use Rattle.text_syntax.specs.Token.{operator, openRound, closeRound}
@@ -39,30 +38,16 @@ use Rattle.text_codes.specs.Summary.{summaryOf, termSummary}
 use Rattle.text_joins.specs.Join.{Unranked, EndInside, GroupedBy, Continues, ReadyFor, PutNext, JoinedBy}
 use Rattle.text_expressions.specs.Reading.{AllDeep, ReadAs, Unread, TooDeep, ReadingAt}
 use Rattle.text_places.proofs.Places.{past-absent, behind-behind}
-use Rattle.text_codes.specs.Codes.{termCode, writtenCodes, signKind, signCodes, signSize, Wrote, WroteSign, Roomy}
+use Rattle.text_codes.specs.Codes.{writtenCodes, signCodes, Wrote, Roomy}
 use Rattle.text_codes.proofs.Coding.{wrote-none, wrote-then}
 use Rattle.text_codes.proofs.Summaries.{term-summary, term-few, operator-few}
 
--- the kinds of operators
-sign-codes : (o : Operator) {k : ℕ} → k ≡ signKind o → signCodes k ≡ P.operator o ∷ []
-unfolding signCodes signKind operatorOf
+-- an operator's code
+sign-codes : (o : Operator) {k : ℕ} → k ≡ kindOf o → signCodes k ≡ P.operator o ∷ []
+unfolding signCodes kindOf codeOf kindIn ofKind
 sign-codes Plus e = rw e
 sign-codes Minus e = rw e
 sign-codes Smaller e = rw e
-
-sign-size : (k : ℕ) → signSize k ≤ 1
-unfolding signSize
-sign-size k = go (eqb k 0)
-  where
-    go : (x : Bool) → cond x 0 1 ≤ 1
-    go true = omega arith
-    go false = omega arith
-
-sign-number : (o : Operator) → signKind o ≢ 1
-unfolding signKind
-sign-number Plus e = omega (arith, e)
-sign-number Minus e = omega (arith, e)
-sign-number Smaller e = omega (arith, e)
 
 -- both ways to say that all is deep
 to-deep : (k : ℕ) (f : Form Expression) → AllDeep k f → Deep k f
@@ -88,9 +73,9 @@ pub smaller-joins : Joins isSmaller operand minimumFrom minimum
 smaller-joins = record { first = minimum-joined; more = minimum-more; end = minimum-end; grows = minimum-grows }
 
 -- what is joined so far, before the element that is due at place i: joins makes of that element all that is read; behind the element's codes
--- the code of an operator is to be written, if its kind is not 0
+-- the code of an operator is to be written, if it is not 0
 pub record Joined (element : List S.Token → Form Expression) (from : Expression → List S.Token → Form Expression) (reader : List S.Token → Form Expression)
-    (s : Sizes) (room : ℕ) (before : Summary) (line : List ℕ) (at : ℕ) (a : Codes) (count : ℕ) (x : Pending) (b : Codes) : Type 0 where
+    (s : Sizes) (room : ℕ) (before : Summary) (line : List ℕ) (at : ℕ) (a : List ℕ) (count : ℕ) (x : Pending) (b : List ℕ) : Type 0 where
   pub joins : Expression → Expression
   pub same : reader (tokensFrom true line at) ≡ then (element (tokensFrom true line (x .at))) (λ y. from (joins y))
   pub gathered : (y : Expression) → merged (8 - room) (summaryOf (x .seen)) (summary s y) ≡ merged (8 - room) (summaryOf before) (summary s (joins y))
@@ -100,26 +85,16 @@ pub record Joined (element : List S.Token → Form Expression) (from : Expressio
   pub inside : x .at ≤ length line
   pub few : x .seen .operators ≤ x .at
   pub earlier : List Code
-  pub wrote : Wrote a b count (x .codes) earlier
-  pub coded : (y : Expression) → earlier ++ (writtenCodes y ++ signCodes (x .kind)) ≡ writtenCodes (joins y)
-  pub few-codes : x .codes + at + signSize (x .kind) ≤ count + x .at
-  pub no-number : x .kind ≢ 1
-
--- the arrays keep their room
-pub roomy-on : {a b : Codes} {line : List ℕ} {at count i codes : ℕ} {cs : List Code} → Roomy a line at count → Wrote a b count codes cs
-    → codes + at ≤ count + i → Roomy b line i codes
-roomy-on r w h = record {
-  kinds = omega (arith, r .kinds, w .kinds-length, h);
-  numbers = omega (arith, r .numbers, w .numbers-length, h);
-  chains = omega (arith, r .chains, w .chains-length, h);
-}
+  pub wrote : Wrote a b count (x .used) earlier
+  pub coded : (y : Expression) → earlier ++ (writtenCodes y ++ signCodes (x .sign)) ≡ writtenCodes (joins y)
+  pub few-codes : x .used + at + length (signCodes (x .sign)) ≤ count + x .at
 
 module _ {rank : Operator → Bool} {element : List S.Token → Form Expression} {from : Expression → List S.Token → Form Expression}
     {reader : List S.Token → Form Expression} (j : Joins rank element from reader) where
-  pub joined-start : (s : Sizes) (room : ℕ) (before : Summary) {line : List ℕ} {at : ℕ} (a : Codes) (count : ℕ) → at ≤ length line → before .operators ≤
+  pub joined-start : (s : Sizes) (room : ℕ) (before : Summary) {line : List ℕ} {at : ℕ} (a : List ℕ) (count : ℕ) → at ≤ length line → before .operators ≤
       at
-      → Joined element from reader s room before line at a count (record { at = at; seen = before; codes = count; kind = 0 }) a
-  unfolding signCodes signSize
+      → Joined element from reader s room before line at a count (record { at = at; seen = before; used = count; sign = 0 }) a
+  unfolding signCodes
   joined-start s room before a count h few = record {
     joins = λ y. y;
     same = j .first _;
@@ -133,14 +108,13 @@ module _ {rank : Operator → Bool} {element : List S.Token → Form Expression}
     wrote = wrote-none a count;
     coded = λ y. append-nil (writtenCodes y);
     few-codes = omega arith;
-    no-number = λ e. omega (arith, e);
   }
 
-  module _ {s : Sizes} {room : ℕ} {before : Summary} {line : List ℕ} {at : ℕ} {a : Codes} {count : ℕ} {x : Pending} {b : Codes}
+  module _ {s : Sizes} {room : ℕ} {before : Summary} {line : List ℕ} {at : ℕ} {a : List ℕ} {count : ℕ} {x : Pending} {b : List ℕ}
       (w : Joined element from reader s room before line at a count x b) where
     -- the element that is read, and its operator's code
-    module _ {d : Codes} {g : Summary} {end to : ℕ} (e : ReadAs element s room (x .seen) line (x .at) b d (x .codes) g end to)
-        {kinds : List ℕ} {last : ℕ} (o : WroteSign (d .kinds) kinds to last (x .kind)) where
+    module _ {d : List ℕ} {g : Summary} {end to : ℕ} (e : ReadAs element s room (x .seen) line (x .at) b d (x .used) g end to)
+        {d′ : List ℕ} {last : ℕ} (o : Wrote d d′ to last (signCodes (x .sign))) where
       element-joined : reader (tokensFrom true line at) ≡ from (w .joins (e .written)) (tokensFrom false line end)
       unfolding then
       element-joined = w .same ∙ ap (λ (f : Form Expression). then f (λ y. from (w .joins y))) (e .form-is)
@@ -148,15 +122,15 @@ module _ {rank : Operator → Bool} {element : List S.Token → Form Expression}
       element-gathered : summaryOf g ≡ merged (8 - room) (summaryOf before) (summary s (w .joins (e .written)))
       element-gathered = e .summary-is ∙ w .gathered (e .written)
 
-      element-wrote : Wrote a (codesKept kinds (d .numbers) (d .chains)) count last (writtenCodes (w .joins (e .written)))
+      element-wrote : Wrote a d′ count last (writtenCodes (w .joins (e .written)))
       element-wrote =
-          subst (Wrote a (codesKept kinds (d .numbers) (d .chains)) count last) (w .coded (e .written))
-          (wrote-then (w .wrote) (wrote-then (e .wrote) (o .wrote (d .numbers) (d .chains))))
+          subst (Wrote a d′ count last) (w .coded (e .written))
+          (wrote-then (w .wrote) (wrote-then (e .wrote) o))
 
       element-few : last + at ≤ count + end
       element-few = omega (arith, o .size, e .few-codes, w .few-codes)
 
-      joined-done : Unranked rank line end → ReadAs reader s room before line at a (codesKept kinds (d .numbers) (d .chains)) count g end last
+      joined-done : Unranked rank line end → ReadAs reader s room before line at a d′ count g end last
       joined-done n = record {
         written = w .joins (e .written);
         form-is = element-joined ∙ j .end _ _ (n .none);
@@ -169,7 +143,7 @@ module _ {rank : Operator → Bool} {element : List S.Token → Form Expression}
       }
 
       joined-more : {y : Pending} → Continues rank line g end last y → Joined element from reader s room before line at a count y
-          (codesKept kinds (d .numbers) (d .chains))
+          d′
       unfolding depth writtenCodes
       joined-more {y} c =
           let v = w .joins (e .written) in
@@ -186,14 +160,13 @@ module _ {rank : Operator → Bool} {element : List S.Token → Form Expression}
             inside = r .passing .behind .inside;
             few = omega (arith, operator-few (c .sign) g (c .gathered), e .few, r .passing .behind .onward);
             earlier = writtenCodes v;
-            wrote = subst (λ (n : ℕ). Wrote a (codesKept kinds (d .numbers) (d .chains)) count n (writtenCodes v)) (sym (c .codes-are)) element-wrote;
-            coded = λ z. ap (λ (l : List Code). writtenCodes v ++ (writtenCodes z ++ l)) (sign-codes (c .sign) (c .kind-is));
-            few-codes = omega (arith, element-few, r .passing .behind .onward, sign-size (y .kind), c .codes-are);
-            no-number = λ q. sign-number (c .sign) (sym (c .kind-is) ∙ q);
+            wrote = subst (λ (n : ℕ). Wrote a d′ count n (writtenCodes v)) (sym (c .used-is)) element-wrote;
+            coded = λ z. ap (λ (l : List Code). writtenCodes v ++ (writtenCodes z ++ l)) (sign-codes (c .sign) (c .sign-is));
+            few-codes = omega (arith, element-few, r .passing .behind .onward, ap length (sign-codes (c .sign) (c .sign-is)), c .used-is);
           }
 
-    pub joined-room : Roomy a line at count → Roomy b line (x .at) (x .codes)
-    joined-room r = roomy-on r (w .wrote) (omega (arith, w .few-codes))
+    pub joined-room : Roomy a line at count → Roomy b line (x .at) (x .used)
+    joined-room r = omega (arith, r, w .wrote .same-length, w .few-codes)
 
     joined-none : Unread element line (x .at) → Unread reader line at
     unfolding then
@@ -211,44 +184,41 @@ module _ {rank : Operator → Bool} {element : List S.Token → Form Expression}
         }
 
     -- there is room for the operator's code
-    pub joined-ready : (d : Codes) → Roomy a line at count → (r : Reading) → ReadingAt element s room (x .seen) line (x .at) b d (x .codes) r
-        → ReadyFor line (d .kinds) r
+    pub joined-ready : (d : List ℕ) → Roomy a line at count → (r : Reading) → ReadingAt element s room (x .seen) line (x .at) b d (x .used) r
+        → ReadyFor line d r
     joined-ready d q (Read g end to) e =
-        (e .behind .inside, e .few, omega (arith, roomy-on (joined-room q) (e .wrote) (e .few-codes) .kinds, e .behind .inside))
+        (e .behind .inside, e .few, omega (arith, joined-room q, e .wrote .same-length, e .few-codes, e .behind .inside))
     joined-ready d q NoForm e = tt
     joined-ready d q TooDeepRead e = tt
 
     -- what is answered: the next element is due, or that is all
-    module _ (d : Codes) (kinds : List ℕ) where
-      abbrev after : Codes
-      after = codesKept kinds (d .numbers) (d .chains)
-
+    module _ (d d′ : List ℕ) where
       abbrev pub JoinedTo : Joining → Type 0
-      JoinedTo (Next y) = Joined element from reader s room before line at a count y after × (x .at < y .at)
-      JoinedTo (Done r) = ReadingAt reader s room before line at a after count r
+      JoinedTo (Next y) = Joined element from reader s room before line at a count y d′ × (x .at < y .at)
+      JoinedTo (Done r) = ReadingAt reader s room before line at a d′ count r
 
-      put-next : {g : Summary} {end to : ℕ} → ReadAs element s room (x .seen) line (x .at) b d (x .codes) g end to → (y : Joining)
-          → PutNext rank line (d .kinds) kinds (x .kind) g end to y → JoinedTo y
+      put-next : {g : Summary} {end to : ℕ} → ReadAs element s room (x .seen) line (x .at) b d (x .used) g end to → (y : Joining)
+          → PutNext rank line d d′ (x .sign) g end to y → JoinedTo y
       put-next e (Next y) q = (joined-more e (q .put) (q .next), omega (arith, e .behind .onward, q .next .ranked .passing .behind .onward))
       put-next {end = end} e (Done (Read h last n)) q =
           let f = q .next in
-          subst (λ (k : ℕ). ReadAs reader s room before line at a after count h last k) (sym (f .codes-are))
-          (subst (λ (k : ℕ). ReadAs reader s room before line at a after count h k (q .codes)) (sym (f .end-is))
-          (subst (λ (y : Summary). ReadAs reader s room before line at a after count y end (q .codes)) (sym (f .gathered))
+          subst (λ (k : ℕ). ReadAs reader s room before line at a d′ count h last k) (sym (f .used-is))
+          (subst (λ (k : ℕ). ReadAs reader s room before line at a d′ count h k (q .used)) (sym (f .end-is))
+          (subst (λ (y : Summary). ReadAs reader s room before line at a d′ count y end (q .used)) (sym (f .gathered))
           (joined-done e (q .put) (f .none))))
       put-next e (Done NoForm) q = absurd (q .next)
       put-next e (Done TooDeepRead) q = absurd (q .next)
 
-      pub joined-by : (r : Reading) → ReadingAt element s room (x .seen) line (x .at) b d (x .codes) r → (y : Joining)
-          → JoinedBy rank line (d .kinds) kinds (x .kind) r y → JoinedTo y
+      pub joined-by : (r : Reading) → ReadingAt element s room (x .seen) line (x .at) b d (x .used) r → (y : Joining)
+          → JoinedBy rank line d d′ (x .sign) r y → JoinedTo y
       joined-by (Read g end to) e y q = put-next e y q
       joined-by NoForm e y q = subst JoinedTo (sym q) (joined-none e)
       joined-by TooDeepRead e y q = subst JoinedTo (sym q) (joined-deep e)
 
 -- a term as an operand
-pub term-operand : {s : Sizes} {room : ℕ} {before : Summary} {line : List ℕ} {at : ℕ} {a b : Codes} {count : ℕ} {p : TermParts} {g : Summary} {end : ℕ}
+pub term-operand : {s : Sizes} {room : ℕ} {before : Summary} {line : List ℕ} {at : ℕ} {a b : List ℕ} {count : ℕ} {p : TermParts} {g : Summary} {end : ℕ}
     → before .operators ≤ at → TermFormed s line at p end → summaryOf g ≡ merged (8 - room) (summaryOf before) (termSummary p)
-    → Wrote a b count (count + 1) (termCode p) → ReadAs operand s room before line at a b count g end (count + 1)
+    → Wrote a b count (count + 1) (codeOf (p .code) ∷ []) → ReadAs operand s room before line at a b count g end (count + 1)
 unfolding depth writtenCodes partsOf
 term-operand {s} {room} {before} {a = a} {b = b} {count = count} {p = p} few t q w = record {
   written = term (t .written);
@@ -257,7 +227,7 @@ term-operand {s} {room} {before} {a = a} {b = b} {count = count} {p = p} few t q
   summary-is = q ∙ ap (merged (8 - room) (summaryOf before)) (term-summary s (t .written) (t .parts-are));
   behind = t .behind;
   few = omega (arith, few, t .behind .onward, term-few (8 - room) before p q);
-  wrote = subst (λ (y : TermParts). Wrote a b count (count + 1) (termCode y)) (t .parts-are) w;
+  wrote = subst (λ (y : TermParts). Wrote a b count (count + 1) (codeOf (y .code) ∷ [])) (t .parts-are) w;
   few-codes = omega (arith, t .behind .onward);
 }
 
@@ -278,7 +248,7 @@ module _ (s : Sizes) (room : ℕ) (before : Summary) {line : List ℕ} {at inner
   grouped : operand (tokensFrom true line at) ≡ then (expression (tokensFrom true line inner)) (λ e r. past closeRound r (formed (group e)))
   grouped = ap operand (p .text) ∙ operand-group _
 
-  pub group-closed : (a b : Codes) (count : ℕ) (x r : Reading) → ReadingAt expression s (room - 1) before line inner a b count x → GroupedBy line x r
+  pub group-closed : (a b : List ℕ) (count : ℕ) (x r : Reading) → ReadingAt expression s (room - 1) before line inner a b count x → GroupedBy line x r
       → ReadingAt operand s room before line at a b count r
   unfolding then past is same fixedIn kind depth writtenCodes
   group-closed a b count (Read g i n) (Read h end to) e q = record {
@@ -317,7 +287,7 @@ module _ (s : Sizes) (room : ℕ) (before : Summary) {line : List ℕ} {at inner
         (group-deep (room - 1) (tokensFrom true line inner) (to-deep (room - 1) (expression (tokensFrom true line inner)) (e .deep)))));
   })
 
-pub reading-inside : (reader : List S.Token → Form Expression) (s : Sizes) (room : ℕ) (before : Summary) (line : List ℕ) (at : ℕ) (a b : Codes)
+pub reading-inside : (reader : List S.Token → Form Expression) (s : Sizes) (room : ℕ) (before : Summary) (line : List ℕ) (at : ℕ) (a b : List ℕ)
     (count : ℕ)
     (r : Reading) → ReadingAt reader s room before line at a b count r → EndInside line r
 reading-inside reader s room before line at a b count (Read g end to) h = h .behind .inside

@@ -4,7 +4,6 @@ use mathlib.Core.Path.{_≡_}
 use mathlib.Core.Bool.{true, false}
 use mathlib.Core.List.{List}
 use Rattle.register.specs.declared.Sizes.{Sizes}
-use Rattle.program.specs.Code.{Codes}
 use Rattle.text_syntax.specs.Token.{Token}
 use Rattle.text_syntax.specs.Form.{Form, formed, unformed}
 use Rattle.text_syntax.specs.Written.{Expression}
@@ -24,7 +23,7 @@ AllDeep k (formed e r) = k < depth e
 
 -- what a reader reads at a place where an operand is due: at most `room` groups deep, with what had been gathered before, in 8 less `room`
 -- groups, its codes written from `count` on; nothing; or what is deeper
-pub record ReadAs (reader : List Token → Form Expression) (s : Sizes) (room : ℕ) (before : Summary) (line : List ℕ) (at : ℕ) (a b : Codes) (count : ℕ)
+pub record ReadAs (reader : List Token → Form Expression) (s : Sizes) (room : ℕ) (before : Summary) (line : List ℕ) (at : ℕ) (a b : List ℕ) (count : ℕ)
     (g : Summary) (end to : ℕ) : Type 0 where
   pub written : Expression
   pub form-is : reader (tokensFrom true line at) ≡ formed written (tokensFrom false line end)
@@ -41,7 +40,7 @@ pub record Unread (reader : List Token → Form Expression) (line : List ℕ) (a
 pub record TooDeep (reader : List Token → Form Expression) (room : ℕ) (line : List ℕ) (at : ℕ) : Type 0 where
   pub deep : AllDeep room (reader (tokensFrom true line at))
 
-abbrev pub ReadingAt : (List Token → Form Expression) → Sizes → ℕ → Summary → List ℕ → ℕ → Codes → Codes → ℕ → Reading → Type 0
+abbrev pub ReadingAt : (List Token → Form Expression) → Sizes → ℕ → Summary → List ℕ → ℕ → List ℕ → List ℕ → ℕ → Reading → Type 0
 ReadingAt reader s room before line at a b count (Read g end to) = ReadAs reader s room before line at a b count g end to
 ReadingAt reader s room before line at a b count NoForm = Unread reader line at
 ReadingAt reader s room before line at a b count Deep = TooDeep reader room line at

@@ -2,13 +2,11 @@
 ghost use Prim.Native.Nat.{_≤_};
 ghost use lib.ListN.{length};
 ghost use Rattle.register.specs.Shape.{Limits};
-ghost use Rattle.program.specs.Code.{codesKept};
 ghost use Rattle.text_syntax.specs.Grammar.{expression, minimum, operand};
 ghost use Rattle.text_terms.specs.Term.{NoTerm};
 ghost use Rattle.text_codes.specs.Codes.{Roomy};
 ghost use Rattle.text_expressions.specs.Reading.{ReadingAt};
 use register::Sizes;
-use text_codes::code;
 use text_codes::summary;
 use text_codes::summary::Summary;
 use text_joins::Joining;
@@ -26,30 +24,25 @@ pub fn read_expression(
     sizes: Sizes,
     room: usize,
     before: Summary,
-    kinds: &mut [u8],
-    numbers: &mut [i32],
-    chains: &mut [u64],
+    codes: &mut [u64],
     count: usize,
 ) -> Reading
     requires { ⌜ Limits sizes × (room ≤ 8) × (at ≤ length (now line)) × (before .operators ≤ at) ⌝ }
-    requires { ⌜ Roomy (codesKept (now kinds) (now numbers) (now chains)) (now line) at count ⌝ }
-    ensures { λ r.
-        ⌜ ReadingAt expression sizes room before (now (line .entry)) at
-        (codesKept (now (kinds .entry)) (now (numbers .entry)) (now (chains .entry)))
-        (codesKept (now (kinds .exit)) (now (numbers .exit)) (now (chains .exit))) count r ⌝ }
+    requires { ⌜ Roomy (now codes) (now line) at count ⌝ }
+    ensures { λ r. ⌜ ReadingAt expression sizes room before (now (line .entry)) at (now (codes .entry)) (now (codes .exit)) count r ⌝ }
 {
     let mut next = Pending {
         at,
         seen: before,
-        codes: count,
-        kind: 0,
+        used: count,
+        sign: 0,
     };
     loop {
         let seen = next.seen;
         let i = next.at;
-        let codes = next.codes;
-        let read = read_minimum(line, i, sizes, room, seen, kinds, numbers, chains, codes);
-        match text_joins::joined(line, kinds, read, next.kind, true) {
+        let used = next.used;
+        let read = read_minimum(line, i, sizes, room, seen, codes, used);
+        match text_joins::joined(line, codes, read, next.sign, true) {
             Joining::Next(more) => next = more,
             Joining::Done(done) => return done,
         }
@@ -63,30 +56,25 @@ fn read_minimum(
     sizes: Sizes,
     room: usize,
     before: Summary,
-    kinds: &mut [u8],
-    numbers: &mut [i32],
-    chains: &mut [u64],
+    codes: &mut [u64],
     count: usize,
 ) -> Reading
     requires { ⌜ Limits sizes × (room ≤ 8) × (at ≤ length (now line)) × (before .operators ≤ at) ⌝ }
-    requires { ⌜ Roomy (codesKept (now kinds) (now numbers) (now chains)) (now line) at count ⌝ }
-    ensures { λ r.
-        ⌜ ReadingAt minimum sizes room before (now (line .entry)) at
-        (codesKept (now (kinds .entry)) (now (numbers .entry)) (now (chains .entry)))
-        (codesKept (now (kinds .exit)) (now (numbers .exit)) (now (chains .exit))) count r ⌝ }
+    requires { ⌜ Roomy (now codes) (now line) at count ⌝ }
+    ensures { λ r. ⌜ ReadingAt minimum sizes room before (now (line .entry)) at (now (codes .entry)) (now (codes .exit)) count r ⌝ }
 {
     let mut next = Pending {
         at,
         seen: before,
-        codes: count,
-        kind: 0,
+        used: count,
+        sign: 0,
     };
     loop {
         let seen = next.seen;
         let i = next.at;
-        let codes = next.codes;
-        let read = read_operand(line, i, sizes, room, seen, kinds, numbers, chains, codes);
-        match text_joins::joined(line, kinds, read, next.kind, false) {
+        let used = next.used;
+        let read = read_operand(line, i, sizes, room, seen, codes, used);
+        match text_joins::joined(line, codes, read, next.sign, false) {
             Joining::Next(more) => next = more,
             Joining::Done(done) => return done,
         }
@@ -100,22 +88,17 @@ fn read_operand(
     sizes: Sizes,
     room: usize,
     before: Summary,
-    kinds: &mut [u8],
-    numbers: &mut [i32],
-    chains: &mut [u64],
+    codes: &mut [u64],
     count: usize,
 ) -> Reading
     requires { ⌜ Limits sizes × (room ≤ 8) × (at ≤ length (now line)) × (before .operators ≤ at) ⌝ }
-    requires { ⌜ Roomy (codesKept (now kinds) (now numbers) (now chains)) (now line) at count ⌝ }
-    ensures { λ r.
-        ⌜ ReadingAt operand sizes room before (now (line .entry)) at
-        (codesKept (now (kinds .entry)) (now (numbers .entry)) (now (chains .entry)))
-        (codesKept (now (kinds .exit)) (now (numbers .exit)) (now (chains .exit))) count r ⌝ }
+    requires { ⌜ Roomy (now codes) (now line) at count ⌝ }
+    ensures { λ r. ⌜ ReadingAt operand sizes room before (now (line .entry)) at (now (codes .entry)) (now (codes .exit)) count r ⌝ }
 {
     let TermRead::Parts(parts, end) = term::read_term(line, at, sizes) else {
-        return read_group(line, at, sizes, room, before, kinds, numbers, chains, count);
+        return read_group(line, at, sizes, room, before, codes, count);
     };
-    code::put_term(kinds, numbers, chains, count, parts);
+    codes[count] = parts.code;
     Reading::Read(summary::with_term(8 - room, before, parts), end, count + 1)
 }
 
@@ -126,17 +109,12 @@ fn read_group(
     sizes: Sizes,
     room: usize,
     before: Summary,
-    kinds: &mut [u8],
-    numbers: &mut [i32],
-    chains: &mut [u64],
+    codes: &mut [u64],
     count: usize,
 ) -> Reading
     requires { ⌜ Limits sizes × (room ≤ 8) × (at ≤ length (now line)) × (before .operators ≤ at) ⌝ }
-    requires { ⌜ Roomy (codesKept (now kinds) (now numbers) (now chains)) (now line) at count × NoTerm (now line) at ⌝ }
-    ensures { λ r.
-        ⌜ ReadingAt operand sizes room before (now (line .entry)) at
-        (codesKept (now (kinds .entry)) (now (numbers .entry)) (now (chains .entry)))
-        (codesKept (now (kinds .exit)) (now (numbers .exit)) (now (chains .exit))) count r ⌝ }
+    requires { ⌜ Roomy (now codes) (now line) at count × NoTerm (now line) at ⌝ }
+    ensures { λ r. ⌜ ReadingAt operand sizes room before (now (line .entry)) at (now (codes .entry)) (now (codes .exit)) count r ⌝ }
 {
     let Place::At(inner) = place::mark(line, at, true, place::OPEN_ROUND) else {
         return Reading::NoForm;
@@ -144,16 +122,6 @@ fn read_group(
     if room == 0 {
         return Reading::Deep;
     }
-    let read = read_expression(
-        line,
-        inner,
-        sizes,
-        room - 1,
-        before,
-        kinds,
-        numbers,
-        chains,
-        count,
-    );
+    let read = read_expression(line, inner, sizes, room - 1, before, codes, count);
     text_joins::close_group(line, read)
 }

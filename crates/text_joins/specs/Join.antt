@@ -5,6 +5,7 @@ use mathlib.Core.Bool.{Bool, true, false}
 use mathlib.Core.List.{List}
 use lib.ListN.{length}
 use Rattle.program.specs.declared.rule.Operator.{Operator}
+use Rattle.program.specs.Code.{kindOf}
 use Rattle.text_syntax.specs.Grammar.{isSum, isSmaller, operatorForm}
 use Rattle.text_syntax.specs.Flat.{withOperator}
 use Rattle.text_codes.specs.declared.summary.Summary.{Summary}
@@ -14,7 +15,7 @@ use Rattle.text_joins.specs.declared.Pending.{Pending}
 use Rattle.text_joins.specs.declared.Joining.{Joining}
 use Rattle.text_joins.specs.declared.Joining.the-variants.{Next, Done}
 use Rattle.text_codes.specs.Summary.{summaryOf}
-use Rattle.text_codes.specs.Codes.{signKind, WroteSign}
+use Rattle.text_codes.specs.Codes.{signCodes, Wrote}
 use Rattle.text_syntax.specs.Token.{operator, closeRound}
 use Rattle.text_syntax.specs.Form.{unformed}
 use Rattle.text_places.specs.declared.place.OperatorRead.{OperatorRead}
@@ -39,43 +40,43 @@ rankOf true = isSum
 rankOf false = isSmaller
 
 -- another operator follows
-pub record Continues (rank : Operator → Bool) (line : List ℕ) (g : Summary) (end codes : ℕ) (x : Pending) : Type 0 where
+pub record Continues (rank : Operator → Bool) (line : List ℕ) (g : Summary) (end used : ℕ) (x : Pending) : Type 0 where
   pub sign : Operator
   pub ranked : Ranked rank sign line end (x .at)
   pub gathered : summaryOf (x .seen) ≡ withOperator sign (summaryOf g)
-  pub codes-are : x .codes ≡ codes
-  pub kind-is : x .kind ≡ signKind sign
+  pub used-is : x .used ≡ used
+  pub sign-is : x .sign ≡ kindOf sign
 
 -- none does
-pub record Finishes (rank : Operator → Bool) (line : List ℕ) (g : Summary) (end codes : ℕ) (h : Summary) (last n : ℕ) : Type 0 where
+pub record Finishes (rank : Operator → Bool) (line : List ℕ) (g : Summary) (end used : ℕ) (h : Summary) (last n : ℕ) : Type 0 where
   pub none : Unranked rank line end
   pub gathered : h ≡ g
   pub end-is : last ≡ end
-  pub codes-are : n ≡ codes
+  pub used-is : n ≡ used
 
 -- behind an element that ends at a place
 abbrev pub NextAt : (Operator → Bool) → List ℕ → Summary → ℕ → ℕ → Joining → Type 0
-NextAt rank line g end codes (Next x) = Continues rank line g end codes x
-NextAt rank line g end codes (Done (Read h last n)) = Finishes rank line g end codes h last n
-NextAt rank line g end codes (Done NoForm) = ⊥
-NextAt rank line g end codes (Done Deep) = ⊥
+NextAt rank line g end used (Next x) = Continues rank line g end used x
+NextAt rank line g end used (Done (Read h last n)) = Finishes rank line g end used h last n
+NextAt rank line g end used (Done NoForm) = ⊥
+NextAt rank line g end used (Done Deep) = ⊥
 
 -- there is room for an operator's code behind what was read
 abbrev pub ReadyFor : List ℕ → List ℕ → Reading → Type 0
-ReadyFor line kinds (Read g end to) = (end ≤ length line) × (g .operators ≤ end) × (to < length kinds)
-ReadyFor line kinds NoForm = Unit {0}
-ReadyFor line kinds Deep = Unit {0}
+ReadyFor line codes (Read g end to) = (end ≤ length line) × (g .operators ≤ end) × (to < length codes)
+ReadyFor line codes NoForm = Unit {0}
+ReadyFor line codes Deep = Unit {0}
 
 -- the operator's code was written, and then one of these
-pub record PutNext (rank : Operator → Bool) (line kinds kinds′ : List ℕ) (kind : ℕ) (g : Summary) (end to : ℕ) (x : Joining) : Type 0 where
-  pub codes : ℕ
-  pub put : WroteSign kinds kinds′ to codes kind
-  pub next : NextAt rank line g end codes x
+pub record PutNext (rank : Operator → Bool) (line codes codes′ : List ℕ) (sign : ℕ) (g : Summary) (end to : ℕ) (x : Joining) : Type 0 where
+  pub used : ℕ
+  pub put : Wrote codes codes′ to used (signCodes sign)
+  pub next : NextAt rank line g end used x
 
 abbrev pub JoinedBy : (Operator → Bool) → List ℕ → List ℕ → List ℕ → ℕ → Reading → Joining → Type 0
-JoinedBy rank line kinds kinds′ kind (Read g end to) x = PutNext rank line kinds kinds′ kind g end to x
-JoinedBy rank line kinds kinds′ kind NoForm x = x ≡ Done NoForm
-JoinedBy rank line kinds kinds′ kind Deep x = x ≡ Done Deep
+JoinedBy rank line codes codes′ sign (Read g end to) x = PutNext rank line codes codes′ sign g end to x
+JoinedBy rank line codes codes′ sign NoForm x = x ≡ Done NoForm
+JoinedBy rank line codes codes′ sign Deep x = x ≡ Done Deep
 
 -- the end of what was read is inside the line
 abbrev pub EndInside : List ℕ → Reading → Type 0

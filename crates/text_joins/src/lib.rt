@@ -1,5 +1,4 @@
 // What operators of a rank join, element by element.
-ghost use mathlib.Core.Logic.{_≢_};
 ghost use Prim.Native.Nat.{_≤_};
 ghost use lib.ListN.{length};
 ghost use Rattle.text_syntax.specs.Grammar.{isSum, isSmaller};
@@ -58,13 +57,13 @@ fn ranked(line: &[u8], at: usize, sums: bool) -> OperatorRead
     smaller_sign(line, at)
 }
 
-// What stands before the element that is due at `at`: what has been gathered, the number of codes, and the kind of the
-// operator's code that is to stand behind those of the element, 0 where there is none.
+// What stands before the element that is due at `at`: what has been gathered, the number of codes, and the operator's
+// code that is to stand behind those of the element, 0 where there is none.
 pub struct Pending {
     pub at: usize,
     pub seen: Summary,
-    pub codes: usize,
-    pub kind: u8,
+    pub used: usize,
+    pub sign: u64,
 }
 
 // Another element is due, or that is all.
@@ -74,30 +73,30 @@ pub enum Joining {
 }
 
 // Behind an element that ends at `end`.
-fn next_element(line: &[u8], seen: Summary, end: usize, codes: usize, sums: bool) -> Joining
+fn next_element(line: &[u8], seen: Summary, end: usize, used: usize, sums: bool) -> Joining
     requires { ⌜ (end ≤ length (now line)) × (seen .operators ≤ end) ⌝ }
-    ensures { λ r. ⌜ NextAt (rankOf sums) (now (line .entry)) seen end codes r ⌝ }
+    ensures { λ r. ⌜ NextAt (rankOf sums) (now (line .entry)) seen end used r ⌝ }
 {
     match ranked(line, end, sums) {
         OperatorRead::Operator(sign, at) => Joining::Next(Pending {
             at,
             seen: summary::with_operator(sign, seen),
-            codes,
-            kind: code::kind_of(sign),
+            used,
+            sign: program::code::of_operator(sign),
         }),
-        OperatorRead::Nothing => Joining::Done(Reading::Read(seen, end, codes)),
+        OperatorRead::Nothing => Joining::Done(Reading::Read(seen, end, used)),
     }
 }
 
 // With the element that was read, and the operator's code behind those of the element.
-pub fn joined(line: &[u8], kinds: &mut [u8], read: Reading, kind: u8, sums: bool) -> Joining
-    requires { ⌜ ReadyFor (now line) (now kinds) read × (kind ≢ 1) ⌝ }
-    ensures { λ r. ⌜ JoinedBy (rankOf sums) (now (line .entry)) (now (kinds .entry)) (now (kinds .exit)) kind read r ⌝ }
+pub fn joined(line: &[u8], codes: &mut [u64], read: Reading, sign: u64, sums: bool) -> Joining
+    requires { ⌜ ReadyFor (now line) (now codes) read ⌝ }
+    ensures { λ r. ⌜ JoinedBy (rankOf sums) (now (line .entry)) (now (codes .entry)) (now (codes .exit)) sign read r ⌝ }
 {
     match read {
         Reading::Read(seen, end, count) => {
-            let codes = code::put_sign(kinds, count, kind);
-            next_element(line, seen, end, codes, sums)
+            let used = code::put_sign(codes, count, sign);
+            next_element(line, seen, end, used, sums)
         }
         Reading::NoForm => Joining::Done(Reading::NoForm),
         Reading::Deep => Joining::Done(Reading::Deep),

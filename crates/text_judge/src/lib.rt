@@ -2,18 +2,17 @@
 ghost use Prim.Native.Nat.{_≤_, _<_};
 ghost use lib.ListN.{length};
 ghost use Rattle.register.specs.Shape.{Limits};
-ghost use Rattle.program.specs.Code.{codesKept};
 ghost use Rattle.text_next.specs.Front.{CodeRoom};
 ghost use Rattle.text_judge.specs.Judged.{Judged};
-use register::Sizes;
 use text_rules::line::LineRead;
+use text_rules::scope::Scope;
 use text_state::state::State;
 
 // The refusal of a line, 0 where it passes; where it ends, how many codes there are behind it, and its reading.
 pub struct Next {
     pub refusal: u32,
     pub end: usize,
-    pub codes: usize,
+    pub used: usize,
     pub line: LineRead,
 }
 
@@ -21,25 +20,22 @@ pub struct Next {
 pub fn next_line(
     text: &[u8],
     at: usize,
-    sizes: Sizes,
+    scope: Scope,
     state: State,
-    kinds: &mut [u8],
-    numbers: &mut [i32],
-    chains: &mut [u64],
-    codes: usize,
+    codes: &mut [u64],
+    used: usize,
     full: bool,
 ) -> Next
-    requires { ⌜ Limits sizes × (at < length (now text)) × (codes ≤ at) × CodeRoom (length (now text)) (codesKept (now kinds) (now numbers) (now chains)) ⌝ }
-    ensures { λ r. ⌜ Judged sizes (now (text .entry)) at state full (codesKept (now (kinds .entry)) (now (numbers .entry)) (now (chains .entry)))
-        (codesKept (now (kinds .exit)) (now (numbers .exit)) (now (chains .exit))) codes r ⌝ }
+    requires { ⌜ Limits (scope .sizes) × (at < length (now text)) × (used ≤ at) × CodeRoom (length (now text)) (now codes) ⌝ }
+    ensures { λ r. ⌜ Judged scope (now (text .entry)) at state full (now (codes .entry)) (now (codes .exit)) used r ⌝ }
 {
     let end = text_next::line_end(text, at);
-    let first = text_next::read_first(text, at, end, sizes, kinds, numbers, chains, codes);
+    let first = text_next::read_first(text, at, end, scope.sizes, codes, used);
     let line = first.line;
     Next {
         refusal: text_refusals::refusal(state, full, line),
         end,
-        codes: first.codes,
+        used: first.used,
         line,
     }
 }

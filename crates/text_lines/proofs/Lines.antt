@@ -18,7 +18,7 @@ use Rattle.program.specs.Program as P
 use Rattle.program.specs.Stored.{testIn, ruleIn}
 use Rattle.program.specs.Terms.{TestTerms, TermFormed, TermInside}
 use Rattle.program.proofs.Agreeing.{test-map, rule-map, test-both, inside-more, from-less, term-same, formed-same, test-same}
-use Rattle.program.specs.Code.{Codes, SameBelow}
+use Rattle.program.specs.Code.{SameBelow}
 use Rattle.text_syntax.specs.Token.{Token, letter, stepWord, endWord, doneWord, loopWord, ifWord, colon, comparison}
 use Rattle.text_syntax.specs.Lexing.{tokens}
 use Rattle.text_syntax.specs.Kind.{kind, letterIn, comparisonIn, fixedIn, same, is}
@@ -48,15 +48,15 @@ use Rattle.text_checks.proofs.Passing.{both-pass, both-same}
 use Rattle.text_lines.proofs.Tests.{when-pass, when-checks, line-checks}
 
 -- what stands below n is the same in arrays that agree there
-module _ (a b : Codes) {n : ℕ} (agree : SameBelow a b n) where
+module _ (a b : List ℕ) {n : ℕ} (agree : SameBelow a b n) where
   test-formed : (t : Test) → TestTerms (TermInside n) t → TestTerms (TermFormed a) t → TestTerms (TermFormed b) t
   test-formed t h f = test-map (λ x p. formed-same a b agree x (p .0) (p .1)) t (test-both (TermInside n) (TermFormed a) t h f)
 
-  kept-on : (o : Codes) {m : ℕ} → m ≤ n → SameBelow o a m → SameBelow o b m
+  kept-on : (o : List ℕ) {m : ℕ} → m ≤ n → SameBelow o a m → SameBelow o b m
   kept-on o l h i p = h i p ∙ agree i (omega (arith, l, p))
 
 -- no line of document 01
-no-line : (s : Sizes) (line : List ℕ) (at : ℕ) {form : Form Line} (a b : Codes) {from count : ℕ} {r : LineParts}
+no-line : (s : Sizes) (line : List ℕ) (at : ℕ) {form : Form Line} (a b : List ℕ) {from count : ℕ} {r : LineParts}
     → whole form ≡ none → from ≤ count → at ≤ length line → r ≡ noParts count → LineAt s line at form a b from count r
 no-line s line at {form} a b {from} {count} e l i q = subst (LineAt s line at form a b from count) (sym q) (record {
   reads = subst (λ (o : Option Line). Reads s b o NoForm) (sym e) no-form;
@@ -65,13 +65,13 @@ no-line s line at {form} a b {from} {count} e l i q = subst (LineAt s line at fo
   few-codes = omega (arith, i);
 })
 
-unformed-line : (s : Sizes) (line : List ℕ) (at : ℕ) {form : Form Line} (a b : Codes) {from count : ℕ} {r : LineParts}
+unformed-line : (s : Sizes) (line : List ℕ) (at : ℕ) {form : Form Line} (a b : List ℕ) {from count : ℕ} {r : LineParts}
     → form ≡ unformed → from ≤ count → at ≤ length line → r ≡ noParts count → LineAt s line at form a b from count r
 unfolding whole
 unformed-line s line at a b e l i q = no-line s line at a b (ap whole e) l i q
 
 -- a line from a place on is one from a place before it, where its tokens have that form
-line-from : {s : Sizes} {line : List ℕ} {at start : ℕ} {form inner : Form Line} {a b : Codes} {from count to : ℕ} {r : LineParts}
+line-from : {s : Sizes} {line : List ℕ} {at start : ℕ} {form inner : Form Line} {a b : List ℕ} {from count to : ℕ} {r : LineParts}
     → inner ≡ form → to + at ≤ count + start → LineAt s line start inner a b from to r → LineAt s line at form a b from count r
 line-from {s} {b = b} {r = r} e l h = record {
   reads = subst (λ (f : Form Line). Reads s b (whole f) (r .line)) e (h .reads);
@@ -92,7 +92,7 @@ unfolding ruleForm actionForm
 rule-whole c ts e = whole-rule c (actionForm ts) ∙ ap (Option·map (rule c)) e
 
 -- the rule in the array, behind its test whose codes stand before its own
-module _ {c : Condition} {w : Action} {a b : Codes} {from count to : ℕ} {t : Test} {r : Rule} (x : TestHeld a from count c t)
+module _ {c : Condition} {w : Action} {a b : List ℕ} {from count to : ℕ} {t : Test} {r : Rule} (x : TestHeld a from count c t)
     (y : ActionHeld a b count to w r) where
   rule-held : RuleRead b c w (record { test = t; rule = r })
   unfolding ruleIn ruleOf
@@ -101,14 +101,14 @@ module _ {c : Condition} {w : Action} {a b : Codes} {from count to : ℕ} {t : T
     formed = (test-formed a b (y .kept) t (x .inside) (x .formed), y .formed);
   }
 
-module _ (s : Sizes) (line : List ℕ) (at : ℕ) (t : TestParts) (a b : Codes) (count : ℕ) where
+module _ (s : Sizes) (line : List ℕ) (at : ℕ) (t : TestParts) (a b : List ℕ) (count : ℕ) where
   pub not-ruled : {r : LineParts} → r ≡ noParts count → at ≤ length line → NoAction (actionForm (tokensFrom false line at))
       → RuledBehind s line at t a b count r
   not-ruled q i h c o from l k w = no-line s line at o b (rule-whole c _ (h .none)) l i q
 
   pub ruled : (r : Rule) (k asked : Checks) (to : ℕ) → asked ≡ bothChecks (t .checks) k
       → ActionFormed s line at (actionForm (tokensFrom false line at)) a b count r k to
-      → RuledBehind s line at t a b count (record { line = RuleLine (record { test = t .test; rule = r }) asked; codes = to })
+      → RuledBehind s line at t a b count (record { line = RuleLine (record { test = t .test; rule = r }) asked; used = to })
   ruled r k asked to j h c o from l e w = record {
     reads = subst (λ (f : Option Line). Reads s b f (RuleLine slot asked)) (sym (rule-whole c _ (h .form-is)))
         (subst (λ (z : Checks). Reads s b (some (rule c (h .written))) (RuleLine slot z)) (sym same-checks)
@@ -135,7 +135,7 @@ module _ (s : Sizes) (line : List ℕ) (at : ℕ) (t : TestParts) (a b : Codes) 
       passes p = both-pass (t .checks) k (sym (ap allPass j) ∙ p)
 
 -- a rule without a test
-always-held : (s : Sizes) (line : List ℕ) (at : ℕ) (a b : Codes) (count : ℕ) (r : LineParts) {t : TestParts} → t ≡ alwaysParts
+always-held : (s : Sizes) (line : List ℕ) (at : ℕ) (a b : List ℕ) (count : ℕ) (r : LineParts) {t : TestParts} → t ≡ alwaysParts
     → RuledBehind s line at t a b count r → LineAt s line at (ruleForm always (tokensFrom false line at)) a b count count r
 unfolding conditionChecks testIn testOf
 always-held s line at a b count r {t} e h =
@@ -153,19 +153,19 @@ unfolding testedBehind
 tested-at ts h = ap (λ (f : Form Expression). then f (λ x r. then (oneOf comparisonIn r) (comparedForm x))) h
 
 -- the second side of a test and a rule, behind the first
-module _ (s : Sizes) (line : List ℕ) (at : ℕ) (x : FirstSide) (a b : Codes) (count : ℕ) where
+module _ (s : Sizes) (line : List ℕ) (at : ℕ) (x : FirstSide) (a b : List ℕ) (count : ℕ) where
   pub no-second : {r : LineParts} → r ≡ noParts count → at ≤ length line → Unread expression line at → ComparedBehind s line at x a b count r
   unfolding then
   no-second q i h e o from l k w = unformed-line s line at o b (compared-at e (x .comparison) _ (h .none)) l i q
 
-  module _ {m : Codes} {g : Summary} {y : Term} {end to : ℕ} (d : SideFormed s line at a m count g y end to) where
+  module _ {m : List ℕ} {g : Summary} {y : Term} {end to : ℕ} (d : SideFormed s line at a m count g y end to) where
     pub no-colon : {r : LineParts} → r ≡ noParts count → at ≤ length line → Absent false colon line end → ComparedBehind s line at x a b count r
     unfolding then
     no-colon q i h e o from l k w =
         unformed-line s line at o b
         (compared-at e (x .comparison) _ (d .form-is) ∙ past-absent colon _ (ruleForm (when e (x .comparison) (d .written))) (h .absent)) l i q
 
-    test-held : {e : Expression} (o : Codes) {from : ℕ} → from ≤ count → Holds a from count e (x .term) → SameBelow o a from
+    test-held : {e : Expression} (o : List ℕ) {from : ℕ} → from ≤ count → Holds a from count e (x .term) → SameBelow o a from
         → Holds m count to (d .written) y → SameBelow a m count
         → TestHeld m from to (when e (x .comparison) (d .written)) (When (x .term) (x .comparison) y) × SameBelow o m from
     unfolding testIn testOf
@@ -193,13 +193,13 @@ module _ (s : Sizes) (line : List ℕ) (at : ℕ) (x : FirstSide) (a b : Codes) 
         test-held o l (w (q .0) .0) (w (q .0) .1) (d .holds (q .1)) (d .kept (q .1))))
 
 -- a test and a rule, behind `if`
-module _ (s : Sizes) (line : List ℕ) (at : ℕ) (a b : Codes) (count : ℕ) where
+module _ (s : Sizes) (line : List ℕ) (at : ℕ) (a b : List ℕ) (count : ℕ) where
   pub no-first : {r : LineParts} → r ≡ noParts count → at ≤ length line → Unread expression line at
       → LineAt s line at (testedBehind (tokensFrom true line at)) a b count count r
   unfolding then
   no-first q i h = unformed-line s line at a b (tested-at _ (h .none)) (omega arith) i q
 
-  module _ {m : Codes} {g : Summary} {x : Term} {end to : ℕ} (d : SideFormed s line at a m count g x end to) where
+  module _ {m : List ℕ} {g : Summary} {x : Term} {end to : ℕ} (d : SideFormed s line at a m count g x end to) where
     pub no-comparison : {r : LineParts} → r ≡ noParts count → at ≤ length line → NoComparison line end
         → LineAt s line at (testedBehind (tokensFrom true line at)) a b count count r
     unfolding then
@@ -236,7 +236,7 @@ unfolding loopRead loopField oneOf held letterIn kind
 loop-letter s p e q h = h ∙ rw (p .text, e, q)
 
 -- a line that is one word or a loop, by its first token
-module _ (s : Sizes) (line : List ℕ) (a : Codes) (count : ℕ) where
+module _ (s : Sizes) (line : List ℕ) (a : List ℕ) (count : ℕ) where
   word-reads : (l : Line) (w : LineRead) (r : List Token) → Reads s a (some l) w → Reads s a (whole (formed l r)) (wordRead w r)
   unfolding wordRead isEmpty whole
   word-reads l w [] h = h
@@ -248,8 +248,8 @@ module _ (s : Sizes) (line : List ℕ) (a : Codes) (count : ℕ) where
   word-leaves w (t ∷ r) h = tt
 
   pub word-at : {form : Form Line} (l : Line) (w : LineRead) (r : List Token) {z : LineRead} → form ≡ formed l r → Reads s a (some l) w
-      → Leaves a a count count w → z ≡ wordRead w r → LineAt s line 0 form a a count count (record { line = z; codes = count })
-  word-at {form} l w r e h k q = subst (λ (z : LineRead). LineAt s line 0 form a a count count (record { line = z; codes = count })) (sym q) (record {
+      → Leaves a a count count w → z ≡ wordRead w r → LineAt s line 0 form a a count count (record { line = z; used = count })
+  word-at {form} l w r e h k q = subst (λ (z : LineRead). LineAt s line 0 form a a count count (record { line = z; used = count })) (sym q) (record {
     reads = subst (λ (f : Form Line). Reads s a (whole f) (wordRead w r)) (sym e) (word-reads l w r h);
     leaves = word-leaves w r k;
     more-codes = omega arith;
@@ -257,17 +257,17 @@ module _ (s : Sizes) (line : List ℕ) (a : Codes) (count : ℕ) where
   })
 
   pub loop-at : {form : Form Line} (r : List Token) {z : LineRead} → form ≡ then (oneOf letterIn r) (λ f. formed (loop f)) → z ≡ loopRead s r
-      → LineAt s line 0 form a a count count (record { line = z; codes = count })
+      → LineAt s line 0 form a a count count (record { line = z; used = count })
   unfolding loopRead loopField then
   loop-at {form} r {z} e q = go (oneOf letterIn r) e q
     where
       go : (f : Form ℕ) → form ≡ then f (λ f. formed (loop f)) → z ≡ loopField s f
-          → LineAt s line 0 form a a count count (record { line = z; codes = count })
-      go unformed e q = unformed-line s line 0 a a e (omega arith) (omega arith) (ap (λ (z : LineRead). record { line = z; codes = count }) q)
+          → LineAt s line 0 form a a count count (record { line = z; used = count })
+      go unformed e q = unformed-line s line 0 a a e (omega arith) (omega arith) (ap (λ (z : LineRead). record { line = z; used = count }) q)
       go (formed f r) e q = word-at (loop f) (Loop (letterField f) (names s f)) r e (loop-line f) (λ i l. refl) q
 
 -- a line that begins with `if`
-pub if-line : (s : Sizes) {line : List ℕ} (a b : Codes) {end count : ℕ} (r : LineParts) → tokensFrom false line 0 ≡ ifWord ∷ tokensFrom true line end
+pub if-line : (s : Sizes) {line : List ℕ} (a b : List ℕ) {end count : ℕ} (r : LineParts) → tokensFrom false line 0 ≡ ifWord ∷ tokensFrom true line end
     → LineAt s line end (testedBehind (tokensFrom true line end)) a b count count r → LineAt s line 0 (anyForm (tokens line)) a b count count r
 unfolding testedBehind tokens
 if-line s a b r e h = line-from (sym (ap anyForm e ∙ if-first _)) (omega arith) h
@@ -279,7 +279,7 @@ unfolding anyForm testedForm or
 only-rule ts a b c d e =
     rw (past-absent stepWord ts _ a, past-absent endWord ts _ b, past-absent doneWord ts _ c, past-absent loopWord ts _ d, past-absent ifWord ts _ e)
 
-pub rule-line-at : (s : Sizes) {line : List ℕ} (a b : Codes) {count : ℕ} (r : LineParts) → Absent false stepWord line 0 → Absent false endWord line 0
+pub rule-line-at : (s : Sizes) {line : List ℕ} (a b : List ℕ) {count : ℕ} (r : LineParts) → Absent false stepWord line 0 → Absent false endWord line 0
     → Absent false doneWord line 0 → Absent false loopWord line 0 → Absent false ifWord line 0 → {t : TestParts} → t ≡ alwaysParts
     → RuledBehind s line 0 t a b count r → LineAt s line 0 (anyForm (tokens line)) a b count count r
 unfolding tokens

@@ -4,7 +4,6 @@ ghost use mathlib.Core.Bool.{true, false};
 ghost use Prim.Native.Nat.{_≤_};
 ghost use lib.ListN.{length};
 ghost use Rattle.register.specs.Shape.{Limits};
-ghost use Rattle.program.specs.Code.{codesKept};
 ghost use Rattle.text_syntax.specs.Lexing.{tokens};
 ghost use Rattle.text_syntax.specs.Grammar.{anyForm};
 ghost use Rattle.text_places.specs.Place.{tokensFrom};
@@ -32,7 +31,7 @@ use text_words::token::Token;
 // A line and the number of codes behind it.
 pub struct LineParts {
     pub line: LineRead,
-    pub codes: usize,
+    pub used: usize,
 }
 
 fn no_form(count: usize) -> LineParts
@@ -40,7 +39,7 @@ fn no_form(count: usize) -> LineParts
 {
     LineParts {
         line: LineRead::NoForm,
-        codes: count,
+        used: count,
     }
 }
 
@@ -77,27 +76,13 @@ fn read_ruled(
     at: usize,
     test: TestParts,
     sizes: Sizes,
-    kinds: &mut [u8],
-    numbers: &mut [i32],
-    chains: &mut [u64],
+    codes: &mut [u64],
     count: usize,
 ) -> LineParts
-    requires { ⌜ Limits sizes × (at ≤ length (now line)) × Roomy (codesKept (now kinds) (now numbers) (now chains)) (now line) at count
-        × (length (now kinds) ≤ 65536) ⌝ }
-    ensures { λ r.
-        ⌜ RuledBehind sizes (now (line .entry)) at test
-        (codesKept (now (kinds .entry)) (now (numbers .entry)) (now (chains .entry)))
-        (codesKept (now (kinds .exit)) (now (numbers .exit)) (now (chains .exit))) count r ⌝ }
+    requires { ⌜ Limits sizes × (at ≤ length (now line)) × Roomy (now codes) (now line) at count × (length (now codes) ≤ 65536) ⌝ }
+    ensures { λ r. ⌜ RuledBehind sizes (now (line .entry)) at test (now (codes .entry)) (now (codes .exit)) count r ⌝ }
 {
-    let ActionRead::Action(rule, asked, codes) = action::read(
-        line,
-        at,
-        sizes,
-        kinds,
-        numbers,
-        chains,
-        count,
-    ) else {
+    let ActionRead::Action(rule, asked, used) = action::read(line, at, sizes, codes, count) else {
         return no_form(count);
     };
     let own = test.test;
@@ -105,7 +90,7 @@ fn read_ruled(
     let before = test.checks;
     LineParts {
         line: LineRead::Rule(slot, text_checks::both(before, asked)),
-        codes,
+        used,
     }
 }
 
@@ -115,62 +100,29 @@ fn read_compared(
     at: usize,
     first: FirstSide,
     sizes: Sizes,
-    kinds: &mut [u8],
-    numbers: &mut [i32],
-    chains: &mut [u64],
+    codes: &mut [u64],
     count: usize,
 ) -> LineParts
-    requires { ⌜ Limits sizes × (at ≤ length (now line)) × Roomy (codesKept (now kinds) (now numbers) (now chains)) (now line) at count
-        × (length (now kinds) ≤ 65536) ⌝ }
-    ensures { λ r.
-        ⌜ ComparedBehind sizes (now (line .entry)) at first
-        (codesKept (now (kinds .entry)) (now (numbers .entry)) (now (chains .entry)))
-        (codesKept (now (kinds .exit)) (now (numbers .exit)) (now (chains .exit))) count r ⌝ }
+    requires { ⌜ Limits sizes × (at ≤ length (now line)) × Roomy (now codes) (now line) at count × (length (now codes) ≤ 65536) ⌝ }
+    ensures { λ r. ⌜ ComparedBehind sizes (now (line .entry)) at first (now (codes .entry)) (now (codes .exit)) count r ⌝ }
 {
-    let SideRead::Side(seen, term, end, codes) = side::read(
-        line,
-        at,
-        sizes,
-        kinds,
-        numbers,
-        chains,
-        count,
-    ) else {
+    let SideRead::Side(seen, term, end, used) = side::read(line, at, sizes, codes, count) else {
         return no_form(count);
     };
     let Place::At(start) = place::mark(line, end, false, place::COLON) else {
         return no_form(count);
     };
     let test = test::when(first, seen, term);
-    read_ruled(line, start, test, sizes, kinds, numbers, chains, codes)
+    read_ruled(line, start, test, sizes, codes, used)
 }
 
 // A test and a rule, behind `if`.
-fn read_tested(
-    line: &[u8],
-    at: usize,
-    sizes: Sizes,
-    kinds: &mut [u8],
-    numbers: &mut [i32],
-    chains: &mut [u64],
-    count: usize,
-) -> LineParts
-    requires { ⌜ Limits sizes × (at ≤ length (now line)) × Roomy (codesKept (now kinds) (now numbers) (now chains)) (now line) at count
-        × (length (now kinds) ≤ 65536) ⌝ }
-    ensures { λ r.
-        ⌜ LineAt sizes (now (line .entry)) at (testedBehind (tokensFrom true (now (line .entry)) at))
-        (codesKept (now (kinds .entry)) (now (numbers .entry)) (now (chains .entry)))
-        (codesKept (now (kinds .exit)) (now (numbers .exit)) (now (chains .exit))) count count r ⌝ }
+fn read_tested(line: &[u8], at: usize, sizes: Sizes, codes: &mut [u64], count: usize) -> LineParts
+    requires { ⌜ Limits sizes × (at ≤ length (now line)) × Roomy (now codes) (now line) at count × (length (now codes) ≤ 65536) ⌝ }
+    ensures { λ r. ⌜ LineAt sizes (now (line .entry)) at (testedBehind (tokensFrom true (now (line .entry)) at))
+        (now (codes .entry)) (now (codes .exit)) count count r ⌝ }
 {
-    let SideRead::Side(seen, term, end, codes) = side::read(
-        line,
-        at,
-        sizes,
-        kinds,
-        numbers,
-        chains,
-        count,
-    ) else {
+    let SideRead::Side(seen, term, end, used) = side::read(line, at, sizes, codes, count) else {
         return no_form(count);
     };
     let ComparisonRead::Compared(comparison, start) = word::comparison(line, end) else {
@@ -181,23 +133,13 @@ fn read_tested(
         term,
         comparison,
     };
-    read_compared(line, start, first, sizes, kinds, numbers, chains, codes)
+    read_compared(line, start, first, sizes, codes, used)
 }
 
 // A line without its byte 10, the codes of its expressions written from `count` on.
-pub fn read_line(
-    line: &[u8],
-    sizes: Sizes,
-    kinds: &mut [u8],
-    numbers: &mut [i32],
-    chains: &mut [u64],
-    count: usize,
-) -> LineParts
-    requires { ⌜ Limits sizes × Roomy (codesKept (now kinds) (now numbers) (now chains)) (now line) 0 count × (length (now kinds) ≤ 65536) ⌝ }
-    ensures { λ r.
-        ⌜ LineAt sizes (now (line .entry)) 0 (anyForm (tokens (now (line .entry))))
-        (codesKept (now (kinds .entry)) (now (numbers .entry)) (now (chains .entry)))
-        (codesKept (now (kinds .exit)) (now (numbers .exit)) (now (chains .exit))) count count r ⌝ }
+pub fn read_line(line: &[u8], sizes: Sizes, codes: &mut [u64], count: usize) -> LineParts
+    requires { ⌜ Limits sizes × Roomy (now codes) (now line) 0 count × (length (now codes) ≤ 65536) ⌝ }
+    ensures { λ r. ⌜ LineAt sizes (now (line .entry)) 0 (anyForm (tokens (now (line .entry)))) (now (codes .entry)) (now (codes .exit)) count count r ⌝ }
 {
     let first = lexer::next_token(line, 0, false);
     let token = first.token;
@@ -208,23 +150,14 @@ pub fn read_line(
         Token::Done => word_line(line, end, LineRead::Done),
         Token::Loop => read_loop(line, end, sizes),
         Token::If => {
-            return read_tested(line, end, sizes, kinds, numbers, chains, count);
+            return read_tested(line, end, sizes, codes, count);
         }
         _ => {
-            return read_ruled(
-                line,
-                0,
-                test::always(),
-                sizes,
-                kinds,
-                numbers,
-                chains,
-                count,
-            );
+            return read_ruled(line, 0, test::always(), sizes, codes, count);
         }
     };
     LineParts {
         line: read,
-        codes: count,
+        used: count,
     }
 }

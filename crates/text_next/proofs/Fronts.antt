@@ -10,7 +10,6 @@ use borrow.Author.Tests.{eqb-true, not-false, lt-ltb, le-ltb}
 use lib.ListN.{length, getD, take, drop, length-drop, drop-of-length-le}
 use lib.Seq.{drop-cons, take-append-seam, length-take-le}
 use Rattle.register.specs.declared.Sizes.{Sizes}
-use Rattle.program.specs.Code.{Codes}
 use Rattle.text_numerals.proofs.Spans.{starts-within, span-text, span-every, span-behind}
 use Rattle.text_syntax.specs.Lexing.{tokens}
 use Rattle.text_syntax.specs.Grammar.{anyForm, lineForm}
@@ -66,7 +65,7 @@ lines-first b t = go (decLt (length (lineBytes (b ∷ t))) (length (b ∷ t)))
 
 -- what is read of the line at a place, by the form of its part up to byte 10
 module _ (s : Sizes) (t : List ℕ) (at end count : ℕ) (e : end ≡ at + length (lineBytes (drop at t))) (few : count ≤ at) where
-  pub next-none : (a b : Codes) → length t ≤ end → LineNext s (firstForm (drop at t)) end a b count (noParts count)
+  pub next-none : (a b : List ℕ) → length t ≤ end → LineNext s (firstForm (drop at t)) end a b count (noParts count)
   next-none a b h = record {
     reads = rw (first-past t at (omega (arith, e))) no-form;
     leaves = tt;
@@ -77,14 +76,10 @@ module _ (s : Sizes) (t : List ℕ) (at end count : ℕ) (e : end ≡ at + lengt
   part-length : end < length t → length (take (end - at) (drop at t)) ≡ end - at
   part-length h = length-take-le (end - at) (drop at t) (omega (arith, e, length-drop at t))
 
-  pub next-roomy : (a : Codes) → end < length t → CodeRoom (length t) a → Roomy a (take (end - at) (drop at t)) 0 count
-  next-roomy a h room = record {
-    kinds = omega (arith, part-length h, e, room .in-kinds);
-    numbers = omega (arith, part-length h, e, room .in-numbers);
-    chains = omega (arith, part-length h, e, room .in-chains);
-  }
+  pub next-roomy : (a : List ℕ) → end < length t → CodeRoom (length t) a → Roomy a (take (end - at) (drop at t)) 0 count
+  next-roomy a h room = omega (arith, part-length h, e, room .room)
 
-  pub next-line : (a b : Codes) (r : LineParts) → end < length t
+  pub next-line : (a b : List ℕ) (r : LineParts) → end < length t
       → LineAt s (take (end - at) (drop at t)) 0 (anyForm (tokens (take (end - at) (drop at t)))) a b count count r
       → LineNext s (firstForm (drop at t)) end a b count r
   unfolding lineForm

@@ -6,7 +6,6 @@ use mathlib.Core.Option.{Option, none}
 use lib.Dec.{ltb}
 use lib.ListN.{length}
 use Rattle.register.specs.declared.Sizes.{Sizes}
-use Rattle.program.specs.Code.{Codes}
 use Rattle.text_numerals.specs.Span.{starts, span}
 use Rattle.text_syntax.specs.Lexing.{tokens}
 use Rattle.text_syntax.specs.Written.{Line}
@@ -28,15 +27,13 @@ unfoldable pub firstForm : List ℕ → Option Line
 firstForm t = cond (ltb (length (lineBytes t)) (length t)) (lineForm (tokens (lineBytes t))) none
 
 -- room for the codes of a text of n bytes: one for each byte
-pub record CodeRoom (n : ℕ) (a : Codes) : Type 0 where
-  pub in-kinds : n ≤ length (a .kinds)
-  pub in-numbers : n ≤ length (a .numbers)
-  pub in-chains : n ≤ length (a .chains)
-  pub few : length (a .kinds) ≤ 65536
+pub record CodeRoom (n : ℕ) (a : List ℕ) : Type 0 where
+  pub room : n ≤ length a
+  pub few : length a ≤ 65536
 
 -- what is read of the first line, which ends at `end`, and the codes that it leaves, from `count` on
-pub record LineNext (s : Sizes) (form : Option Line) (end : ℕ) (a b : Codes) (count : ℕ) (r : LineParts) : Type 0 where
+pub record LineNext (s : Sizes) (form : Option Line) (end : ℕ) (a b : List ℕ) (count : ℕ) (r : LineParts) : Type 0 where
   pub reads : Reads s b form (r .line)
-  pub leaves : Leaves a b count (r .codes) (r .line)
-  pub more-codes : count ≤ r .codes
-  pub few-codes : r .codes ≤ end
+  pub leaves : Leaves a b count (r .used) (r .line)
+  pub more-codes : count ≤ r .used
+  pub few-codes : r .used ≤ end

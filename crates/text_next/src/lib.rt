@@ -3,7 +3,6 @@ ghost use mathlib.Core.Path.{_≡_};
 ghost use Prim.Native.Nat.{_+_, _≤_, _<_};
 ghost use lib.ListN.{length, drop};
 ghost use Rattle.register.specs.Shape.{Limits};
-ghost use Rattle.program.specs.Code.{codesKept};
 ghost use Rattle.text_next.specs.Front.{lineGoesOn, lineBytes, firstForm, CodeRoom, LineNext};
 use register::Sizes;
 use text_lines::line;
@@ -39,23 +38,18 @@ pub fn read_first(
     at: usize,
     end: usize,
     sizes: Sizes,
-    kinds: &mut [u8],
-    numbers: &mut [i32],
-    chains: &mut [u64],
+    codes: &mut [u64],
     count: usize,
 ) -> LineParts
     requires { ⌜ Limits sizes × (at < length (now text)) × (end ≡ at + length (lineBytes (drop at (now text)))) × (count ≤ at)
-        × CodeRoom (length (now text)) (codesKept (now kinds) (now numbers) (now chains)) ⌝ }
-    ensures { λ r.
-        ⌜ LineNext sizes (firstForm (drop at (now (text .entry)))) end
-        (codesKept (now (kinds .entry)) (now (numbers .entry)) (now (chains .entry)))
-        (codesKept (now (kinds .exit)) (now (numbers .exit)) (now (chains .exit))) count r ⌝ }
+        × CodeRoom (length (now text)) (now codes) ⌝ }
+    ensures { λ r. ⌜ LineNext sizes (firstForm (drop at (now (text .entry)))) end (now (codes .entry)) (now (codes .exit)) count r ⌝ }
 {
     if text.len() <= end {
         return LineParts {
             line: LineRead::NoForm,
-            codes: count,
+            used: count,
         };
     }
-    line::read_line(&text[at..end], sizes, kinds, numbers, chains, count)
+    line::read_line(&text[at..end], sizes, codes, count)
 }

@@ -1,3 +1,3 @@
--- What planning one more rule does, and what a line leaves to be stored.
-pub mod Planned
+-- The words of a rule, the plan that they are located in, and what a line leaves to be stored.
+pub mod Walked
 pub mod Store

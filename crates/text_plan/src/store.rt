@@ -1,11 +1,10 @@
 // What a line that has passed leaves to be stored in the program.
 ghost use mathlib.Core.Path.{_≡_};
+ghost use mathlib.Core.List.{[]};
 ghost use Prim.Native.Nat.{_≤_};
-ghost use lib.ListN.{length};
-ghost use Rattle.plan_lines.specs.Held.{planOf};
-ghost use Rattle.text_growth.specs.Growth.{Sound, addedOf};
-ghost use Rattle.text_state.specs.State.{frameOf};
-ghost use Rattle.text_plan.specs.Store.{emptySlot, LineFits, LinePlanned, FrameStored};
+ghost use Rattle.plan_lines.specs.Held.{HoldsLines, planOf};
+ghost use Rattle.text_readings.specs.Readings.{openLines, Growing};
+ghost use Rattle.text_plan.specs.Store.{emptySlot, LineFits, LinePlanned};
 use crate::plan_rule;
 use plan_lines::Plan;
 use program::frame::Frame;
@@ -22,10 +21,11 @@ use text_rules::line::LineRead;
 use text_state::state;
 use text_state::state::State;
 
-// A rule at its place; the frame of a step, which the line closes or marks as the last of its loop; or nothing.
+// A rule at its place; the frame of a step that the line closes, or marks as the last of its loop; or nothing.
 pub enum Store {
     Rule(usize, Located),
-    Frame(usize, bool),
+    Close(usize),
+    Last(usize),
     Nothing,
 }
 
@@ -49,7 +49,9 @@ pub fn empty_slot() -> Located
 }
 
 // The frame of no step.
-pub fn empty_frame() -> Frame {
+pub fn empty_frame() -> Frame
+    ensures { λ r. ⌜ (r .rules ≡ 0) × HoldsLines (r .plan) [] ⌝ }
+{
     Frame {
         rules: 0,
         remote: false,
@@ -67,95 +69,49 @@ pub fn plan_line(
     backs: &mut [u8; 64],
     reads: &mut [u8; 64],
     count: &mut usize,
-    full: &mut bool,
     wanted: &mut [bool; 64],
-    kinds: &[u8],
-    chains: &[u64],
-    places: &mut [u8],
+    codes: &mut [u64],
     state: State,
     read: LineRead,
 ) -> Store
-    requires { ⌜ Sound (addedOf (now keys) (now rounds) (now backs) (now reads) (now count) (now full)) × (length (now wanted) ≡ 64)
-        × (state .steps ≤ 32) × (state .tally .rules ≤ 32) × LineFits (now kinds) (now chains) (now places) state read ⌝ }
-    ensures { λ r. ⌜ LinePlanned (now (kinds .entry)) (now (chains .entry)) state
-        (addedOf (now (keys .entry)) (now (rounds .entry)) (now (backs .entry)) (now (reads .entry)) (now (count .entry)) (now (full .entry)))
-        (now (wanted .entry)) (now (places .entry))
-        (addedOf (now (keys .exit)) (now (rounds .exit)) (now (backs .exit)) (now (reads .exit)) (now (count .exit)) (now (full .exit)))
-        (now (wanted .exit)) (now (places .exit)) read r ⌝ }
+    requires { ⌜ Growing (openLines (now keys) (now rounds) (now backs) (now reads) (now count) (now wanted))
+        × (state .steps ≤ 32) × (state .tally .rules ≤ 32) × LineFits (now codes) state read ⌝ }
+    ensures { λ r. ⌜ LinePlanned state
+        (openLines (now (keys .entry)) (now (rounds .entry)) (now (backs .entry)) (now (reads .entry)) (now (count .entry)) (now (wanted .entry))) (now (codes .entry))
+        (openLines (now (keys .exit)) (now (rounds .exit)) (now (backs .exit)) (now (reads .exit)) (now (count .exit)) (now (wanted .exit))) (now (codes .exit)) read r ⌝ }
 {
     match read {
         LineRead::Rule(slot, _) => {
-            let at = plan_rule(
-                keys,
-                rounds,
-                backs,
-                reads,
-                count,
-                full,
-                wanted,
-                kinds,
-                chains,
-                places,
-                slot,
-            );
+            let at = plan_rule(keys, rounds, backs, reads, count, wanted, codes, slot);
             Store::Rule(state::place(state), Located { slot, at })
         }
-        LineRead::End => Store::Frame(state.steps, true),
-        LineRead::Done => Store::Frame(state.steps - 1, false),
+        LineRead::End => Store::Close(state.steps),
+        LineRead::Done => Store::Last(state.steps - 1),
         LineRead::Step => Store::Nothing,
         LineRead::Loop(_, _) => Store::Nothing,
         LineRead::NoForm => Store::Nothing,
     }
 }
 
-// The frame of the step that is closed. Nothing is planned yet for the next one.
-fn close(
-    state: State,
+// The plan of the open step.
+pub fn plan_of(
     keys: &[u64; 64],
     rounds: &[u8; 64],
     backs: &[u8; 64],
     reads: &[u8; 64],
-    count: &mut usize,
-    wanted: &mut [bool; 64],
-) -> Frame
-    ensures { λ r. ⌜ (r ≡ frameOf state (planOf (now (keys .entry)) (now (rounds .entry)) (now (backs .entry)) (now (reads .entry)) (now (count .entry))) (now (wanted .entry)))
-        × (now (count .exit) ≡ 0) × (length (now (wanted .exit)) ≡ 64) ⌝ }
+    count: usize,
+) -> Plan
+    ensures { λ r. ⌜ r ≡ planOf (now (keys .entry)) (now (rounds .entry)) (now (backs .entry)) (now (reads .entry)) count ⌝ }
 {
     let keys = *keys;
     let rounds = *rounds;
     let backs = *backs;
     let reads = *reads;
-    let plan = Plan {
+    Plan {
         keys,
         rounds,
         backs,
         reads,
-        count: *count,
-    };
-    let frame = state::open_frame(state, plan, *wanted);
-    *count = 0;
-    *wanted = [false; 64];
-    frame
-}
-
-// The frame of a step that a line closes, or of the last step of a loop, where `last` is its frame so far.
-pub fn frame(
-    last: Frame,
-    closes: bool,
-    state: State,
-    keys: &[u64; 64],
-    rounds: &[u8; 64],
-    backs: &[u8; 64],
-    reads: &[u8; 64],
-    count: &mut usize,
-    wanted: &mut [bool; 64],
-) -> Frame
-    ensures { λ r. ⌜ FrameStored closes last state
-        (planOf (now (keys .entry)) (now (rounds .entry)) (now (backs .entry)) (now (reads .entry)) (now (count .entry))) (now (wanted .entry))
-        (now (count .exit)) (now (wanted .exit)) r ⌝ }
-{
-    if closes {
-        return close(state, keys, rounds, backs, reads, count, wanted);
+        count,
     }
-    state::last_frame(last)
 }

@@ -2,6 +2,7 @@
 use Prim.Native.Nat.{ℕ}
 use mathlib.Core.Path.{_≡_, refl, ap, subst}
 use mathlib.Core.Bool.{Bool}
+use mathlib.Core.List.{List}
 use mathlib.Core.Option.{some}
 use native.Mathlib.Omega.{arith}
 use Rattle.register.specs.declared.Sizes.{Sizes}
@@ -10,7 +11,7 @@ use Rattle.program.specs.declared.rule.Slot.{Slot}
 use Rattle.program.specs.Program as P
 use Rattle.program.specs.Program.{expressionReadings, testReadings, targetReadings, ruleReadings}
 use Rattle.program.specs.Passed.{ExpressionPasses, TestPasses, TargetPasses, RulePasses}
-use Rattle.program.specs.Code.{Codes, SameBelow}
+use Rattle.program.specs.Code.{SameBelow}
 use Rattle.program.specs.Stored.{ruleIn}
 use Rattle.program.specs.Terms.{SlotTerms, TermFrom, TermInside, TermFormed}
 use Rattle.text_syntax.specs.Tree.{ruleOf}
@@ -20,6 +21,7 @@ use Rattle.text_rules.specs.declared.line.LineRead.{LineRead}
 use Rattle.text_rules.specs.declared.line.LineRead.the-variants as L
 use Rattle.text_rules.specs.LineRead.{RuleRead, Reads, step-line, end-line, done-line, loop-line, rule-line}
 use Rattle.text_rules.specs.Check.{State}
+use Rattle.text_rules.specs.declared.scope.Scope.{Scope}
 use Rattle.text_rules.proofs.Checked.{Clean}
 use Rattle.text_state.proofs.Standing.{clean-passes}
 use Rattle.text_lines.specs.Line.{Leaves}
@@ -59,7 +61,7 @@ tag (L.Loop f named) = 3
 tag (L.Rule x c) = 4
 tag L.NoForm = 5
 
-module _ {s : Sizes} {k : Codes} where
+module _ {s : Sizes} {k : List ℕ} where
   pub step-form : {l : Line} {y : LineRead} → Reads s k (some l) y → y ≡ L.Step → l ≡ step
   unfolding tag
   step-form step-line e = refl
@@ -101,19 +103,19 @@ module _ {s : Sizes} {k : Codes} where
   no-form (rule-line c a x w) e = omega (arith, ap tag e)
 
 -- a rule that has passed and the one that is written: its codes stand from..to
-pub record Written (s : Sizes) (st : State) (k : Codes) (from to : ℕ) (l : Line) (x : Slot) : Type 0 where
+pub record Written (scope : Scope) (st : State) (k : List ℕ) (from to : ℕ) (l : Line) (x : Slot) : Type 0 where
   pub condition : Condition
   pub action : Action
   pub line-is : l ≡ rule condition action
-  pub clean : Clean s st (rule condition action)
+  pub clean : Clean scope st (rule condition action)
   pub rule-is : ruleIn k x ≡ ruleOf condition action
   pub formed : SlotTerms (TermFormed k) x
   pub behind : SlotTerms (TermFrom from) x
   pub inside : SlotTerms (TermInside to) x
 
-module _ {s : Sizes} {st : State} (a b : Codes) (from to : ℕ) where
-  pub rule-form : {l : Line} {y : LineRead} → Reads s b (some l) y → Clean s st l → Leaves a b from to y
-      → {x : Slot} {c : Checks} → y ≡ L.Rule x c → Written s st b from to l x
+module _ {scope : Scope} {st : State} (a b : List ℕ) (from to : ℕ) where
+  pub rule-form : {l : Line} {y : LineRead} → Reads (scope .sizes) b (some l) y → Clean scope st l → Leaves a b from to y
+      → {x : Slot} {c : Checks} → y ≡ L.Rule x c → Written scope st b from to l x
   unfolding tag
   rule-form step-line k v e = absurd (omega (arith, ap tag e))
   rule-form end-line k v e = absurd (omega (arith, ap tag e))
@@ -135,7 +137,7 @@ module _ {s : Sizes} {st : State} (a b : Codes) (from to : ℕ) where
       }
 
   -- the codes before it are as they were
-  pub codes-kept : {l : Line} {y : LineRead} → Reads s b (some l) y → Clean s st l → Leaves a b from to y → SameBelow a b from
+  pub codes-kept : {l : Line} {y : LineRead} → Reads (scope .sizes) b (some l) y → Clean scope st l → Leaves a b from to y → SameBelow a b from
   codes-kept step-line k v = v
   codes-kept end-line k v = v
   codes-kept done-line k v = v

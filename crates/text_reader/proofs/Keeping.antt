@@ -7,18 +7,16 @@ use native.Mathlib.Numerals.{add-one}
 use lib.ListN.{length, getD, take, drop, set, length-take, length-drop}
 use lib.Seq.{take-set-le, drop-set-add, take-set-lt, take-suc-set, drop-drop}
 use Rattle.laws.specs.Lists.{Each}
-use Rattle.plan_lines.specs.Held.{facts}
 use Rattle.program.specs.declared.location.Located.{Located}
-use Rattle.program.specs.Code.{Codes}
 use Rattle.program.specs.Program.{Step}
 use Rattle.text_rules.specs.Text.{closeLoop}
 use Rattle.program.specs.Stored.{ruleIn, rulesIn}
 use Rattle.program.specs.Terms.{SlotPlaced}
 use Rattle.program.specs.Kept.{stepsIn, FrameOf, Framed}
-use Rattle.text_plan.proofs.Placing.{WordPlaced}
+use Rattle.text_readings.specs.Readings.{WordPlaced}
 use Rattle.text_state.specs.State.{lastFrame}
 use Rattle.program.specs.declared.frame.Frame.{Frame}
-use Rattle.text_reader.proofs.Agreeing.{AllPlaced}
+use Rattle.text_reader.proofs.Agreeing.{linesIn, AllPlaced}
 
 -- a rule stored behind the rules of the open step
 module _ (slots : List Located) (s k : ℕ) (x : Located) (h : k < 32) (b : 32 * s + 32 ≤ length slots) where
@@ -31,7 +29,7 @@ module _ (slots : List Located) (s k : ℕ) (x : Located) (h : k < 32) (b : 32 *
       rw (stored, add-one k, take-suc-set here k x room)
 
 -- the steps that the arrays hold: a rule stored behind them leaves them as they are
-module _ (codes : Codes) where
+module _ (codes : List ℕ) where
   pub store-steps : (slots : List Located) (fs : List Frame) (k : ℕ) (x : Located)
       → stepsIn codes (set slots (32 * length fs + k) x) fs ≡ stepsIn codes slots fs
   unfolding stepsIn
@@ -84,9 +82,9 @@ module _ (codes : Codes) where
         (close-frame slots fs (n - 1) d (omega arith))
 
 -- what is placed of their rules, the same way
-module _ (codes : Codes) (places : List ℕ) where
-  pub store-placed : (slots : List Located) (fs : List Frame) (k : ℕ) (x : Located) → AllPlaced codes places slots fs
-      → AllPlaced codes places (set slots (32 * length fs + k) x) fs
+module _ (codes : List ℕ) where
+  pub store-placed : (slots : List Located) (fs : List Frame) (k : ℕ) (x : Located) → AllPlaced codes slots fs
+      → AllPlaced codes (set slots (32 * length fs + k) x) fs
   store-placed slots [] k x h = tt
   store-placed slots (f ∷ fs) k x h =
       let at : 32 * length (f ∷ fs) + k ≡ 32 + (32 * length fs + k) = omega arith in (
@@ -94,28 +92,27 @@ module _ (codes : Codes) (places : List ℕ) where
         rw (at, drop-set-add 32 slots (32 * length fs + k) x) (store-placed (drop 32 slots) fs k x (h .1)),
       )
 
-  pub more-placed : (slots : List Located) (fs : List Frame) (f : Frame) → AllPlaced codes places slots fs
-      → Each (SlotPlaced (WordPlaced (facts (f .plan)) (f .wanted)) (codes .kinds) (codes .chains) places)
-      (take (f .rules) (take 32 (drop (32 * length fs) slots)))
-      → AllPlaced codes places slots (fs ++ (f ∷ []))
+  pub more-placed : (slots : List Located) (fs : List Frame) (f : Frame) → AllPlaced codes slots fs
+      → Each (SlotPlaced (WordPlaced (linesIn f)) codes) (take (f .rules) (take 32 (drop (32 * length fs) slots)))
+      → AllPlaced codes slots (fs ++ (f ∷ []))
   more-placed slots [] f h e = (e, tt)
   more-placed slots (g ∷ fs) f h e =
       let at : 32 * length (g ∷ fs) ≡ 32 + 32 * length fs = omega arith in
       (h .0, more-placed (drop 32 slots) fs f (h .1) (rw (drop-drop (32 * length fs) 32 slots) (rw at at e)))
 
-  placed-last : (slots : List Located) (fs : List Frame) (n : ℕ) (d : Frame) → AllPlaced codes places slots (take (suc n) fs)
-      → AllPlaced codes places slots (take (suc n) (set fs n (lastFrame (getD fs n d))))
+  placed-last : (slots : List Located) (fs : List Frame) (n : ℕ) (d : Frame) → AllPlaced codes slots (take (suc n) fs)
+      → AllPlaced codes slots (take (suc n) (set fs n (lastFrame (getD fs n d))))
   unfolding lastFrame
   placed-last slots [] n d h = h
   placed-last slots (f ∷ fs) zero d h = h
   placed-last slots (f ∷ fs) (suc n) d h = (h .0, placed-last (drop 32 slots) fs n d (h .1))
 
   module _ (slots : List Located) (fs : List Frame) (n : ℕ) (d : Frame) (p : 1 ≤ n) where
-    pub placed-close : AllPlaced codes places slots (take n fs) → AllPlaced codes places slots (take n (set fs (n - 1) (lastFrame (getD fs (n - 1) d))))
+    pub placed-close : AllPlaced codes slots (take n fs) → AllPlaced codes slots (take n (set fs (n - 1) (lastFrame (getD fs (n - 1) d))))
     placed-close h =
         let at : n ≡ suc (n - 1) = omega arith in
-        subst⁻¹ (λ (m : ℕ). AllPlaced codes places slots (take m (set fs (n - 1) (lastFrame (getD fs (n - 1) d))))) at
-        (placed-last slots fs (n - 1) d (subst (λ (m : ℕ). AllPlaced codes places slots (take m fs)) at h))
+        subst⁻¹ (λ (m : ℕ). AllPlaced codes slots (take m (set fs (n - 1) (lastFrame (getD fs (n - 1) d))))) at
+        (placed-last slots fs (n - 1) d (subst (λ (m : ℕ). AllPlaced codes slots (take m fs)) at h))
 
 -- their frames
 pub framed-more : (fs : List Frame) (xs : List Step) (f : Frame) (x : Step) → Framed fs xs → length xs < length fs → FrameOf f (x .rules)

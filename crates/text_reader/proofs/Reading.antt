@@ -13,11 +13,11 @@ use lib.Seq.{drop-drop}
 use Rattle.register.specs.Shape.{Limits}
 use Rattle.laws.specs.Outcome.{Outcome, refused, unless, after}
 use Rattle.laws.specs.Outcome as O
-use Rattle.register.specs.declared.Sizes.{Sizes}
-use Rattle.plan_lines.specs.Held.{HoldsLines, Added}
+use Rattle.plan_lines.specs.Held.{HoldsLines}
 use Rattle.text_syntax.specs.Written.{Line, step, end, done}
 use Rattle.text_syntax.specs.Lexing.{tokens}
 use Rattle.text_syntax.specs.Grammar.{lineForm}
+use Rattle.text_rules.specs.declared.scope.Scope.{Scope}
 use Rattle.text_rules.specs.declared.line.Checks.{Checks}
 use Rattle.text_rules.specs.declared.line.LineRead.the-variants as L
 use Rattle.text_rules.specs.LineRead.{Reads}
@@ -32,17 +32,15 @@ use Rattle.text_rules.proofs.Passing.{Reached, start-reached, advance-reached}
 use Rattle.text_next.specs.Front.{lineBytes, firstForm, CodeRoom, LineNext}
 use Rattle.program.specs.Stored.{rulesIn}
 use Rattle.program.specs.Kept.{stepsIn, programOf}
-use Rattle.text_reader.specs.Answers.{CodeArrays, checkOutcome, Answers}
+use Rattle.text_reader.specs.Answers.{checkOutcome, Answers}
 use Rattle.program.specs.declared.location.Located.{Located}
 use Rattle.program.specs.declared.location.Locations.{Locations}
-use Rattle.program.specs.Code.{Codes}
-use Rattle.program.specs.Code as K
+use Rattle.program.specs.Code.{SameBelow}
 use Rattle.program.specs.Terms.{SlotTerms, TermInside}
-use Rattle.text_growth.specs.Growth.{slotWords, addedOf}
-use Rattle.text_readings.specs.Readings.{Short}
-use Rattle.text_plan.specs.Planned.{RulePlanned}
+use Rattle.text_readings.specs.Readings.{Short, Lines, openLines}
+use Rattle.text_plan.specs.Walked.{slotWords, SlotWalked}
 use Rattle.text_plan.specs.Store.{emptySlot}
-use Rattle.text_growth.proofs.Rules.{slot-words}
+use Rattle.text_plan.proofs.Words.{slot-words}
 use Rattle.text_state.specs.State.{noRules, startState, frameOf, lastFrame, advanceOf}
 use Rattle.text_refusals.specs.Refusal.{refusalOf, lastRefusal}
 use Rattle.program.specs.declared.Program as C
@@ -53,32 +51,31 @@ use Rattle.program.proofs.Agreeing.{slot-map, inside-more}
 use Rattle.text_reader.proofs.Agreeing.{SlotKept, all-located}
 use Rattle.text_reader.proofs.Opening.{open-none}
 use Rattle.text_reader.proofs.Forms.{rule-short, step-form, end-form, done-form, loop-form, no-form, Written, rule-form, codes-kept}
-use Rattle.text_reader.proofs.Arms.{Behind, behind-same, behind-more, at-step, at-loop, at-rule, at-end, at-done, rule-steps, rule-rules, end-steps, end-none, end-count, done-steps}
+use Rattle.text_reader.proofs.Arms.{Behind, behind-same, at-step, at-loop, at-rule, at-end, at-done, rule-steps, rule-rules, end-steps, end-count, done-steps}
 use Rattle.text_next.proofs.Fronts.{lines-first}
 use Rattle.text_state.proofs.Standing.{Stands, start-stands, advance-stands}
 use Rattle.text_refusals.proofs.Refusals.{number, refusal-is, last-is}
 
--- the state of the definition before line i, which begins at `at`, and what the code has of it, with n codes in the arrays a
-pub record Read (s : Sizes) (t : List ℕ) (plan : Added) (wanted : List Bool) (a : Codes) (places : List ℕ) (slots : List Located)
-    (frames : List Frame) (x : S.State) (n at i : ℕ) : Type 0 where
+-- the state of the definition before line i, which begins at `at`, and what the code has of it, with n codes in the lent array
+pub record Read (scope : Scope) (t : List ℕ) (a : Lines) (codes : List ℕ) (slots : List Located) (frames : List Frame) (x : S.State) (n at i : ℕ) : Type 0 where
   pub state : State
-  pub reached : Reached s state
+  pub reached : Reached (scope .sizes) state
   pub stands : Stands x state
-  pub behind : Behind a places n slots frames plan wanted x state
-  pub lent : CodeArrays (a .kinds) (a .numbers) (a .chains) places
-  pub rest : readFrom s start 1 (lines t) ≡ readFrom s state i (lines (drop at t))
+  pub behind : Behind codes n slots frames a x state
+  pub lent : length codes ≡ 8192
+  pub rest : readFrom scope start 1 (lines t) ≡ readFrom scope state i (lines (drop at t))
   pub within : at ≤ length t
   pub few : i ≤ at + 1
   pub few-codes : n ≤ at
 
 -- before the first line
-pub begun : (s : Sizes) (t : List ℕ) {plan : Added} {wanted : List Bool} {a : Codes} {places : List ℕ} {y : Located} {frames : List Frame} {x : S.State}
-    → (plan .full ≡ false) × HoldsLines (plan .plan) [] → length wanted ≡ 64 → CodeArrays (a .kinds) (a .numbers) (a .chains) places
-    → y .slot ≡ emptySlot → length frames ≡ 32 → x ≡ startState → Read s t plan wanted a places (replicate 1024 y) frames x 0 0 1
+pub begun : (scope : Scope) (t : List ℕ) {a : Lines} {codes : List ℕ} {y : Located} {frames : List Frame} {x : S.State}
+    → HoldsLines (a .plan) [] → length (a .wanted) ≡ 64 → length codes ≡ 8192
+    → y .slot ≡ emptySlot → length frames ≡ 32 → x ≡ startState → Read scope t a codes (replicate 1024 y) frames x 0 0 1
 unfolding startState start openRules stepsIn rulesIn noRules
-begun s t {a = a} {y = y} h lw lent ey lf e = record {
+begun scope t {codes = codes} {y} h lw lent ey lf e = record {
   state = start;
-  reached = start-reached s;
+  reached = start-reached (scope .sizes);
   stands = rw e start-stands;
   behind = rw e (record {
     kept = record {
@@ -88,7 +85,7 @@ begun s t {a = a} {y = y} h lw lent ey lf e = record {
       rules-are = refl;
       framed = tt;
       placed = tt;
-      terms = each-replicate (SlotKept a 0) 1024 y (rw ey (tt, (tt, tt)));
+      terms = each-replicate (SlotKept codes 0) 1024 y (rw ey (tt, (tt, tt)));
     };
     opened = open-none h lw;
   });
@@ -100,14 +97,14 @@ begun s t {a = a} {y = y} h lw lent ey lf e = record {
 }
 
 -- the outcome of a text from its first line
-first-line : (s : Sizes) (st : State) (k : ℕ) (t : List ℕ) → 0 < length t
-    → readFrom s st k (lines t) ≡ after (lineOutcome s st k (firstForm t)) (λ st. readFrom s st (suc k) (lines (drop (length (lineBytes t) + 1) t)))
+first-line : (scope : Scope) (st : State) (k : ℕ) (t : List ℕ) → 0 < length t
+    → readFrom scope st k (lines t) ≡ after (lineOutcome scope st k (firstForm t)) (λ st. readFrom scope st (suc k) (lines (drop (length (lineBytes t) + 1) t)))
 unfolding readFrom
-first-line s st k [] h = absurd (omega arith)
-first-line s st k (b ∷ t) h =
+first-line scope st k [] h = absurd (omega arith)
+first-line scope st k (b ∷ t) h =
     let p = lines-first b t in
-    ap (readFrom s st k) (p .2)
-    ∙ ap (λ (o : Option Line). after (lineOutcome s st k o) (λ st. readFrom s st (suc k) (lines (drop (length (lineBytes (b ∷ t)) + 1) (b ∷ t))))) (p .1)
+    ap (readFrom scope st k) (p .2)
+    ∙ ap (λ (o : Option Line). after (lineOutcome scope st k o) (λ st. readFrom scope st (suc k) (lines (drop (length (lineBytes (b ∷ t)) + 1) (b ∷ t))))) (p .1)
 
 -- a line that is refused
 pub refuse-none : {A : Type 0} (n k : ℕ) (o : Outcome A) → (n ≡ 0 → ⊥) → unless n k o ≡ refused n k
@@ -119,18 +116,18 @@ refuse : {A B : Type 0} (n k : ℕ) (o : Outcome A) (f : A → Outcome B) → (n
 unfolding after unless
 refuse n k o f h = rw (refuse-none n k o h)
 
-refused-line : (s : Sizes) (st : State) (k : ℕ) (o : Option Line) (f : State → Outcome Program) → (number s st o ≡ 0 → ⊥)
-    → after (lineOutcome s st k o) f ≡ refused (number s st o) k
+refused-line : (scope : Scope) (st : State) (k : ℕ) (o : Option Line) (f : State → Outcome Program) → (number scope st o ≡ 0 → ⊥)
+    → after (lineOutcome scope st k o) f ≡ refused (number scope st o) k
 unfolding number lineOutcome after
-refused-line s st k none f h = refl
-refused-line s st k (some l) f h = refuse (lineRefusal s st l) k (O.done (advance st l)) f h
+refused-line scope st k none f h = refl
+refused-line scope st k (some l) f h = refuse (lineRefusal scope st l) k (O.done (advance st l)) f h
 
 -- a line that passes
-passed-line : (s : Sizes) (st : State) (k : ℕ) (o : Option Line) (f : State → Outcome Program) → number s st o ≡ 0
-    → (l : Line) × (o ≡ some l) × Clean s st l × (after (lineOutcome s st k o) f ≡ f (advance st l))
+passed-line : (scope : Scope) (st : State) (k : ℕ) (o : Option Line) (f : State → Outcome Program) → number scope st o ≡ 0
+    → (l : Line) × (o ≡ some l) × Clean scope st l × (after (lineOutcome scope st k o) f ≡ f (advance st l))
 unfolding number lineOutcome after unless
-passed-line s st k none f h = absurd (omega arith)
-passed-line s st k (some l) f h = (l, refl, refusal-none s st l h, rw h)
+passed-line scope st k none f h = absurd (omega arith)
+passed-line scope st k (some l) f h = (l, refl, refusal-none scope st l h, rw h)
 
 first-some : (t : List ℕ) (l : Line) → firstForm t ≡ some l → length (lineBytes t) < length t
 unfolding firstForm
@@ -140,200 +137,187 @@ first-some t l h = go (ltb (length (lineBytes t)) (length t)) refl h
     go true e h = ltb-true (length (lineBytes t)) (length t) e
     go false e h = absurd (let z : _≡_ {A = ℕ} 0 1 = cc in omega arith)
 
-module _ (s : Sizes) {t : List ℕ} {plan : Added} {wanted : List Bool} {a : Codes} {places : List ℕ} {slots : List Located}
-    {frames : List Frame} {x : S.State} {n at i : ℕ} (q : Read s t plan wanted a places slots frames x n at i) where
+module _ (scope : Scope) {t : List ℕ} {a : Lines} {codes : List ℕ} {slots : List Located} {frames : List Frame} {x : S.State} {n at i : ℕ}
+    (q : Read scope t a codes slots frames x n at i) where
   -- the next line, where it passes
-  pub record Passes (b : Codes) (r : LineParts) : Type 0 where
+  pub record Passes (b : List ℕ) (r : LineParts) : Type 0 where
     pub form : Line
-    pub clean : Clean s (q .state) form
-    pub reads : Reads s b (some form) (r .line)
-    pub leaves : Leaves a b n (r .codes) (r .line)
-    pub more-codes : n ≤ r .codes
-    pub few-codes : r .codes ≤ at + length (lineBytes (drop at t))
+    pub clean : Clean scope (q .state) form
+    pub reads : Reads (scope .sizes) b (some form) (r .line)
+    pub leaves : Leaves codes b n (r .used) (r .line)
+    pub more-codes : n ≤ r .used
+    pub few-codes : r .used ≤ at + length (lineBytes (drop at t))
     pub inside : at + length (lineBytes (drop at t)) < length t
-    pub onward : readFrom s start 1 (lines t) ≡ readFrom s (advance (q .state) form) (suc i) (lines (drop (at + length (lineBytes (drop at t)) + 1) t))
+    pub onward : readFrom scope start 1 (lines t) ≡ readFrom scope (advance (q .state) form) (suc i) (lines (drop (at + length (lineBytes (drop at t)) + 1) t))
 
-  module _ {b : Codes} (r : LineParts) {stop : ℕ} (e : stop ≡ at + length (lineBytes (drop at t))) (here : at < length t)
-      (l : LineNext s (firstForm (drop at t)) stop a b n r) where
+  module _ {b : List ℕ} (r : LineParts) {stop : ℕ} (e : stop ≡ at + length (lineBytes (drop at t))) (here : at < length t)
+      (l : LineNext (scope .sizes) (firstForm (drop at t)) stop codes b n r) where
     -- what follows it
     abbrev follows : State → Outcome Program
-    follows st = readFrom s st (suc i) (lines (drop (length (lineBytes (drop at t)) + 1) (drop at t)))
+    follows st = readFrom scope st (suc i) (lines (drop (length (lineBytes (drop at t)) + 1) (drop at t)))
 
-    outcome : readFrom s start 1 (lines t) ≡ after (lineOutcome s (q .state) i (firstForm (drop at t))) follows
-    outcome = q .rest ∙ first-line s (q .state) i (drop at t) (simp length-drop (omega arith))
+    outcome : readFrom scope start 1 (lines t) ≡ after (lineOutcome scope (q .state) i (firstForm (drop at t))) follows
+    outcome = q .rest ∙ first-line scope (q .state) i (drop at t) (simp length-drop (omega arith))
 
-    numbered : refusalOf x (plan .full) (r .line) ≡ number s (q .state) (firstForm (drop at t))
-    numbered = refusal-is s (q .stands) (plan .full) (q .behind .opened .planned .full-is) (l .reads)
+    numbered : refusalOf x (ltb 64 (a .plan .count)) (r .line) ≡ number scope (q .state) (firstForm (drop at t))
+    numbered = refusal-is scope (q .stands) (ltb 64 (a .plan .count)) (q .behind .opened .planned .full-is) (l .reads)
 
     -- a line that is refused
-    pub stopped : (refusalOf x (plan .full) (r .line) ≡ 0 → ⊥) → readFrom s start 1 (lines t) ≡ refused (refusalOf x (plan .full) (r .line)) i
-    stopped h = outcome ∙ refused-line s (q .state) i (firstForm (drop at t)) follows (λ z. h (numbered ∙ z)) ∙ ap (λ (m : ℕ). refused m i) (sym numbered)
+    pub stopped : (refusalOf x (ltb 64 (a .plan .count)) (r .line) ≡ 0 → ⊥) → readFrom scope start 1 (lines t) ≡ refused (refusalOf x (ltb 64 (a .plan .count)) (r .line)) i
+    stopped h = outcome ∙ refused-line scope (q .state) i (firstForm (drop at t)) follows (λ z. h (numbered ∙ z)) ∙ ap (λ (m : ℕ). refused m i) (sym numbered)
 
-    pub passes : refusalOf x (plan .full) (r .line) ≡ 0 → Passes b r
+    pub passes : refusalOf x (ltb 64 (a .plan .count)) (r .line) ≡ 0 → Passes b r
     passes h =
-        let p = passed-line s (q .state) i (firstForm (drop at t)) follows (sym numbered ∙ h) in
+        let p = passed-line scope (q .state) i (firstForm (drop at t)) follows (sym numbered ∙ h) in
         let behind : at + (length (lineBytes (drop at t)) + 1) ≡ at + length (lineBytes (drop at t)) + 1 = omega arith in
         record {
           form = p .0;
           clean = p .2;
-          reads = subst (λ (o : Option Line). Reads s b o (r .line)) (p .1) (l .reads);
+          reads = subst (λ (o : Option Line). Reads (scope .sizes) b o (r .line)) (p .1) (l .reads);
           leaves = l .leaves;
           more-codes = l .more-codes;
           few-codes = omega (arith, l .few-codes, e);
           inside = omega (arith, first-some (drop at t) (p .0) (p .1), length-drop at t);
           onward = outcome ∙ p .3
-              ∙ ap (λ (u : List ℕ). readFrom s (advance (q .state) (p .0)) (suc i) (lines u))
+              ∙ ap (λ (u : List ℕ). readFrom scope (advance (q .state) (p .0)) (suc i) (lines u))
               (drop-drop (length (lineBytes (drop at t)) + 1) at t ∙ ap (λ (j : ℕ). drop j t) behind);
         }
 
 -- the arrays and the plan behind each sort of line; m is the number of lines of the open step's plan
-module _ {s : Sizes} (lim : Limits s) {t : List ℕ} {plan : Added} {wanted : List Bool} {a : Codes} {places : List ℕ} {slots : List Located}
-    {frames : List Frame} {x : S.State} {n at i : ℕ} {q : Read s t plan wanted a places slots frames x n at i} where
-  module _ {b : Codes} {r : LineParts} (p : Passes s q b r) (m : ℕ) where
-    -- what stood before the line, in the arrays behind it
-    same : Behind b places n slots frames plan wanted x (q .state)
-    same = behind-same (q .behind) (record { same-codes = codes-kept a b n (r .codes) (p .reads) (p .clean) (p .leaves); same-places = λ j l. refl })
+module _ {scope : Scope} (lim : Limits (scope .sizes)) {t : List ℕ} {a : Lines} {codes : List ℕ} {slots : List Located} {frames : List Frame} {x : S.State} {n at i : ℕ}
+    {q : Read scope t a codes slots frames x n at i} where
+  module _ {b : List ℕ} {r : LineParts} (p : Passes scope q b r) (m : ℕ) where
+    -- what stood before the line, with the codes behind it
+    before : SameBelow codes b n
+    before = codes-kept codes b n (r .used) (p .reads) (p .clean) (p .leaves)
 
-    more : Behind b places (r .codes) slots frames plan wanted x (q .state)
-    more = behind-more same (p .more-codes)
+    same : Behind b n slots frames a x (q .state)
+    same = behind-same (q .behind) b before (omega arith)
 
-    pub arm-step : r .line ≡ L.Step → Behind b places (r .codes) slots frames plan wanted (advanceOf x m (r .line)) (advance (q .state) (p .form))
+    more : Behind b (r .used) slots frames a x (q .state)
+    more = behind-same (q .behind) b before (p .more-codes)
+
+    pub arm-step : r .line ≡ L.Step → Behind b (r .used) slots frames a (advanceOf x m (r .line)) (advance (q .state) (p .form))
     arm-step e =
         let is : p .form ≡ step = step-form (p .reads) e in
-        rw (e, is) (at-step s (q .reached) (q .stands) more m (subst (Clean s (q .state)) is (p .clean)))
+        rw (e, is) (at-step scope (q .reached) (q .stands) more m (subst (Clean scope (q .state)) is (p .clean)))
 
     pub arm-loop : {f : ℕ} {named : Bool} → r .line ≡ L.Loop f named
-        → Behind b places (r .codes) slots frames plan wanted (advanceOf x m (r .line)) (advance (q .state) (p .form))
+        → Behind b (r .used) slots frames a (advanceOf x m (r .line)) (advance (q .state) (p .form))
     arm-loop {f} {named} e =
         let v = loop-form (p .reads) e in
-        rw (e, v .1) (at-loop s (q .reached) (q .stands) more m (v .0) f named (subst (Clean s (q .state)) (v .1) (p .clean)))
+        rw (e, v .1) (at-loop scope (q .reached) (q .stands) more m (v .0) f named (subst (Clean scope (q .state)) (v .1) (p .clean)))
 
     pub arm-none : {A : Type 0} → r .line ≡ L.NoForm → A
     arm-none e = absurd (no-form (p .reads) e)
 
     module _ (e : r .line ≡ L.End) where
-      end-clean : Clean s (q .state) end
-      end-clean = subst (Clean s (q .state)) (end-form (p .reads) e) (p .clean)
+      end-clean : Clean scope (q .state) end
+      end-clean = subst (Clean scope (q .state)) (end-form (p .reads) e) (p .clean)
 
       pub arm-end-steps : x .steps < 32
-      arm-end-steps = end-steps s (q .reached) (q .stands) more m end-clean
+      arm-end-steps = end-steps scope (q .reached) (q .stands) more m end-clean
 
       pub arm-end : {marks : List Bool} → length marks ≡ 64
-          → let o = plan .plan in
-          Behind b places (r .codes) slots (set frames (x .steps) (frameOf x o wanted))
-          (addedOf (o .keys) (o .rounds) (o .backs) (o .reads) 0 (plan .full)) marks (advanceOf x m (r .line)) (advance (q .state) (p .form))
+          → let o = a .plan in
+          Behind b (r .used) slots (set frames (x .steps) (frameOf x o (a .wanted))) (openLines (o .keys) (o .rounds) (o .backs) (o .reads) 0 marks)
+          (advanceOf x m (r .line)) (advance (q .state) (p .form))
       arm-end l =
           rw (e, end-form (p .reads) e)
-          (at-end s (q .reached) (q .stands) more m end-clean (end-none s (q .reached) (q .stands) more m end-clean) l)
+          (at-end scope (q .reached) (q .stands) more m end-clean l)
 
     module _ (e : r .line ≡ L.Done) where
-      done-clean : Clean s (q .state) done
-      done-clean = subst (Clean s (q .state)) (done-form (p .reads) e) (p .clean)
+      done-clean : Clean scope (q .state) done
+      done-clean = subst (Clean scope (q .state)) (done-form (p .reads) e) (p .clean)
 
       pub arm-done-steps : 1 ≤ x .steps
-      arm-done-steps = done-steps s (q .reached) (q .stands) more m done-clean
+      arm-done-steps = done-steps scope (q .reached) (q .stands) more m done-clean
 
       pub arm-done : (d : Frame)
-          → Behind b places (r .codes) slots (set frames (x .steps - 1) (lastFrame (getD frames (x .steps - 1) d))) plan wanted
+          → Behind b (r .used) slots (set frames (x .steps - 1) (lastFrame (getD frames (x .steps - 1) d))) a
           (advanceOf x m (r .line)) (advance (q .state) (p .form))
-      arm-done d = rw (e, done-form (p .reads) e) (at-done s (q .reached) (q .stands) more m done-clean d)
+      arm-done d = rw (e, done-form (p .reads) e) (at-done scope (q .reached) (q .stands) more m done-clean d)
 
     module _ {y : Slot} {ch : Checks} (e : r .line ≡ L.Rule y ch) where
-      abbrev written : Written s (q .state) b n (r .codes) (p .form) y
-      written = rule-form a b n (r .codes) (p .reads) (p .clean) (p .leaves) e
+      abbrev written : Written scope (q .state) b n (r .used) (p .form) y
+      written = rule-form codes b n (r .used) (p .reads) (p .clean) (p .leaves) e
 
       pub arm-steps : x .steps < 32
-      arm-steps = rule-steps s (q .reached) (q .stands) more m (written .clean)
+      arm-steps = rule-steps scope (q .reached) (q .stands) more m (written .clean)
 
       pub arm-rules : x .tally .rules < 32
-      arm-rules = rule-rules s (q .reached) (q .stands) more m (written .clean)
+      arm-rules = rule-rules scope (q .reached) (q .stands) more m (written .clean)
 
-      pub arm-short : Short (slotWords (b .kinds) (b .chains) y)
-      arm-short =
-          rw (slot-words b y (written .formed), written .rule-is)
-          (rule-short s _ (rule-passes s lim (q .state) (written .condition) (written .action) (written .clean)))
+      pub arm-fits : length t ≤ 8192 → length b ≡ 8192 → Short (slotWords b y) × SlotTerms (TermInside (length b)) y
+      arm-fits h e = (
+        rw (slot-words b y (written .formed), written .rule-is)
+            (rule-short (scope .sizes) _ (rule-passes scope lim (q .state) (written .condition) (written .action) (written .clean))),
+        slot-map (inside-more (omega (arith, p .few-codes, p .inside, e))) y (written .inside),
+      )
 
-      pub arm-inside : {k : ℕ} → length t ≤ 8192 → k ≡ 8192 → SlotTerms (TermInside k) y
-      arm-inside h e = slot-map (inside-more (omega (arith, p .few-codes, p .inside, e))) y (written .inside)
-
-      pub arm-rule : {o : Added} {wanted′ : List Bool} {places′ : List ℕ} {at′ : Locations}
-          → RulePlanned (b .kinds) (b .chains) y plan wanted places o wanted′ places′ at′
-          → Behind b places′ (r .codes) (set slots (32 * x .steps + x .tally .rules) (record { slot = y; at = at′ })) frames o wanted′
+      pub arm-rule : {a′ : Lines} {codes′ : List ℕ} (at′ : Locations) → SlotWalked a b a′ codes′ at′ y
+          → Behind codes′ (r .used) (set slots (32 * x .steps + x .tally .rules) (record { slot = y; at = at′ })) frames a′
           (advanceOf x m (r .line)) (advance (q .state) (p .form))
-      arm-rule h =
+      arm-rule at′ w =
           rw (e, written .line-is)
-          (at-rule s (q .reached) (q .stands) same m (written .clean) y (written .rule-is) (written .formed) (written .behind)
-          (p .more-codes) (written .inside) h ch)
+          (at-rule scope (q .reached) (q .stands) same m (written .clean) y at′ ch (written .rule-is) (written .formed) (written .behind) (written .inside) (p .more-codes) w)
 
     -- the count of the open step's plan, which its `end` asks for
-    pub end-lines : p .form ≡ end → plan .plan .count ≡ length (stepPlan (openRules (q .state)))
-    end-lines e = end-count s (q .reached) (q .stands) more m (subst (Clean s (q .state)) e (p .clean))
+    pub end-lines : p .form ≡ end → a .plan .count ≡ length (stepPlan (openRules (q .state)))
+    end-lines e = end-count scope (q .reached) (q .stands) more m (subst (Clean scope (q .state)) e (p .clean))
 
   -- one line further
-  pub again : {b : Codes} {r : LineParts} (p : Passes s q b r) {slots′ : List Located} {frames′ : List Frame} {plan′ : Added} {wanted′ : List Bool}
-      {places′ : List ℕ} {x′ : S.State} {stop : ℕ} → x′ ≡ advanceOf x (plan .plan .count) (r .line) → stop ≡ at + length (lineBytes (drop at t))
-      → CodeArrays (b .kinds) (b .numbers) (b .chains) places′
-      → Behind b places′ (r .codes) slots′ frames′ plan′ wanted′ (advanceOf x (plan .plan .count) (r .line)) (advance (q .state) (p .form))
-      → Read s t plan′ wanted′ b places′ slots′ frames′ x′ (r .codes) (stop + 1) (i + 1)
+  pub again : {b b′ : List ℕ} {r : LineParts} (p : Passes scope q b r) {slots′ : List Located} {frames′ : List Frame} {a′ : Lines} {x′ : S.State} {stop : ℕ}
+      → x′ ≡ advanceOf x (a .plan .count) (r .line) → stop ≡ at + length (lineBytes (drop at t)) → length b′ ≡ 8192
+      → Behind b′ (r .used) slots′ frames′ a′ (advanceOf x (a .plan .count) (r .line)) (advance (q .state) (p .form))
+      → Read scope t a′ b′ slots′ frames′ x′ (r .used) (stop + 1) (i + 1)
   again p ex es lent b = rw (ex, es) (record {
     state = advance (q .state) (p .form);
-    reached = advance-reached s lim (q .state) (p .form) (q .reached) (p .clean);
-    stands = advance-stands s lim (q .stands) (plan .plan .count) (p .reads) (p .clean) (end-lines p (plan .plan .count));
+    reached = advance-reached scope lim (q .state) (p .form) (q .reached) (p .clean);
+    stands = advance-stands scope lim (q .stands) (a .plan .count) (p .reads) (p .clean) (end-lines p (a .plan .count));
     behind = b;
     lent = lent;
-    rest = p .onward ∙ ap (λ (j : ℕ). readFrom s (advance (q .state) (p .form)) j (lines (drop (at + length (lineBytes (drop at t)) + 1) t))) (sym (add-one i));
+    rest = p .onward ∙ ap (λ (j : ℕ). readFrom scope (advance (q .state) (p .form)) j (lines (drop (at + length (lineBytes (drop at t)) + 1) t))) (sym (add-one i));
     within = omega (arith, p .inside);
     few = omega (arith, q .few);
     few-codes = omega (arith, p .few-codes);
   })
 
 -- the answer with a refusal, and with the program
-pub answer-refused : {k : Codes} {places : List ℕ} {o : Outcome Program} (n i : ℕ) (p : C.Program) → (n ≡ 0 → ⊥) → o ≡ refused n i
-    → Answers k places o (record { refusal = n; line = i; program = p })
+pub answer-refused : {codes : List ℕ} {o : Outcome Program} (n i : ℕ) (p : C.Program) → (n ≡ 0 → ⊥) → o ≡ refused n i
+    → Answers codes o (record { refusal = n; line = i; program = p })
 unfolding checkOutcome
-answer-refused {k} n i p h e = record { outcome-is = refuse-none n i (O.done (programOf k p)) h ∙ sym e; complete = λ z. absurd (h z) }
+answer-refused {codes} n i p h e = record { outcome-is = refuse-none n i (O.done (programOf codes p)) h ∙ sym e; complete = λ z. absurd (h z) }
 
-module _ {s : Sizes} {t : List ℕ} {plan : Added} {wanted : List Bool} {a : Codes} {places : List ℕ} {slots : List Located}
-    {frames : List Frame} {x : S.State} {n at i : ℕ} (q : Read s t plan wanted a places slots frames x n at i) where
+module _ {scope : Scope} {t : List ℕ} {a : Lines} {codes : List ℕ} {slots : List Located} {frames : List Frame} {x : S.State} {n at i : ℕ}
+    (q : Read scope t a codes slots frames x n at i) where
   pub small : (x .steps ≤ 32) × (x .tally .rules ≤ 32)
   small = (omega (arith, q .reached .few, q .stands .steps-are), omega (arith, q .reached .rules .few, q .stands .tally-is .rules-are))
 
   program : C.Program
   program = record { slots = slots; frames = frames; steps = x .steps; lines = x .lines }
 
-  program-is : programOf a program ≡ q .state .steps
+  program-is : programOf codes program ≡ q .state .steps
   unfolding programOf program
   program-is = q .behind .kept .steps-are
 
-  pub room : length t ≤ 8192 → CodeRoom (length t) a
-  room h = let l = q .lent in record {
-    in-kinds = omega (arith, l .kinds-length);
-    in-numbers = omega (arith, l .numbers-length);
-    in-chains = omega (arith, l .chains-length);
-    few = omega (arith, l .kinds-length);
-  }
-
-  codes-inside : length t ≤ 8192 → K.Arrays (a .kinds) (a .numbers) places n
-  codes-inside h = let l = q .lent in record {
-    in-kinds = omega (arith, l .kinds-length, q .few-codes, q .within);
-    in-numbers = omega (arith, l .numbers-length, q .few-codes, q .within);
-    in-places = omega (arith, l .places-length, q .few-codes, q .within);
-  }
+  pub room : length t ≤ 8192 → CodeRoom (length t) codes
+  room h = record { room = omega (arith, q .lent); few = omega (arith, q .lent) }
 
   pub answer-read : length t ≤ 8192 → length t ≤ at
-      → Answers a places (readFrom s start 1 (lines t))
+      → Answers codes (readFrom scope start 1 (lines t))
       (record { refusal = lastRefusal x; line = i; program = record { slots = slots; frames = frames; steps = x .steps; lines = x .lines } })
   unfolding checkOutcome program lines readFrom closedText unless
   answer-read o h =
-      let ended : readFrom s start 1 (lines t) ≡ closedText (q .state) i =
-      q .rest ∙ ap (λ (u : List ℕ). readFrom s (q .state) i (lines u)) (drop-of-length-le t h) in
+      let ended : readFrom scope start 1 (lines t) ≡ closedText (q .state) i =
+      q .rest ∙ ap (λ (u : List ℕ). readFrom scope (q .state) i (lines u)) (drop-of-length-le t h) in
       let kept = q .behind .kept in
       record {
         outcome-is = rw (ended, last-is (q .stands), program-is) (go (not (isOpen (q .state)) && isOutside (q .state .around)));
         complete = λ z. record {
           slots-length = kept .slots-length;
           framed = rw program-is (kept .framed);
-          located = all-located a places n (codes-inside o) slots (take (x .steps) frames) (kept .terms) (kept .placed);
+          located = all-located codes n (omega (arith, q .lent, q .few-codes, q .within)) slots (take (x .steps) frames) (kept .terms) (kept .placed);
           steps-are = rw program-is (q .stands .steps-are);
           lines-are = rw program-is (q .stands .lines-are);
         };

@@ -1,2 +1,2 @@
--- What the text reader's arrays hold, and its answer.
+-- What the text reader's array holds, and its answer.
 pub mod Answers

@@ -1,88 +1,179 @@
--- A plan and the readings behind those that it has; the words of codes.
-use Prim.Native.Nat.{ℕ, suc, _+_, _-_, _≤_, _<_}
+-- The plan of a step and the readings behind those that it has: where they are found, and that what is found stays there.
+use Prim.Native.Nat.{ℕ, _-_, _≤_, _<_}
 use mathlib.Core.Path.{_≡_, refl, sym, ap, _∙_}
-use mathlib.Core.Logic.{_≢_}
-use mathlib.Core.Bool.{Bool, true, false, cond}
+use mathlib.Core.Bool.{Bool, true, false}
 use mathlib.Core.List.{List, [], _∷_, _++_, append-nil, append-assoc}
+use mathlib.Core.Logic.{_≢_, ⊎-elim}
+use native.Mathlib.Decide.{ℕ-discrete}
 use native.Mathlib.Omega.{arith}
-use borrow.Author.Tests.{lt-ltb, le-ltb, eq-eqb, ne-eqb}
-use lib.Dec.{eqb}
-use lib.IntN.{pos}
-use lib.ListN.{length, getD}
+use borrow.Author.Tests.{ltb-true, lt-ltb, le-ltb}
+use lib.ListN.{length, getD, set, length-set, length-append, List·getD-eq-default}
+use lib.Seq.{getD-set-same, getD-set-other}
 use Rattle.laws.proofs.Bools.{true-false}
-use Rattle.laws.proofs.Lists.{each-of}
+use Rattle.laws.proofs.Cases.{lt-or-le}
 use Rattle.chain.specs.Word.{unpack}
-use Rattle.plan_theory.specs.Plan.{read, add, plan}
-use Rattle.plan_theory.proofs.Lines.{plan-length}
-use Rattle.plan_lines.specs.Held.{facts, ExtendedTo}
+use Rattle.chain.proofs.Packing.{unpack-none, unpack-last}
+use Rattle.plan_theory.specs.Plan.{Fact, read, backNeed, readNeed, lineIndex, add, plan}
+use Rattle.plan_theory.proofs.Places.{place-append-listed, place-append-last}
+use Rattle.plan_theory.proofs.Lines.{add-none, add-listed, add-both, grows-append, grows-length, add-grows, add-had, add-next, plan-more, plan-length}
+use Rattle.plan_lines.specs.Held.{facts, HoldsLines, ExtendedTo}
 use Rattle.plan_lines.specs.declared.Plan.{Plan}
 use Rattle.plan_lines.proofs.Adding.{holds-facts, extended-holds, extended-more, extended-plan}
-use Rattle.program.specs.Code.{Code, chain, number, operator, codeReadings, operatorOf, codeOf, codeAt, codesFrom}
-use Rattle.program.proofs.Codes.{readings-append, codes-first, codes-none, codes-more, chain-listed}
-use Rattle.text_readings.specs.Readings.{codeWords, Short, Growing, GrownBy}
+use Rattle.plan_lines.proofs.Appending.{holds-count}
+use Rattle.program.specs.declared.location.Location.{Location}
+use Rattle.program.specs.declared.location.Location.the-variants.{Own, Cell, Line}
+use Rattle.program.specs.Location.{locationOf, Wants}
+use Rattle.program.proofs.Locations.{location-line}
+use Rattle.text_readings.specs.Readings.{Lines, Growing, isListed, WordPlaced, Grown, ReadingAdded}
 
-pub grown-both : {p q r : Plan} (vs us : List (List ℕ)) → GrownBy p vs q → GrownBy q us r → GrownBy p (vs ++ us) r
-grown-both vs us h k = record { growing = k .growing; extends = λ ws e. rw (append-assoc ws vs us) at (k .extends (ws ++ vs) (h .extends ws e)) }
+-- no reading more, and one behind another
+pub grown-none : {a : Lines} → Growing a → Grown [] a a
+grown-none h = record { growing = h; more = omega arith; extends = λ ws e. rw (append-nil ws) e; stays = λ n at w p. p }
 
--- no reading more
-pub grown-none : (p : Plan) → Growing p → GrownBy p [] p
-grown-none p h = record { growing = h; extends = λ ws e. rw (append-nil ws) e }
-
--- one reading more, of a plan that is full, and of any other
-pub grown-full : (p : Plan) (vs : List (List ℕ)) → 64 < p .count → GrownBy p vs p
-grown-full p vs h = record { growing = λ k. absurd (omega arith); extends = λ ws e. extended-more (plan (ws ++ vs)) e (lt-ltb 64 _ h) (plan-length ws vs) }
-
-pub grown-added : {p r : Plan} (w : List ℕ) → p .count ≤ 64 → ExtendedTo (add (facts p) (read w)) r → GrownBy p (w ∷ []) r
-grown-added w h a = record {
-  growing = λ k. holds-facts (extended-holds a (le-ltb 64 _ k));
-  extends = λ ws e. extended-plan ws w (extended-holds e (le-ltb 64 _ h)) a;
+pub grown-both : {a b c : Lines} (vs us : List (List ℕ)) → Grown vs a b → Grown us b c → Grown (vs ++ us) a c
+grown-both vs us h k = record {
+  growing = k .growing;
+  more = omega (arith, h .more, k .more);
+  extends = λ ws e. rw (append-assoc ws vs us) at (k .extends (ws ++ vs) (h .extends ws e));
+  stays = λ n at w p. k .stays n at w (h .stays (omega (arith, n, k .more)) at w p);
 }
 
--- the words of one code
-module _ (kinds chains : List ℕ) (at : ℕ) where
-  one-code : codeWords kinds chains at (suc at) ≡ codeReadings (codeAt kinds [] chains at ∷ [])
-  one-code = ap codeReadings (codes-first kinds [] chains at (suc at) (omega arith)
-      ∙ ap (λ (l : List Code). codeAt kinds [] chains at ∷ l) (codes-none kinds [] chains (suc at) (suc at) (omega arith)))
+-- a full plan stays as it is, and so does any where a reading has no line
+pub grown-full : {a : Lines} (vs : List (List ℕ)) → Growing a → 64 < a .plan .count → Grown vs a a
+grown-full vs g h = record {
+  growing = g;
+  more = omega arith;
+  extends = λ ws e. extended-more (plan (ws ++ vs)) e (lt-ltb 64 _ h) (plan-length ws vs);
+  stays = λ n at w p. p;
+}
 
-  pub words-chain : getD kinds at 0 ≡ 0 → codeWords kinds chains at (suc at) ≡ unpack (getD chains at 0) ∷ []
-  unfolding codeAt codeOf codeReadings
-  words-chain k = one-code ∙ simp (eq-eqb (getD kinds at 0) 0 k)
+grown-short : {a : Lines} (w : List ℕ) → Growing a → length w < 2 → Grown (w ∷ []) a a
+grown-short w g h = record {
+  growing = g;
+  more = omega arith;
+  extends = λ ws e. rw (plan-more ws w, add-none (plan ws) (read w) h) e;
+  stays = λ n at w p. p;
+}
 
-  pub words-other : getD kinds at 0 ≢ 0 → codeWords kinds chains at (suc at) ≡ []
-  unfolding codeAt codeOf codeReadings
-  words-other k = one-code ∙ go (eqb (getD kinds at 0) 0) (eqb (getD kinds at 0) 1) (ne-eqb (getD kinds at 0) 0 k)
-    where
-      go : (a b : Bool) → a ≡ false
-          → codeReadings (cond a (chain (unpack (getD chains at 0))) (cond b (number (getD [] at (pos 0))) (operator (operatorOf (getD kinds at 0)))) ∷ []) ≡ []
-      go true b e = true-false refl e
-      go false true e = refl
-      go false false e = refl
+-- a reading of no hop, and of one
+module _ {a : Lines} (g : Growing a) (n : ℕ) where
+  pub added-own : n ≡ 0 → ReadingAdded (unpack n) a a Own
+  unfolding isListed locationOf
+  added-own h = rw (h, unpack-none) (record {
+    grown = grown-short [] g (omega arith);
+    found = λ f. record { located = record { at-is = refl; wants = tt }; listed = refl };
+    numbered = tt;
+  })
 
--- the words of one code more
-words-more : (kinds chains : List ℕ) (from at : ℕ) → from ≤ at
-    → codeWords kinds chains from (suc at) ≡ codeWords kinds chains from at ++ codeWords kinds chains at (suc at)
-words-more kinds chains from at h =
-    let n : suc at - from ≡ suc (at - from) = omega arith in
-    let m : from + (at - from) ≡ at = omega arith in
-    ap (λ (k : ℕ). codeReadings (codesFrom kinds [] chains from k)) n
-    ∙ ap codeReadings (codes-more kinds [] chains from (at - from))
-    ∙ readings-append (codesFrom kinds [] chains from (at - from)) (codeAt kinds [] chains (from + (at - from)) ∷ [])
-    ∙ ap (λ (k : ℕ). codeWords kinds chains from at ++ codeReadings (codeAt kinds [] chains k ∷ [])) m
-    ∙ ap (λ (l : List (List ℕ)). codeWords kinds chains from at ++ l) (sym (one-code kinds chains at))
+  pub added-cell : n ≢ 0 → n ≤ 16 → ReadingAdded (unpack n) a a (Cell (n - 1))
+  unfolding isListed locationOf
+  added-cell p h = rw (unpack-last n (omega arith) h) (record {
+    grown = grown-short ((n - 1) ∷ []) g (omega arith);
+    found = λ f. record { located = record { at-is = refl; wants = tt }; listed = refl };
+    numbered = omega arith;
+  })
 
-pub words-plus : (kinds chains : List ℕ) (from at : ℕ) → from ≤ at
-    → codeWords kinds chains from (at + 1) ≡ codeWords kinds chains from at ++ codeWords kinds chains at (suc at)
-words-plus kinds chains from at h = let e : at + 1 ≡ suc at = omega arith in ap (codeWords kinds chains from) e ∙ words-more kinds chains from at h
+  -- of any other, where the plan is full
+  pub added-full : 64 < a .plan .count → ReadingAdded (unpack n) a a Own
+  added-full h = record { grown = grown-full (unpack n ∷ []) g h; found = λ f. absurd (omega arith); numbered = tt }
 
--- of no code, and of as many
-pub words-none : (kinds chains : List ℕ) (from : ℕ) → codeWords kinds chains from from ≡ []
-unfolding codeReadings
-words-none kinds chains from = ap codeReadings (codes-none kinds [] chains from from (omega arith))
+-- lines that are listed are so where there are more, at the same locations
+listed-more : {n m : ℕ} → n ≤ m → (x : Location) → isListed n x ≡ true → isListed m x ≡ true
+unfolding isListed
+listed-more k Own h = refl
+listed-more k (Cell f) h = refl
+listed-more {n} {m} k (Line i) h = lt-ltb i m (omega (arith, ltb-true i n h))
 
-pub words-end : (kinds chains : List ℕ) (from at to : ℕ) → at - from ≡ to - from → codeWords kinds chains from at ≡ codeWords kinds chains from to
-words-end kinds chains from at to e = ap (λ (n : ℕ). codeReadings (codesFrom kinds [] chains from n)) e
+listed-stays : (l m : List Fact) (w : List ℕ) → isListed (length l) (locationOf l w) ≡ true → locationOf (l ++ m) w ≡ locationOf l w
+unfolding isListed locationOf
+listed-stays l m [] h = refl
+listed-stays l m (f ∷ []) h = refl
+listed-stays l m (f ∷ g ∷ w) h = ap Line (place-append-listed l m (read (f ∷ g ∷ w)) (ltb-true _ (length l) h))
 
--- a chain among the codes of short words is short
-pub short-chain : (kinds chains : List ℕ) (from to at : ℕ) → from ≤ at → at < to → Short (codeWords kinds chains from to) → getD kinds at 0 ≡ 0
-    → length (unpack (getD chains at 0)) ≤ 16
-short-chain kinds chains from to at f t h e = each-of _ h (chain-listed kinds [] chains from to at f t e)
+-- a line that is wanted is so where one more is
+wants-more : (wanted : List Bool) (i : ℕ) (x : Location) → Wants wanted x → Wants (set wanted i true) x
+wants-more wanted i Own h = tt
+wants-more wanted i (Cell f) h = tt
+wants-more wanted i (Line k) h = go (ℕ-discrete k i)
+  where
+    inside : k < length wanted
+    inside =
+        ⊎-elim (λ (b : k < length wanted). b) (λ (b : length wanted ≤ k). true-false h (List·getD-eq-default wanted false {n = k} b)) (lt-or-le k (length wanted))
+
+    go : Dec (k ≡ i) → getD (set wanted i true) k false ≡ true
+    go (yes e) = rw (← e) (getD-set-same wanted k true false inside)
+    go (no n) = getD-set-other wanted i k true false n ∙ h
+
+-- a reading of several hops whose lines are added
+module _ {p r : Plan} {wanted : List Bool} (w : List ℕ) (two : 2 ≤ length w) (g : Growing (record { plan = p; wanted = wanted })) (n : p .count ≤ 64)
+    (e : ExtendedTo (add (facts p) (read w)) r) where
+  -- there is no room
+  pub added-over : 64 < r .count → ReadingAdded w (record { plan = p; wanted = wanted }) (record { plan = r; wanted = wanted }) Own
+  added-over h = record {
+    grown = record {
+      growing = record { holds = λ k. absurd (omega arith); marks = g .marks };
+      more = omega arith;
+      extends = λ ws x. extended-plan ws w (extended-holds x (le-ltb 64 _ n)) e;
+      stays = λ k. absurd (omega arith);
+    };
+    found = λ k. absurd (omega arith);
+    numbered = tt;
+  }
+
+  module _ (k : r .count ≤ 64) where
+    pub held : HoldsLines r (add (facts p) (read w))
+    held = extended-holds e (le-ltb 64 _ k)
+
+    -- the line of the reading
+    abbrev line : ℕ
+    line = lineIndex (facts r) (read w)
+
+    pub line-below : line < r .count
+    line-below = rw (held .facts-are) (omega (arith, add-had (facts p) (read w) two, holds-count held))
+
+    -- it is the last, if any was added
+    pub line-last : p .count < r .count → line ≡ r .count - 1
+    line-last more = rw (held .facts-are)
+        (⊎-elim (λ (b : lineIndex (facts p) (read w) < length (facts p)).
+        absurd (omega (arith, holds-count held, holds-count (g .holds n), ap length (add-listed (facts p) (read w) b)))) last (lt-or-le (lineIndex (facts p) (read w)) (length (facts p))))
+      where
+        last : length (facts p) ≤ lineIndex (facts p) (read w) → lineIndex (add (facts p) (read w)) (read w) ≡ r .count - 1
+        last b =
+            let f = read w in
+            let l = add (add (facts p) (backNeed f)) (readNeed f) in
+            let both : add (facts p) f ≡ l ++ (f ∷ []) = add-both (facts p) f two b in
+            let end : lineIndex (l ++ (f ∷ [])) f ≡ length l = place-append-last l f (add-next (facts p) f two b .new) in
+            let size = ap length both ∙ length-append l (f ∷ []) in
+            rw both (end ∙ omega (arith, holds-count held, size))
+
+    more-lines : p .count ≤ r .count
+    more-lines = omega (arith, holds-count held, holds-count (g .holds n), grows-length (add-grows (facts p) (read w)))
+
+    stays : (at : Location) (v : List ℕ) → WordPlaced (record { plan = p; wanted = wanted }) at v
+        → WordPlaced (record { plan = r; wanted = set wanted line true }) at v
+    stays at v x =
+        let (m, q) = grows-append (add-grows (facts p) (read w)) in
+        let listed : isListed (length (facts p)) (locationOf (facts p) v) ≡ true = rw (holds-count (g .holds n), ← x .located .at-is) (x .listed) in
+        record {
+          located = record {
+            at-is = x .located .at-is ∙ sym (listed-stays (facts p) m v listed) ∙ ap (λ (l : List Fact). locationOf l v) (sym (held .facts-are ∙ q));
+            wants = wants-more wanted line at (x .located .wants);
+          };
+          listed = listed-more more-lines at (x .listed);
+        }
+
+    pub added-line : ReadingAdded w (record { plan = p; wanted = wanted }) (record { plan = r; wanted = set wanted line true }) (Line line)
+    unfolding isListed
+    added-line = record {
+      grown = record {
+        growing = record { holds = λ z. holds-facts held; marks = length-set wanted line true ∙ g .marks };
+        more = more-lines;
+        extends = λ ws x. extended-plan ws w (extended-holds x (le-ltb 64 _ n)) e;
+        stays = λ z. stays;
+      };
+      found = λ z. record {
+        located = record { at-is = sym (location-line (facts r) w two); wants = getD-set-same wanted line true false (omega (arith, line-below, g .marks)) };
+        listed = lt-ltb line (r .count) line-below;
+      };
+      numbered = omega (arith, line-below);
+    }

@@ -1,2 +1,2 @@
--- The readings of codes, and a plan that grows by readings.
+-- The plan of a step grows by readings, and each of them is located in it.
 pub mod Readings

@@ -10,7 +10,6 @@ use borrow.Author.Tests.{le-ltb, lt-ltb, le-leb, lt-leb}
 use lib.Dec.{leb, ltb}
 use lib.ListN.{length}
 use Rattle.laws.specs.Outcome.{orElse}
-use Rattle.register.specs.declared.Sizes.{Sizes}
 use Rattle.chain_text.specs.Text.{letterField}
 use Rattle.text_syntax.specs.Written as W
 use Rattle.text_syntax.specs.Written.{Line, rule}
@@ -19,10 +18,10 @@ use Rattle.text_syntax.specs.Tree.{targetOf, ruleOf}
 use Rattle.program.specs.declared.rule.Rule as C
 use Rattle.program.specs.declared.rule.Rule.the-variants.{Set, Combine, Remote}
 use Rattle.program.specs.declared.rule.Slot.{Slot}
-use Rattle.program.specs.Code.{Codes}
 use Rattle.program.specs.Stored.{targetIn, ruleIn}
 use Rattle.text_rules.specs.declared.line.Checks.{Checks}
 use Rattle.text_rules.specs.declared.line.LineRead.{LineRead}
+use Rattle.text_rules.specs.declared.scope.Scope.{Scope}
 use Rattle.text_rules.specs.LineRead.{lineChecks, allPass, RuleRead, Reads, no-form, step-line, end-line, done-line, loop-line, rule-line}
 use Rattle.program.specs.declared.rule.Sort.the-variants.{Least, Total}
 use Rattle.program.specs.Program.{Rule, stepPlan}
@@ -44,16 +43,16 @@ unfolding orElse
 or-none n m h = rw h
 
 -- the lowest number that applies to a line, 7 where it has no form
-unfoldable pub number : Sizes → State → Option Line → ℕ
-number s st none = 7
-number s st (some l) = lineRefusal s st l
+unfoldable pub number : Scope → State → Option Line → ℕ
+number scope st none = 7
+number scope st (some l) = lineRefusal scope st l
 
 not-not : (b : Bool) → not (not b) ≡ b
 not-not true = refl
 not-not false = refl
 
 -- where a rule that is read writes
-read-target : {k : Codes} {c : W.Condition} {a : W.Action} {y : Slot} → RuleRead k c a y → targetIn (y .rule) ≡ targetOf a
+read-target : {k : List ℕ} {c : W.Condition} {a : W.Action} {y : Slot} → RuleRead k c a y → targetIn (y .rule) ≡ targetOf a
 unfolding ruleIn ruleOf
 read-target w = ap (λ (r : Rule). r .target) (w .rule-is)
 
@@ -103,19 +102,19 @@ checks-first c n m = go (c .named) (c .kinded) (c .short) (c .ranged) (c .shallo
     go true true true true true false h = or-first 25 n (λ z. omega arith)
     go true true true true true true h = or-none 0 n refl ∙ h refl
 
-module _ (s : Sizes) {x : S.State} {st : State} (h : Stands x st) (full : Bool) (f : full ≡ ltb 64 (length (stepPlan (openRules st)))) where
+module _ (scope : Scope) {x : S.State} {st : State} (h : Stands x st) (full : Bool) (f : full ≡ ltb 64 (length (stepPlan (openRules st)))) where
   -- 13 and 14, of a rule that passes what is asked before
-  rule-behind : {k : Codes} (c : W.Condition) (a : W.Action) (y : Slot) → RuleRead k c a y
+  rule-behind : {k : List ℕ} (c : W.Condition) (a : W.Action) (y : Slot) → RuleRead k c a y
       → _≡_ {A = ℕ} (cond (not (ltb (x .tally .rules) 32)) 13 (cond (otherSort (x .tally) (y .rule)) 14 0))
       (cond (not (ltb (length (openRules st)) 32)) 13 (cond (not (oneSort (openRules st) a)) 14 0))
   rule-behind c a y w = rw (target-sort (x .tally) (openRules st) (y .rule) (h .tally-is) a (read-target w), h .tally-is .rules-are)
 
-  rule-number : {k : Codes} (c : W.Condition) (a : W.Action) (y : Slot) → (allPass (lineChecks s (rule c a)) ≡ true → RuleRead k c a y)
-      → ruleRefusal x (y .rule) (lineChecks s (rule c a)) ≡ lineRefusal s st (rule c a)
+  rule-number : {k : List ℕ} (c : W.Condition) (a : W.Action) (y : Slot) → (allPass (lineChecks (scope .sizes) (rule c a)) ≡ true → RuleRead k c a y)
+      → ruleRefusal x (y .rule) (lineChecks (scope .sizes) (rule c a)) ≡ lineRefusal scope st (rule c a)
   unfolding ruleRefusal lineChecks lineRefusal inPlace hasRoom sortsAgree planFits
-  rule-number c a y w = rw (h .in-step, checks-first (lineChecks s (rule c a)) _ _ (λ p. rule-behind c a y (w p)))
+  rule-number c a y w = rw (h .in-step, checks-first (lineChecks (scope .sizes) (rule c a)) _ _ (λ p. rule-behind c a y (w p)))
 
-  pub refusal-is : {k : Codes} {o : Option Line} {y : LineRead} → Reads s k o y → refusalOf x full y ≡ number s st o
+  pub refusal-is : {k : List ℕ} {o : Option Line} {y : LineRead} → Reads (scope .sizes) k o y → refusalOf x full y ≡ number scope st o
   unfolding refusalOf number lineRefusal stepRefusal endRefusal misplaced doneRefusal loopRefusal inPlace hasRoom sortsAgree planFits named fieldNamed kinded kindsAgree short numbersInRange shallow fewOperators termsPass expressions everyExpression
   refusal-is no-form = refl
   refusal-is step-line = rw (h .in-step, h .steps-are, not-not)

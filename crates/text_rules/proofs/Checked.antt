@@ -27,14 +27,15 @@ use Rattle.text_syntax.specs.Tree.{termTree, treeOf, testOf, targetOf, sourceOf
 use Rattle.program.specs.declared.rule.Sort.{Sort}
 use Rattle.program.specs.declared.rule.Sort.the-variants.{Least, Total}
 use Rattle.program.specs.Program as P
+use Rattle.text_rules.specs.declared.scope.Scope.{Scope}
 use Rattle.text_rules.specs.Check.{State, inPlace, hasRoom, sortsAgree, planFits, lineRefusal}
-use Rattle.program.specs.Passed.{isReferenceWord, takesReferences, isReferenceExpression, ExpressionPasses, TestPasses, RemotePasses, TargetPasses, RulePasses}
+use Rattle.program.specs.Passed.{isReferenceWord, takesReferences, isReferenceExpression, ExpressionPasses, TestPasses, TestFew, RemotePasses, TargetPasses, RulePasses}
 use Rattle.laws.proofs.Lists.{each-front, each-back}
 
 -- the tests that a line with no refusal has passed
-pub record Clean (s : Sizes) (st : State) (l : Line) : Type 0 where
+pub record Clean (scope : Scope) (st : State) (l : Line) : Type 0 where
   pub placed : inPlace st l ≡ true
-  pub is-named : named s l ≡ true
+  pub is-named : named (scope .sizes) l ≡ true
   pub is-kinded : kinded l ≡ true
   pub is-short : short l ≡ true
   pub in-range : numbersInRange l ≡ true
@@ -48,11 +49,11 @@ cond-none : (b : Bool) (k n : ℕ) → 0 < k → cond (not b) k n ≡ 0 → (b �
 cond-none true k n h e = (refl, e)
 cond-none false k n h e = absurd (omega arith)
 
-pub refusal-none : (s : Sizes) (st : State) (l : Line) → lineRefusal s st l ≡ 0 → Clean s st l
+pub refusal-none : (scope : Scope) (st : State) (l : Line) → lineRefusal scope st l ≡ 0 → Clean scope st l
 unfolding lineRefusal
-refusal-none s st l e =
+refusal-none scope st l e =
     let a = cond-none (inPlace st l) 8 _ (omega arith) e in
-    let b = cond-none (named s l) 9 _ (omega arith) (a .1) in
+    let b = cond-none (named (scope .sizes) l) 9 _ (omega arith) (a .1) in
     let c = cond-none (kinded l) 10 _ (omega arith) (b .1) in
     let d = cond-none (short l) 11 _ (omega arith) (c .1) in
     let f = cond-none (numbersInRange l) 12 _ (omega arith) (d .1) in
@@ -126,10 +127,11 @@ expressions-fine s (x ∷ xs) a b c d e f g = (
   expressions-fine s xs (a .1) (b .1) (c .1) (d .1) (e .1) (f .1) (g .1),
 )
 
-pub rule-fine : (s : Sizes) (st : State) (c : W.Condition) (a : W.Action) → Clean s st (rule c a)
-    → Each (Fine s) (conditionExpressions c ++ actionExpressions a)
+pub rule-fine : (scope : Scope) (st : State) (c : W.Condition) (a : W.Action) → Clean scope st (rule c a)
+    → Each (Fine (scope .sizes)) (conditionExpressions c ++ actionExpressions a)
 unfolding named kinded kindsAgree short numbersInRange shallow fewOperators termsPass expressions
-rule-fine s st c a k =
+rule-fine scope st c a k =
+    let s = scope .sizes in
     let es = conditionExpressions c ++ actionExpressions a in
     let n = and-both (fieldNamed s (rule c a)) (everyExpression (everyTerm (termNamed s)) es) (k .is-named) in
     let d = and-both (everyExpression (everyTerm termKinded) es) (everyExpression oneKind es && (conditionKinds c && actionKinds a)) (k .is-kinded) in
@@ -233,10 +235,27 @@ kinds-of o x y false w =
 abbrev tree : Expression → P.Expression
 tree e = treeOf e
 
+-- it has the operators that are written
+tree-operators : (e : Expression) → P.operators (treeOf e) ≡ operators e
+unfolding treeOf termTree P.operators operators
+tree-operators (term (chain ls)) = refl
+tree-operators (term (number negative x)) = refl
+tree-operators (group e) = tree-operators e
+tree-operators (operation o x y) = omega (arith, tree-operators x, tree-operators y)
+
+tree-few : {s : Sizes} (e : Expression) → Fine s e → P.operators (treeOf e) ≤ 64
+tree-few e w = omega (arith, tree-operators e, w .few-operators)
+
+test-few : (s : Sizes) (c : W.Condition) → Each (Fine s) (conditionExpressions c) → TestFew (testOf c)
+unfolding conditionExpressions testOf
+test-few s W.always w = tt
+test-few s (W.when x c y) w = (tree-few x (w .0), tree-few y (w .1 .0))
+
 -- what an action adds to its test: the fields of a rule that passes
 record ActionPasses (s : Sizes) (a : W.Action) : Type 0 where
   target : TargetPasses s (targetOf a)
   expression : ExpressionPasses s (sourceOf a)
+  few : P.operators (sourceOf a) ≤ 64
   alike : isReference (P.targetField (targetOf a)) ≡ isReferenceExpression (sourceOf a)
 
 -- an expression that passes has the kind of what it holds
@@ -291,13 +310,14 @@ module _ (s : Sizes) (lim : Limits s) where
   unfolding target actionExpressions actionKinds targetOf sourceOf P.targetField
   action-passes (W.set f e) n w h =
       let t = fine-treed e (w .0) in
-      record { target = tt; expression = t .passes; alike = letter-kind s lim f n ∙ same-is _ _ h ∙ sym (t .kind-is) }
+      record { target = tt; expression = t .passes; few = tree-few e (w .0); alike = letter-kind s lim f n ∙ same-is _ _ h ∙ sym (t .kind-is) }
   action-passes (W.remote Least f c e) n w h =
       let both = and-both (isReferenceTerm (chain c)) (sameKind (isReferenceLetter f) (K.isReference e)) h in
       let t = fine-treed e (w .1 .0) in
       record {
         target = remote-passes Least f c (w .0) (both .0) (λ e. absurd (let z : _≡_ {A = ℕ} 0 1 = cc in omega arith));
         expression = t .passes;
+        few = tree-few e (w .1 .0);
         alike = letter-kind s lim f n ∙ same-is _ _ (both .1) ∙ sym (t .kind-is);
       }
   action-passes (W.remote Total f c e) n w h =
@@ -308,29 +328,34 @@ module _ (s : Sizes) (lim : Limits s) where
       record {
         target = remote-passes Total f c (w .0) (both .0) (λ e. field);
         expression = t .passes;
+        few = tree-few e (w .1 .0);
         alike = field ∙ sym (t .kind-is ∙ not-true _ (measures .1));
       }
 
-  target-field : (a : W.Action) → P.targetField (targetOf a) ≡ letterField (target a)
-  unfolding target targetOf P.targetField
-  target-field (W.set f e) = refl
-  target-field (W.remote k f c e) = refl
+target-field : (a : W.Action) → P.targetField (targetOf a) ≡ letterField (target a)
+unfolding target targetOf P.targetField
+target-field (W.set f e) = refl
+target-field (W.remote k f c e) = refl
 
-  -- a rule that passes, as the program has it
-  pub rule-passes : (st : State) (c : W.Condition) (a : W.Action) → Clean s st (rule c a) → RulePasses s (ruleOf c a)
-  unfolding named fieldNamed kinded kindsAgree termsPass expressions ruleOf
-  rule-passes st c a k =
-      let es = conditionExpressions c ++ actionExpressions a in
-      let n = and-both (names s (target a)) (everyExpression (everyTerm (termNamed s)) es) (k .is-named) in
-      let d = and-both (everyExpression (everyTerm termKinded) es) (everyExpression oneKind es && (conditionKinds c && actionKinds a)) (k .is-kinded) in
-      let o = and-both (everyExpression oneKind es) (conditionKinds c && actionKinds a) (d .1) in
-      let both = and-both (conditionKinds c) (actionKinds a) (o .1) in
-      let w = rule-fine s st c a k in
-      let p = action-passes a (n .0) (each-back (Fine s) (conditionExpressions c) (actionExpressions a) w) (both .1) in
-      record {
-        test = test-passes c (each-front (Fine s) (conditionExpressions c) (actionExpressions a) w) (both .0);
-        field = rw (target-field a) (letter-field s lim (target a) (n .0));
-        target = p .target;
-        expression = p .expression;
-        alike = p .alike;
-      }
+-- a rule that passes, as the program has it
+pub rule-passes : (scope : Scope) → Limits (scope .sizes) → (st : State) (c : W.Condition) (a : W.Action) → Clean scope st (rule c a)
+    → RulePasses (scope .sizes) (ruleOf c a)
+unfolding named fieldNamed kinded kindsAgree termsPass expressions ruleOf
+rule-passes scope lim st c a k =
+    let s = scope .sizes in
+    let es = conditionExpressions c ++ actionExpressions a in
+    let n = and-both (names s (target a)) (everyExpression (everyTerm (termNamed s)) es) (k .is-named) in
+    let d = and-both (everyExpression (everyTerm termKinded) es) (everyExpression oneKind es && (conditionKinds c && actionKinds a)) (k .is-kinded) in
+    let o = and-both (everyExpression oneKind es) (conditionKinds c && actionKinds a) (d .1) in
+    let both = and-both (conditionKinds c) (actionKinds a) (o .1) in
+    let w = rule-fine scope st c a k in
+    let p = action-passes s lim a (n .0) (each-back (Fine s) (conditionExpressions c) (actionExpressions a) w) (both .1) in
+    let front = each-front (Fine s) (conditionExpressions c) (actionExpressions a) w in
+    record {
+      test = test-passes s lim c front (both .0);
+      field = rw (target-field a) (letter-field s lim (target a) (n .0));
+      target = p .target;
+      expression = p .expression;
+      few = (test-few s c front, p .few);
+      alike = p .alike;
+    }

@@ -20,6 +20,7 @@ use Rattle.register.proofs.Bounds.{limits}
 use Rattle.text_syntax.specs.Written.{Line, step, end, done, loop, rule}
 use Rattle.text_syntax.specs.Parts.{expressions, everyExpression, termsPass, fieldNamed, named, sameKind}
 use Rattle.program.specs.Program.{Step, Program, someTarget}
+use Rattle.text_rules.specs.declared.scope.Scope.{Scope}
 use Rattle.text_rules.specs.Check.{isOutside, isUsed, State, isOpen, openRules, inPlace, hasRoom, sortsAgree, planFits, lineRefusal}
 use Rattle.text_rules.specs.Text.{Piece, lines, pieceForm, closeLoop, advance, lineOutcome, closedText, readFrom, start, textProgram, check}
 use Rattle.laws.specs.Lists.{Each}
@@ -58,8 +59,11 @@ close-length [] = refl
 close-length (x ∷ []) = refl
 close-length (x ∷ y ∷ xs) = ap suc (close-length (y ∷ xs))
 
-module _ (s : Sizes) (lim : Limits s) where
-  pub advance-reached : (st : State) (l : Line) → Reached s st → Clean s st l → Reached s (advance st l)
+module _ (scope : Scope) (lim : Limits (scope .sizes)) where
+  abbrev s : Sizes
+  s = scope .sizes
+
+  pub advance-reached : (st : State) (l : Line) → Reached s st → Clean scope st l → Reached s (advance st l)
   unfolding advance isOpen openRules inPlace hasRoom sortsAgree planFits openLoop named fieldNamed termsPass expressions everyExpression
   advance-reached st step w k = record { each = w .each; few = w .few; room = λ o. ltb-true _ 32 (k .room); rules = rules-none s; loops = w .loops; field = w .field }
   advance-reached st end w k = record {
@@ -91,7 +95,7 @@ module _ (s : Sizes) (lim : Limits s) where
     few = w .few;
     room = λ o. w .room (k .placed);
     rules = record {
-      each = each-append (RulePasses s) (openRules st) _ (w .rules .each) (rule-passes s lim st c a k, tt);
+      each = each-append (RulePasses s) (openRules st) _ (w .rules .each) (rule-passes scope lim st c a k, tt);
       few = simp length-append (omega (arith, ltb-true (length (openRules st)) 32 (k .room)));
       one-sort = one-sort (openRules st) c (w .rules .one-sort) a (k .sorts);
     };
@@ -100,7 +104,7 @@ module _ (s : Sizes) (lim : Limits s) where
   }
 
   -- the lines from some line on
-  read-passes : (st : State) (k : ℕ) (ps : List Piece) (p : Program) → Reached s st → readFrom s st k ps ≡ O.done p → ProgramPasses s p
+  read-passes : (st : State) (k : ℕ) (ps : List Piece) (p : Program) → Reached s st → readFrom scope st k ps ≡ O.done p → ProgramPasses s p
   unfolding readFrom closedText lineOutcome after unless
   read-passes st k [] p w e = go (not (isOpen st) && isOutside (st .around)) refl e
     where
@@ -112,22 +116,22 @@ module _ (s : Sizes) (lim : Limits s) where
       go false h e = absurd (let z : _≡_ {A = ℕ} 0 1 = cc in omega arith)
   read-passes st k (q ∷ ps) p w e = go (λ l. read-passes (advance st l) (suc k) ps p) (pieceForm q) e
     where
-      line : (l : Line) → (Reached s (advance st l) → readFrom s (advance st l) (suc k) ps ≡ O.done p → ProgramPasses s p) → (n : ℕ) → lineRefusal s st l ≡ n
-          → after (unless n k (O.done (advance st l))) (λ st. readFrom s st (suc k) ps) ≡ O.done p → ProgramPasses s p
-      line l ih zero h e = ih (advance-reached st l w (refusal-none s st l h)) e
+      line : (l : Line) → (Reached s (advance st l) → readFrom scope (advance st l) (suc k) ps ≡ O.done p → ProgramPasses s p) → (n : ℕ) → lineRefusal scope st l ≡ n
+          → after (unless n k (O.done (advance st l))) (λ st. readFrom scope st (suc k) ps) ≡ O.done p → ProgramPasses s p
+      line l ih zero h e = ih (advance-reached st l w (refusal-none scope st l h)) e
       line l ih (suc n) h e = absurd (let z : _≡_ {A = ℕ} 0 1 = cc in omega arith)
 
-      go : ((l : Line) → Reached s (advance st l) → readFrom s (advance st l) (suc k) ps ≡ O.done p → ProgramPasses s p) → (o : Option Line)
-          → after (lineOutcome s st k o) (λ st. readFrom s st (suc k) ps) ≡ O.done p → ProgramPasses s p
+      go : ((l : Line) → Reached s (advance st l) → readFrom scope (advance st l) (suc k) ps ≡ O.done p → ProgramPasses s p) → (o : Option Line)
+          → after (lineOutcome scope st k o) (λ st. readFrom scope st (suc k) ps) ≡ O.done p → ProgramPasses s p
       go ih none e = absurd (let z : _≡_ {A = ℕ} 0 1 = cc in omega arith)
-      go ih (some l) e = line l (ih l) (lineRefusal s st l) refl e
+      go ih (some l) e = line l (ih l) (lineRefusal scope st l) refl e
 
   -- a text that passes gives a program that keeps to what was checked
-  pub text-passes : (t : List ℕ) (p : Program) → textProgram s t ≡ O.done p → ProgramPasses s p
+  pub text-passes : (t : List ℕ) (p : Program) → textProgram scope t ≡ O.done p → ProgramPasses s p
   unfolding textProgram
   text-passes t p e = go (ltb 8192 (length t)) e
     where
-      go : (x : Bool) → cond x (refused 6 0) (readFrom s start 1 (lines t)) ≡ O.done p → ProgramPasses s p
+      go : (x : Bool) → cond x (refused 6 0) (readFrom scope start 1 (lines t)) ≡ O.done p → ProgramPasses s p
       go true e = absurd (let z : _≡_ {A = ℕ} 0 1 = cc in omega arith)
       go false e = read-passes start 1 (lines t) p (start-reached s) e
 
@@ -136,6 +140,6 @@ pub check-passes : (file t : List ℕ) (p : Program) → check file t ≡ O.done
 unfolding check after
 check-passes file t p e = go (load file) refl e
   where
-    go : (o : Outcome Sizes) → load file ≡ o → after o (λ s. textProgram s t) ≡ O.done p → (s : Sizes) × (load file ≡ O.done s) × ProgramPasses s p
-    go (O.done s) h e = (s, h, text-passes s (limits s (loads s file h .within)) t p e)
+    go : (o : Outcome Sizes) → load file ≡ o → after o (λ s. textProgram (record { sizes = s }) t) ≡ O.done p → (s : Sizes) × (load file ≡ O.done s) × ProgramPasses s p
+    go (O.done s) h e = (s, h, text-passes (record { sizes = s }) (limits s (loads s file h .within)) t p e)
     go (refused k line) h e = absurd (let z : _≡_ {A = ℕ} 0 1 = cc in omega arith)

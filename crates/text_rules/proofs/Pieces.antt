@@ -7,9 +7,9 @@ use borrow.Author.Tests.{lt-ltb, not-true}
 use lib.Dec.{eqb}
 use lib.ListN.{length}
 use Rattle.laws.specs.Outcome.{refused}
-use Rattle.register.specs.declared.Sizes.{Sizes}
 use Rattle.laws.specs.Lists.{every}
 use Rattle.laws.proofs.Bools.{and-both}
+use Rattle.text_rules.specs.declared.scope.Scope.{Scope}
 use Rattle.text_rules.specs.Text.{isWithin, ended, cut, onto, lines, textProgram}
 
 lines-more : (b : ℕ) (t : List ℕ) → isWithin b ≡ true → lines (b ∷ t) ≡ onto b (lines t)
@@ -33,6 +33,6 @@ lines-cut b (d ∷ l) h =
     lines-more b (d ∷ l) (both .0) ∙ ap (onto b) (lines-cut d l (both .1))
 
 -- 6
-pub too-long : (s : Sizes) (t : List ℕ) → 8192 < length t → textProgram s t ≡ refused 6 0
+pub too-long : (scope : Scope) (t : List ℕ) → 8192 < length t → textProgram scope t ≡ refused 6 0
 unfolding textProgram
 too-long s t h = rw (lt-ltb 8192 (length t) h)

@@ -6,12 +6,12 @@ use mathlib.Core.List.{List, []}
 use mathlib.Core.Option.{Option, none, some}
 use lib.Dec.{leb, ltb}
 use lib.ListN.{length}
-use Rattle.register.specs.declared.Sizes.{Sizes}
 use Rattle.chain_text.specs.Text.{letterField}
 use Rattle.text_syntax.specs.Written.{Action, set, remote, Line, step, end, done, loop, rule}
 use Rattle.text_syntax.specs.Parts.{named, kinded, short, numbersInRange, shallow, fewOperators}
 use Rattle.program.specs.declared.rule.Sort.the-variants.{Least, Total}
 use Rattle.text_rules.specs.declared.around.Around.{Around}
+use Rattle.text_rules.specs.declared.scope.Scope.{Scope}
 use Rattle.text_rules.specs.declared.around.Around.the-variants.{Outside, Unused, Used}
 use Rattle.program.specs.Program.{Rule, Step, stepPlan, someTarget, isLeast, isTotal}
 
@@ -77,10 +77,10 @@ planFits st (loop f) = true
 planFits st (rule c a) = true
 
 -- the number that applies to a line that has a form, the lowest first but for 24 and 25, which are asked after 12; 0 for a line that passes
-unfoldable pub lineRefusal : Sizes → State → Line → ℕ
-lineRefusal s st l =
+unfoldable pub lineRefusal : Scope → State → Line → ℕ
+lineRefusal scope st l =
     cond (not (inPlace st l)) 8
-    (cond (not (named s l)) 9
+    (cond (not (named (scope .sizes) l)) 9
     (cond (not (kinded l)) 10
     (cond (not (short l)) 11
     (cond (not (numbersInRange l)) 12

@@ -2,11 +2,11 @@
 use Prim.Native.Nat.{ℕ}
 use mathlib.Core.Path.{_≡_}
 use mathlib.Core.Bool.{Bool, true, _&&_}
+use mathlib.Core.List.{List}
 use mathlib.Core.Option.{Option, none, some}
 use Rattle.register.specs.declared.Sizes.{Sizes}
 use Rattle.chain_text.specs.Text.{names, letterField}
 use Rattle.program.specs.declared.rule.Slot.{Slot}
-use Rattle.program.specs.Code.{Codes}
 use Rattle.program.specs.Stored.{ruleIn}
 use Rattle.program.specs.Terms.{SlotTerms, TermFormed}
 use Rattle.text_syntax.specs.Tree.{ruleOf}
@@ -24,12 +24,12 @@ unfoldable pub allPass : Checks → Bool
 allPass c = c .named && (c .kinded && (c .short && (c .ranged && (c .shallow && c .few))))
 
 -- a rule in the array is the one that is written; k are the codes beside the rules
-pub record RuleRead (k : Codes) (c : Condition) (a : Action) (x : Slot) : Type 0 where
+pub record RuleRead (k : List ℕ) (c : Condition) (a : Action) (x : Slot) : Type 0 where
   pub rule-is : ruleIn k x ≡ ruleOf c a
   pub formed : SlotTerms (TermFormed k) x
 
 -- what is read of a line, by its form; of a rule that does not pass, its checks alone
-pub data Reads (s : Sizes) (k : Codes) : Option Line → LineRead → Type 0 where
+pub data Reads (s : Sizes) (k : List ℕ) : Option Line → LineRead → Type 0 where
   no-form : Reads s k none NoForm
   step-line : Reads s k (some step) Step
   end-line : Reads s k (some end) End

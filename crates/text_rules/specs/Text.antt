@@ -8,7 +8,6 @@ use lib.ListN.{length}
 use Rattle.laws.specs.Outcome.{Outcome, refused, unless, after}
 use Rattle.laws.specs.Outcome as O
 use Rattle.register.specs.Load.{load}
-use Rattle.register.specs.declared.Sizes.{Sizes}
 use Rattle.chain_text.specs.Text.{letterField}
 use Rattle.plan_theory.specs.Plan.{Fact, result}
 use Rattle.text_syntax.specs.Written.{Line, step, end, done, loop, rule}
@@ -20,6 +19,7 @@ use Rattle.text_rules.specs.declared.around.Around.the-variants.{Outside
 use Rattle.program.specs.declared.setting.Setting.{Setting}
 use Rattle.program.specs.declared.setting.Setting.the-variants.{Single, Looped}
 use Rattle.program.specs.Program.{Rule, Step, Program, readings, hasRemote}
+use Rattle.text_rules.specs.declared.scope.Scope.{Scope}
 use Rattle.text_rules.specs.Check.{State, isOutside, isOpen, openRules, lineRefusal}
 
 -- A line of a text: its bytes with byte 10 behind them, or the last line without byte 10.
@@ -85,30 +85,30 @@ advance st (rule c a) = record {
 }
 
 -- line k of the text: "lowest number first"
-unfoldable pub lineOutcome : Sizes → State → ℕ → Option Line → Outcome State
-lineOutcome s st k none = refused 7 k
-lineOutcome s st k (some l) = unless (lineRefusal s st l) k (O.done (advance st l))
+unfoldable pub lineOutcome : Scope → State → ℕ → Option Line → Outcome State
+lineOutcome scope st k none = refused 7 k
+lineOutcome scope st k (some l) = unless (lineRefusal scope st l) k (O.done (advance st l))
 
 -- behind the last line: a step or loop that is still open is 8, "one past the last line"
 unfoldable pub closedText : State → ℕ → Outcome Program
 closedText st k = cond (not (isOpen st) && isOutside (st .around)) (O.done (st .steps)) (refused 8 k)
 
 -- "Line by line", from line k on
-unfoldable pub readFrom : Sizes → State → ℕ → List Piece → Outcome Program
-readFrom s st k [] = closedText st k
-readFrom s st k (p ∷ ps) = after (lineOutcome s st k (pieceForm p)) (λ st. readFrom s st (suc k) ps)
+unfoldable pub readFrom : Scope → State → ℕ → List Piece → Outcome Program
+readFrom scope st k [] = closedText st k
+readFrom scope st k (p ∷ ps) = after (lineOutcome scope st k (pieceForm p)) (λ st. readFrom scope st (suc k) ps)
 
 -- before the first line
 unfoldable pub start : State
 start = record { steps = []; around = Outside; open-rules = none }
 
--- the program of a text over a register of these sizes: 6 first, "too long (line 0)"
-unfoldable pub textProgram : Sizes → List ℕ → Outcome Program
-textProgram s t = cond (ltb 8192 (length t)) (refused 6 0) (readFrom s start 1 (lines t))
+-- the program of a text under a scope: 6 first, "too long (line 0)"
+unfoldable pub textProgram : Scope → List ℕ → Outcome Program
+textProgram scope t = cond (ltb 8192 (length t)) (refused 6 0) (readFrom scope start 1 (lines t))
 
 -- "The register is looked at first, then rules"
 unfoldable pub check : List ℕ → List ℕ → Outcome Program
-check file text = after (load file) (λ s. textProgram s text)
+check file text = after (load file) (λ s. textProgram (record { sizes = s }) text)
 
 -- the rules of step k, "Steps count from 1 in the text"; 17: "a step that is not there"
 unfoldable pub rulesAt : Program → ℕ → Outcome (List Rule)

@@ -10,7 +10,7 @@ use Rattle.laws.proofs.Bools.{and-both}
 use Rattle.register.specs.Shape.{Limits}
 use Rattle.register.specs.declared.Sizes.{Sizes}
 use Rattle.program.specs.declared.term.Term.{Term}
-use Rattle.program.specs.Code.{postfix, Codes, codesOf, SameBelow}
+use Rattle.program.specs.Code.{postfix, codesIn, SameBelow}
 use Rattle.text_syntax.specs.Parts.{depth}
 use Rattle.text_syntax.specs.Tree.{treeOf}
 use Rattle.text_syntax.specs.Flat as F
@@ -20,27 +20,19 @@ use Rattle.text_codes.specs.declared.summary.Summary.{Summary}
 use Rattle.text_sides.specs.Expression.{ExpressionFormed}
 use Rattle.text_sides.proofs.Whole.{whole-postfix}
 use Rattle.text_checks.specs.Checks.{summaryChecks}
-use Rattle.text_sides.specs.Side.{InArrays, termHeld, codesLeft, SideFormed}
+use Rattle.text_sides.specs.Side.{termHeld, codesLeft, SideFormed}
 use Rattle.text_checks.proofs.Passing.{all-passed}
 use Rattle.text_sides.proofs.Sides.{left-least, left-most}
 use Rattle.text_sides.proofs.Held.{term-holds}
 
-module _ {s : Sizes} {line : List ℕ} {at : ℕ} {a b : Codes} {count : ℕ} {g : Summary} {end to : ℕ} (w : ExpressionFormed s line at a b count g end to) where
-  -- its codes stand in the arrays
-  pub codes-inside : length (b .kinds) ≤ 65536 → (count < 65536) × (to < 65536) × InArrays b to
+module _ {s : Sizes} {line : List ℕ} {at : ℕ} {a b : List ℕ} {count : ℕ} {g : Summary} {end to : ℕ} (w : ExpressionFormed s line at a b count g end to) where
+  -- its codes stand in the array
+  pub codes-inside : length b ≤ 65536 → (count < 65536) × (to < 65536) × (to ≤ length b)
   codes-inside h =
-      let r = w .roomy in (
-        omega (arith, r .kinds, w .inside, w .more-codes),
-        omega (arith, r .kinds, w .inside),
-        record {
-          in-kinds = omega (arith, r .kinds, w .inside);
-          in-numbers = omega (arith, r .numbers, w .inside);
-          in-chains = omega (arith, r .chains, w .inside);
-        },
-      )
+      (omega (arith, w .roomy, w .inside, w .more-codes), omega (arith, w .roomy, w .inside), omega (arith, w .roomy, w .inside))
 
   -- if it passes, they are those of its tree
-  pub passed-codes : Limits s → allPass (summaryChecks g) ≡ true → codesOf b count to ≡ postfix (treeOf (w .written))
+  pub passed-codes : Limits s → allPass (summaryChecks g) ≡ true → codesIn b count to ≡ postfix (treeOf (w .written))
   passed-codes l h =
       let p = all-passed (summaryChecks g) h in
       whole-postfix l w (p .named) (and-both (g .kinded) (not (g .reference && g .measure)) (p .kinded) .0) (p .short) (p .ranged)
@@ -65,9 +57,5 @@ module _ {s : Sizes} {line : List ℕ} {at : ℕ} {a b : Codes} {count : ℕ} {g
         more-codes = least;
         few-codes = omega (arith, most, w .few-codes);
         inside = w .inside;
-        roomy = record {
-          kinds = omega (arith, most, w .roomy .kinds);
-          numbers = omega (arith, most, w .roomy .numbers);
-          chains = omega (arith, most, w .roomy .chains);
-        };
+        roomy = omega (arith, most, w .roomy);
       })

@@ -1,4 +1,4 @@
--- Codes in the arrays are the terms of the expressions that they are written for.
+-- Codes in the array are the terms of the expressions that they are written for.
 use Prim.Native.Nat.{ℕ, _+_, _-_, _≤_, _<_}
 use mathlib.Core.Path.{_≡_, refl, sym, ap, subst, _∙_}
 use mathlib.Core.Logic.{_⊎_, inl, inr}
@@ -15,15 +15,15 @@ use Rattle.chain.specs.Word.{unpack}
 use Rattle.program.specs.declared.term.Term.{Term}
 use Rattle.program.specs.declared.term.Term.the-variants.{Chain, Number, Tree}
 use Rattle.program.specs.declared.rule.Operator.{Operator}
+use Rattle.program.specs.declared.rule.Operator.the-variants.{Plus, Minus, Smaller}
 use Rattle.program.specs.Program as P
-use Rattle.program.specs.Code.{Code, chain, number, operator, postfix, operatorOf, codeOf, codeAt, codesFrom, treeIn, decoded, Codes, codesOf}
+use Rattle.program.specs.Code.{Code, chain, number, operator, unknown, postfix, kindIn, chainIn, numberIn, ofKind, codeOf, codeAt, codesFrom, codesIn, treeIn, decoded}
 use Rattle.program.specs.Stored.{termIn}
 use Rattle.program.specs.Terms.{TermFormed, TermFrom, TermInside}
 use Rattle.program.proofs.Codes.{decoded-postfix, postfix-formed, codes-none}
 use Rattle.text_syntax.specs.Written.{Expression}
 use Rattle.text_syntax.specs.Tree.{treeOf}
-use Rattle.text_codes.specs.Codes.{codeIn}
-use Rattle.text_sides.specs.Side.{singleIn, termHeld, codesLeft, Holds}
+use Rattle.text_sides.specs.Side.{operatorIn, singleOf, termHeld, codesLeft, Holds}
 
 -- an expression has codes
 postfix-some : (e : P.Expression) → 1 ≤ length (postfix e)
@@ -37,6 +37,7 @@ abbrev CodeOf : Code → P.Expression → Type 0
 CodeOf (chain w) e = P.reading w ≡ e
 CodeOf (number z) e = P.constant z ≡ e
 CodeOf (operator o) e = ⊥
+CodeOf unknown e = ⊥
 
 one-code : (c : Code) (e : P.Expression) → c ∷ [] ≡ postfix e → CodeOf c e
 unfolding postfix
@@ -74,39 +75,51 @@ three-codes c d k (P.operation o x y) h = go (postfix x) (postfix y) refl refl h
     go (a ∷ v ∷ cs) (b ∷ ds) p q h =
         absurd (omega (arith, ap length h, length-append cs (b ∷ (ds ++ (operator o ∷ []))), length-append ds (operator o ∷ [])))
 
-module _ (b : Codes) where
-  -- the term of one code, which is no tree
-  pub single-is : (at : ℕ) (e : P.Expression) → codeIn b at ∷ [] ≡ postfix e → termIn b (singleIn b at) ≡ e
-  unfolding codeAt codeOf singleIn termIn
-  single-is at e h = go _ _ _ (eqb (getD (b .kinds) at 0) 0) (eqb (getD (b .kinds) at 0) 1) h
+no-code : (k : ℕ) (e : P.Expression) → CodeOf (ofKind k) e → ⊥
+unfolding ofKind
+no-code k e =
+    cond-both (λ (c : Code). CodeOf c e → ⊥) (eqb k 2) _ _ (λ h. h)
+    (cond-both (λ (c : Code). CodeOf c e → ⊥) (eqb k 3) _ _ (λ h. h) (cond-both (λ (c : Code). CodeOf c e → ⊥) (eqb k 4) _ _ (λ h. h) (λ h. h)))
+
+-- the term of one code, which is no tree
+module _ (c : ℕ) where
+  pub single-is : (b : List ℕ) (e : P.Expression) → codeOf c ∷ [] ≡ postfix e → termIn b (singleOf c) ≡ e
+  unfolding codeOf singleOf termIn
+  single-is b e h = go (eqb (kindIn c) 0) (eqb (kindIn c) 1) (one-code _ e h)
     where
-      go : (w : ℕ) (z : ℤ) (o : Operator) (i j : Bool) → cond i (chain (unpack w)) (cond j (number z) (operator o)) ∷ [] ≡ postfix e
-          → termIn b (cond i (Chain w) (Number z)) ≡ e
-      go w z o true j h = one-code _ e h
-      go w z o false true h = one-code _ e h
-      go w z o false false h = absurd (one-code _ e h)
+      go : (i j : Bool) → CodeOf (cond i (chain (unpack (chainIn c))) (cond j (number (numberIn c)) (ofKind (kindIn c)))) e
+          → termIn b (cond i (Chain (chainIn c)) (Number (numberIn c))) ≡ e
+      go true j h = h
+      go false true h = h
+      go false false h = absurd (no-code (kindIn c) e h)
 
-  pub single-plain : (Q : Term → Type 0) → ((w : ℕ) → Q (Chain w)) → ((z : ℤ) → Q (Number z)) → (at : ℕ) → Q (singleIn b at)
-  unfolding singleIn
-  single-plain Q c n at = cond-both Q (eqb (getD (b .kinds) at 0) 0) _ _ (c _) (n _)
+  pub single-plain : (Q : Term → Type 0) → ((w : ℕ) → Q (Chain w)) → ((z : ℤ) → Q (Number z)) → Q (singleOf c)
+  unfolding singleOf
+  single-plain Q p q = cond-both Q (eqb (kindIn c) 0) _ _ (p _) (q _)
 
-  pub operator-is : (at : ℕ) {o : Operator} → codeIn b at ≡ operator o → operatorOf (getD (b .kinds) at 0) ≡ o
-  unfolding codeAt codeOf
-  operator-is at {o} h = go _ _ _ (eqb (getD (b .kinds) at 0) 0) (eqb (getD (b .kinds) at 0) 1) h
+  pub operator-is : {o : Operator} → codeOf c ≡ operator o → operatorIn c ≡ o
+  unfolding codeOf ofKind operatorIn
+  operator-is {o} h = go (eqb (kindIn c) 0) (eqb (kindIn c) 1) (eqb (kindIn c) 2) (eqb (kindIn c) 3) (eqb (kindIn c) 4) h
     where
-      go : (w : List ℕ) (z : ℤ) (k : Operator) (i j : Bool) → cond i (chain w) (cond j (number z) (operator k)) ≡ operator o → k ≡ o
-      go w z k true j h = absurd (let z : _≡_ {A = ℕ} 0 1 = cc in omega arith)
-      go w z k false true h = absurd (let z : _≡_ {A = ℕ} 0 1 = cc in omega arith)
-      go w z k false false h = cc
+      go : (i j p q r : Bool) → cond i (chain (unpack (chainIn c))) (cond j (number (numberIn c))
+          (cond p (operator Plus) (cond q (operator Minus) (cond r (operator Smaller) unknown)))) ≡ operator o
+          → cond p Plus (cond q Minus Smaller) ≡ o
+      go true j p q r h = absurd (let z : _≡_ {A = ℕ} 0 1 = cc in omega arith)
+      go false true p q r h = absurd (let z : _≡_ {A = ℕ} 0 1 = cc in omega arith)
+      go false false true q r h = cc
+      go false false false true r h = cc
+      go false false false false true h = cc
+      go false false false false false h = absurd (let z : _≡_ {A = ℕ} 0 1 = cc in omega arith)
 
-  module _ (from to : ℕ) (e : Expression) (l : from ≤ to) (h : codesOf b from to ≡ postfix (treeOf e)) where
-    single-holds : to ≡ from + 1 → Holds b from from e (singleIn b from)
-    unfolding codesFrom
+module _ (b : List ℕ) where
+  module _ (from to : ℕ) (e : Expression) (l : from ≤ to) (h : codesIn b from to ≡ postfix (treeOf e)) where
+    single-holds : to ≡ from + 1 → Holds b from from e (singleOf (getD b from 0))
+    unfolding codesFrom codeAt
     single-holds q = record {
-      term-is = single-is from (treeOf e) (let n : to - from ≡ 1 = omega arith in sym (ap (codesFrom (b .kinds) (b .numbers) (b .chains) from) n) ∙ h);
-      formed = single-plain (TermFormed b) (λ w. tt) (λ z. tt) from;
-      behind = single-plain (TermFrom from) (λ w. tt) (λ z. tt) from;
-      inside = single-plain (TermInside from) (λ w. tt) (λ z. tt) from;
+      term-is = single-is _ b (treeOf e) (let n : to - from ≡ 1 = omega arith in sym (ap (codesFrom b from) n) ∙ h);
+      formed = single-plain _ (TermFormed b) (λ w. tt) (λ z. tt);
+      behind = single-plain _ (TermFrom from) (λ w. tt) (λ z. tt);
+      inside = single-plain _ (TermInside from) (λ w. tt) (λ z. tt);
     }
 
     tree-holds : Holds b from to e (Tree from to)
@@ -121,13 +134,13 @@ module _ (b : Codes) where
         more : (from < to) ⊎ (to ≤ from) → from < to
         more (inl m) = m
         more (inr m) =
-            absurd (omega (arith, ap length (sym (codes-none (b .kinds) (b .numbers) (b .chains) from to m) ∙ h), postfix-some (treeOf e)))
+            absurd (omega (arith, ap length (sym (codes-none b from to m) ∙ h), postfix-some (treeOf e)))
 
     -- the term of codes that are those of an expression; a single one needs none
     pub term-holds : Holds b from (codesLeft from to 1) e (termHeld b from to)
     unfolding termHeld codesLeft
     term-holds = go (eqb to (from + 1)) refl
       where
-        go : (y : Bool) → eqb to (from + 1) ≡ y → Holds b from (cond y from to) e (cond y (singleIn b from) (Tree from to))
+        go : (y : Bool) → eqb to (from + 1) ≡ y → Holds b from (cond y from to) e (cond y (singleOf (getD b from 0)) (Tree from to))
         go true q = single-holds (eqb-true to (from + 1) q)
         go false q = tree-holds

@@ -7,7 +7,7 @@ use native.Mathlib.Omega.{arith}
 use lib.ListN.{length}
 use Rattle.register.specs.Shape.{Limits}
 use Rattle.register.specs.declared.Sizes.{Sizes}
-use Rattle.program.specs.Code.{postfix, Codes, codesOf}
+use Rattle.program.specs.Code.{postfix, codesIn}
 use Rattle.text_syntax.specs.Grammar.{expression}
 use Rattle.text_syntax.specs.Tree.{treeOf}
 use Rattle.text_syntax.specs.Flat as F
@@ -20,31 +20,30 @@ use Rattle.text_scan.specs.Scan.{ScanFormed, NoExpression}
 use Rattle.text_expressions.specs.Reading.{AllDeep, ReadAs, Unread, TooDeep}
 use Rattle.text_sides.specs.Expression.{ExpressionFormed}
 use Rattle.text_codes.proofs.Postfix.{codes-postfix}
-use Rattle.text_expressions.proofs.Joining.{roomy-on}
 
 pub nothing-few : {g : Summary} → summaryOf g ≡ empty → (n : ℕ) → g .operators ≤ n
 unfolding empty
 nothing-few e n = omega (arith, ap (λ (f : F.Summary). f .operators) e)
 
 -- what was read, before which nothing was gathered
-pub whole-read : {s : Sizes} {before : Summary} {line : List ℕ} {at : ℕ} {a b : Codes} {count : ℕ} {g : Summary} {end to : ℕ} → summaryOf before ≡ empty
+pub whole-read : {s : Sizes} {before : Summary} {line : List ℕ} {at : ℕ} {a b : List ℕ} {count : ℕ} {g : Summary} {end to : ℕ} → summaryOf before ≡ empty
     → Roomy a line at count → ReadAs expression s 8 before line at a b count g end to → ExpressionFormed s line at a b count g end to
 whole-read {s} e r w = record {
   written = w .written;
   form-is = w .form-is;
   summary-is = w .summary-is ∙ ap (λ (f : F.Summary). merged 0 f (summary s (w .written))) e ∙ merged-empty s (w .written);
   wrote = λ d. w .wrote;
-  more-codes = w .wrote .onward;
+  more-codes = omega (arith, w .wrote .size);
   few-codes = w .few-codes;
   inside = w .behind .inside;
-  roomy = roomy-on r (w .wrote) (w .few-codes);
+  roomy = omega (arith, r, w .wrote .same-length, w .few-codes);
 }
 
 -- what is too deep, and was passed
-pub whole-passed : {s : Sizes} {line : List ℕ} {at : ℕ} {a b : Codes} {count : ℕ} {g : Summary} {end : ℕ} → Roomy a line at count
-    → length (b .kinds) ≡ length (a .kinds) → length (b .numbers) ≡ length (a .numbers) → length (b .chains) ≡ length (a .chains)
+pub whole-passed : {s : Sizes} {line : List ℕ} {at : ℕ} {a b : List ℕ} {count : ℕ} {g : Summary} {end : ℕ} → Roomy a line at count
+    → length b ≡ length a
     → TooDeep expression 8 line at → ScanFormed s line at g end → ExpressionFormed s line at a b count g end count
-whole-passed r k n c t w = record {
+whole-passed r k t w = record {
   written = w .written;
   form-is = w .form-is;
   summary-is = w .summary-is;
@@ -52,20 +51,16 @@ whole-passed r k n c t w = record {
   more-codes = omega arith;
   few-codes = omega (arith, w .onward);
   inside = w .inside;
-  roomy = record {
-    kinds = omega (arith, r .kinds, k, w .onward);
-    numbers = omega (arith, r .numbers, n, w .onward);
-    chains = omega (arith, r .chains, c, w .onward);
-  };
+  roomy = omega (arith, r, k, w .onward);
 }
 
 pub whole-none : {line : List ℕ} {at : ℕ} → NoExpression line at → Unread expression line at
 whole-none w = record { none = w .none }
 
 -- an expression that passes 9, 11, 12 and 24, and whose chains go over references: its codes are those of its tree
-pub whole-postfix : {s : Sizes} {line : List ℕ} {at : ℕ} {a b : Codes} {count : ℕ} {g : Summary} {end to : ℕ} → Limits s
+pub whole-postfix : {s : Sizes} {line : List ℕ} {at : ℕ} {a b : List ℕ} {count : ℕ} {g : Summary} {end to : ℕ} → Limits s
     → (w : ExpressionFormed s line at a b count g end to) → g .named ≡ true → g .kinded ≡ true → g .short ≡ true → g .ranged ≡ true → g .depth ≤ 8
-    → codesOf b count to ≡ postfix (treeOf (w .written))
+    → codesIn b count to ≡ postfix (treeOf (w .written))
 unfolding summary
 whole-postfix {s} l w n k h r d =
     let e = w .summary-is in

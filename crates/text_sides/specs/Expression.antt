@@ -5,7 +5,6 @@ use mathlib.Core.Bool.{true, false}
 use mathlib.Core.List.{List}
 use lib.ListN.{length}
 use Rattle.register.specs.declared.Sizes.{Sizes}
-use Rattle.program.specs.Code.{Codes}
 use Rattle.text_syntax.specs.Form.{formed}
 use Rattle.text_syntax.specs.Written.{Expression}
 use Rattle.text_syntax.specs.Grammar.{expression}
@@ -21,7 +20,7 @@ use Rattle.text_expressions.specs.Reading.{Unread}
 
 -- an expression stands at a place, with what is asked of it; if it is at most 8 groups deep, its codes were written; there is room for what
 -- follows
-pub record ExpressionFormed (s : Sizes) (line : List ℕ) (at : ℕ) (a b : Codes) (count : ℕ) (g : Summary) (end to : ℕ) : Type 0 where
+pub record ExpressionFormed (s : Sizes) (line : List ℕ) (at : ℕ) (a b : List ℕ) (count : ℕ) (g : Summary) (end to : ℕ) : Type 0 where
   pub written : Expression
   pub form-is : expression (tokensFrom true line at) ≡ formed written (tokensFrom false line end)
   pub summary-is : summaryOf g ≡ summary s written
@@ -31,6 +30,6 @@ pub record ExpressionFormed (s : Sizes) (line : List ℕ) (at : ℕ) (a b : Code
   pub inside : end ≤ length line
   pub roomy : Roomy b line end to
 
-abbrev pub ExpressionAt : Sizes → List ℕ → ℕ → Codes → Codes → ℕ → ExpressionRead → Type 0
+abbrev pub ExpressionAt : Sizes → List ℕ → ℕ → List ℕ → List ℕ → ℕ → ExpressionRead → Type 0
 ExpressionAt s line at a b count (Parts g end to) = ExpressionFormed s line at a b count g end to
 ExpressionAt s line at a b count NoParts = Unread expression line at

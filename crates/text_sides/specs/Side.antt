@@ -4,14 +4,15 @@ use mathlib.Core.Path.{_≡_}
 use mathlib.Core.Bool.{true, false, cond}
 use mathlib.Core.List.{List}
 use lib.Dec.{eqb}
-use lib.IntN.{pos}
 use lib.ListN.{length, getD}
 use Rattle.register.specs.declared.Sizes.{Sizes}
 use Rattle.program.specs.declared.term.Term.{Term}
 use Rattle.program.specs.declared.term.Term.the-variants.{Chain, Number, Tree}
+use Rattle.program.specs.declared.rule.Operator.{Operator}
+use Rattle.program.specs.declared.rule.Operator.the-variants.{Plus, Minus, Smaller}
 use Rattle.program.specs.declared.rule.Rule.{Rule}
 use Rattle.program.specs.declared.rule.Rule.the-variants.{Set, Combine}
-use Rattle.program.specs.Code.{Codes, operatorOf, SameBelow}
+use Rattle.program.specs.Code.{kindIn, chainIn, numberIn, SameBelow}
 use Rattle.program.specs.Stored.{termIn}
 use Rattle.program.specs.Terms.{TermFormed, TermFrom, TermInside}
 use Rattle.text_syntax.specs.Form.{formed}
@@ -29,37 +30,35 @@ use Rattle.text_checks.specs.Checks.{summaryChecks}
 use Rattle.text_sides.specs.declared.side.SideRead.{SideRead}
 use Rattle.text_sides.specs.declared.side.SideRead.the-variants.{Side, NoForm}
 
--- they have the places below n
-pub record InArrays (a : Codes) (n : ℕ) : Type 0 where
-  pub in-kinds : n ≤ length (a .kinds)
-  pub in-numbers : n ≤ length (a .numbers)
-  pub in-chains : n ≤ length (a .chains)
-
 -- the term of one code, and of the codes from..to
-unfoldable pub singleIn : Codes → ℕ → Term
-singleIn a at = cond (eqb (getD (a .kinds) at 0) 0) (Chain (getD (a .chains) at 0)) (Number (getD (a .numbers) at (pos 0)))
+unfoldable pub singleOf : ℕ → Term
+singleOf c = cond (eqb (kindIn c) 0) (Chain (chainIn c)) (Number (numberIn c))
 
-unfoldable pub termHeld : Codes → ℕ → ℕ → Term
-termHeld a from to = cond (eqb to (from + 1)) (singleIn a from) (Tree from to)
+unfoldable pub termHeld : List ℕ → ℕ → ℕ → Term
+termHeld a from to = cond (eqb to (from + 1)) (singleOf (getD a from 0)) (Tree from to)
+
+-- the operator of a code
+unfoldable pub operatorIn : ℕ → Operator
+operatorIn c = cond (eqb (kindIn c) 2) Plus (cond (eqb (kindIn c) 3) Minus Smaller)
 
 -- the local rule of the codes from..to: three codes are two terms and their operator
-unfoldable pub ruleHeld : Codes → ℕ → ℕ → ℕ → Rule
+unfoldable pub ruleHeld : List ℕ → ℕ → ℕ → ℕ → Rule
 ruleHeld a f from to = cond (eqb to (from + 3))
-    (Combine f (operatorOf (getD (a .kinds) (from + 2) 0)) (singleIn a from) (singleIn a (from + 1))) (Set f (termHeld a from to))
+    (Combine f (operatorIn (getD a (from + 2) 0)) (singleOf (getD a from 0)) (singleOf (getD a (from + 1) 0))) (Set f (termHeld a from to))
 
 -- the number of codes then, where `size` codes are given back
 unfoldable pub codesLeft : ℕ → ℕ → ℕ → ℕ
 codesLeft from to size = cond (eqb to (from + size)) from to
 
 -- a term in the array is a written expression; its codes, if it has any, stand from..to
-pub record Holds (b : Codes) (from to : ℕ) (e : Expression) (x : Term) : Type 0 where
+pub record Holds (b : List ℕ) (from to : ℕ) (e : Expression) (x : Term) : Type 0 where
   pub term-is : termIn b x ≡ treeOf e
   pub formed : TermFormed b x
   pub behind : TermFrom from x
   pub inside : TermInside to x
 
 -- an expression stands at a place where an operand is due; if it passes what is asked of it, the term is that expression
-pub record SideFormed (s : Sizes) (line : List ℕ) (at : ℕ) (a b : Codes) (count : ℕ) (g : Summary) (x : Term) (end to : ℕ) : Type 0 where
+pub record SideFormed (s : Sizes) (line : List ℕ) (at : ℕ) (a b : List ℕ) (count : ℕ) (g : Summary) (x : Term) (end to : ℕ) : Type 0 where
   pub written : Expression
   pub form-is : expression (tokensFrom true line at) ≡ formed written (tokensFrom false line end)
   pub summary-is : summaryOf g ≡ F.summary s written
@@ -70,6 +69,6 @@ pub record SideFormed (s : Sizes) (line : List ℕ) (at : ℕ) (a b : Codes) (co
   pub inside : end ≤ length line
   pub roomy : Roomy b line end to
 
-abbrev pub SideAt : Sizes → List ℕ → ℕ → Codes → Codes → ℕ → SideRead → Type 0
+abbrev pub SideAt : Sizes → List ℕ → ℕ → List ℕ → List ℕ → ℕ → SideRead → Type 0
 SideAt s line at a b count (Side g x end to) = SideFormed s line at a b count g x end to
 SideAt s line at a b count NoForm = Unread expression line at

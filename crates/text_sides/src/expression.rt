@@ -2,7 +2,6 @@
 ghost use Prim.Native.Nat.{_≤_};
 ghost use lib.ListN.{length};
 ghost use Rattle.register.specs.Shape.{Limits};
-ghost use Rattle.program.specs.Code.{codesKept};
 ghost use Rattle.text_codes.specs.Codes.{Roomy};
 ghost use Rattle.text_sides.specs.Expression.{ExpressionAt};
 use register::Sizes;
@@ -19,23 +18,12 @@ pub enum ExpressionRead {
 }
 
 // The expression at `at`, its codes written from `count` on. One that is more than 8 groups deep is passed without codes.
-pub fn read(
-    line: &[u8],
-    at: usize,
-    sizes: Sizes,
-    kinds: &mut [u8],
-    numbers: &mut [i32],
-    chains: &mut [u64],
-    count: usize,
-) -> ExpressionRead
-    requires { ⌜ Limits sizes × (at ≤ length (now line)) × Roomy (codesKept (now kinds) (now numbers) (now chains)) (now line) at count ⌝ }
-    ensures { λ r.
-        ⌜ ExpressionAt sizes (now (line .entry)) at
-        (codesKept (now (kinds .entry)) (now (numbers .entry)) (now (chains .entry)))
-        (codesKept (now (kinds .exit)) (now (numbers .exit)) (now (chains .exit))) count r ⌝ }
+pub fn read(line: &[u8], at: usize, sizes: Sizes, codes: &mut [u64], count: usize) -> ExpressionRead
+    requires { ⌜ Limits sizes × (at ≤ length (now line)) × Roomy (now codes) (now line) at count ⌝ }
+    ensures { λ r. ⌜ ExpressionAt sizes (now (line .entry)) at (now (codes .entry)) (now (codes .exit)) count r ⌝ }
 {
     let before = summary::nothing();
-    match reader::read_expression(line, at, sizes, 8, before, kinds, numbers, chains, count) {
+    match reader::read_expression(line, at, sizes, 8, before, codes, count) {
         Reading::Read(seen, end, to) => ExpressionRead::Parts(seen, end, to),
         Reading::NoForm => ExpressionRead::NoForm,
         Reading::Deep => match text_scan::scan(line, at, sizes) {

@@ -1,47 +1,45 @@
 // Expressions as the terms of a rule: one term by itself, several by their codes.
 ghost use mathlib.Core.Path.{_≡_};
 ghost use Prim.Native.Nat.{_+_, _≤_, _<_};
-ghost use lib.ListN.{length, getD};
+ghost use lib.ListN.{length};
 ghost use Rattle.register.specs.Shape.{Limits};
-ghost use Rattle.program.specs.Code.{operatorOf, codesKept};
 ghost use Rattle.text_codes.specs.Codes.{Roomy};
-ghost use Rattle.text_sides.specs.Side.{InArrays, singleIn, termHeld, ruleHeld, codesLeft, SideAt};
+ghost use Rattle.text_sides.specs.Side.{operatorIn, singleOf, termHeld, ruleHeld, codesLeft, SideAt};
 use crate::expression;
 use crate::expression::ExpressionRead;
+use program::code;
 use program::rule::Operator;
 use program::rule::Rule;
 use program::term::Term;
 use register::Sizes;
 use text_codes::summary::Summary;
 
-// The term whose one code stands at `at`.
-pub fn single(kinds: &[u8], numbers: &[i32], chains: &[u64], at: usize) -> Term
-    requires { ⌜ InArrays (codesKept (now kinds) (now numbers) (now chains)) (at + 1) ⌝ }
-    ensures { λ r. ⌜ r ≡ singleIn (codesKept (now (kinds .entry)) (now (numbers .entry)) (now (chains .entry))) at ⌝ }
+// The term of one code.
+pub fn single(code: u64) -> Term
+    ensures { λ r. ⌜ r ≡ singleOf code ⌝ }
 {
-    if kinds[at] == 0 {
-        return Term::Chain(chains[at]);
+    if code::kind(code) == 0 {
+        return Term::Chain(code::chain(code));
     }
-    Term::Number(numbers[at])
+    Term::Number(code::number(code))
 }
 
 // The term whose codes stand from..to.
-pub fn term_in(kinds: &[u8], numbers: &[i32], chains: &[u64], from: usize, to: usize) -> Term
-    requires { ⌜ (from < 65536) × (to < 65536) × InArrays (codesKept (now kinds) (now numbers) (now chains)) to ⌝ }
-    ensures { λ r. ⌜ r ≡ termHeld (codesKept (now (kinds .entry)) (now (numbers .entry)) (now (chains .entry))) from to ⌝ }
+pub fn term_in(codes: &[u64], from: usize, to: usize) -> Term
+    requires { ⌜ (from < 65536) × (to < 65536) × (to ≤ length (now codes)) ⌝ }
+    ensures { λ r. ⌜ r ≡ termHeld (now (codes .entry)) from to ⌝ }
 {
     if to == from + 1 {
-        return single(kinds, numbers, chains, from);
+        return single(codes[from]);
     }
     Term::Tree(from as u16, to as u16)
 }
 
-// The operator whose code stands at `at`.
-pub fn operator_in(kinds: &[u8], at: usize) -> Operator
-    requires { ⌜ at < length (now kinds) ⌝ }
-    ensures { λ r. ⌜ r ≡ operatorOf (getD (now (kinds .entry)) at 0) ⌝ }
+// The operator of a code.
+pub fn operator_in(code: u64) -> Operator
+    ensures { λ r. ⌜ r ≡ operatorIn code ⌝ }
 {
-    let kind = kinds[at];
+    let kind = code::kind(code);
     if kind == 2 {
         return Operator::Plus;
     }
@@ -52,23 +50,16 @@ pub fn operator_in(kinds: &[u8], at: usize) -> Operator
 }
 
 // `F[u] := X` for the X whose codes stand from..to: one operator on two terms is kept without codes.
-pub fn set_in(
-    kinds: &[u8],
-    numbers: &[i32],
-    chains: &[u64],
-    field: u64,
-    from: usize,
-    to: usize,
-) -> Rule
-    requires { ⌜ (from < 65536) × (to < 65536) × InArrays (codesKept (now kinds) (now numbers) (now chains)) to ⌝ }
-    ensures { λ r. ⌜ r ≡ ruleHeld (codesKept (now (kinds .entry)) (now (numbers .entry)) (now (chains .entry))) field from to ⌝ }
+pub fn set_in(codes: &[u64], field: u64, from: usize, to: usize) -> Rule
+    requires { ⌜ (from < 65536) × (to < 65536) × (to ≤ length (now codes)) ⌝ }
+    ensures { λ r. ⌜ r ≡ ruleHeld (now (codes .entry)) field from to ⌝ }
 {
     if to == from + 3 {
-        let x = single(kinds, numbers, chains, from);
-        let y = single(kinds, numbers, chains, from + 1);
-        return Rule::Combine(field, operator_in(kinds, from + 2), x, y);
+        let x = single(codes[from]);
+        let y = single(codes[from + 1]);
+        return Rule::Combine(field, operator_in(codes[from + 2]), x, y);
     }
-    Rule::Set(field, term_in(kinds, numbers, chains, from, to))
+    Rule::Set(field, term_in(codes, from, to))
 }
 
 // The number of codes behind an expression whose codes stand from..to: those of a term without codes are given back.
@@ -94,33 +85,14 @@ pub enum SideRead {
 }
 
 // The expression at `at`, as a term.
-pub fn read(
-    line: &[u8],
-    at: usize,
-    sizes: Sizes,
-    kinds: &mut [u8],
-    numbers: &mut [i32],
-    chains: &mut [u64],
-    count: usize,
-) -> SideRead
-    requires { ⌜ Limits sizes × (at ≤ length (now line)) × Roomy (codesKept (now kinds) (now numbers) (now chains)) (now line) at count
-        × (length (now kinds) ≤ 65536) ⌝ }
-    ensures { λ r.
-        ⌜ SideAt sizes (now (line .entry)) at
-        (codesKept (now (kinds .entry)) (now (numbers .entry)) (now (chains .entry)))
-        (codesKept (now (kinds .exit)) (now (numbers .exit)) (now (chains .exit))) count r ⌝ }
+pub fn read(line: &[u8], at: usize, sizes: Sizes, codes: &mut [u64], count: usize) -> SideRead
+    requires { ⌜ Limits sizes × (at ≤ length (now line)) × Roomy (now codes) (now line) at count × (length (now codes) ≤ 65536) ⌝ }
+    ensures { λ r. ⌜ SideAt sizes (now (line .entry)) at (now (codes .entry)) (now (codes .exit)) count r ⌝ }
 {
-    let ExpressionRead::Parts(seen, end, to) = expression::read(
-        line,
-        at,
-        sizes,
-        kinds,
-        numbers,
-        chains,
-        count,
-    ) else {
+    let ExpressionRead::Parts(seen, end, to) = expression::read(line, at, sizes, codes, count)
+    else {
         return SideRead::NoForm;
     };
-    let term = term_in(kinds, numbers, chains, count, to);
+    let term = term_in(codes, count, to);
     SideRead::Side(seen, term, end, codes_left(count, to, 1))
 }

@@ -11,7 +11,6 @@ use lib.Dec.{eqb}
 use lib.ListN.{length, getD, set, replicate, length-append, length-set}
 use lib.Seq.{getD-set-same, getD-set-other}
 use Rattle.register.specs.Shape.{Limits}
-use Rattle.register.specs.declared.Sizes.{Sizes}
 use Rattle.chain.proofs.Fields.{field-below}
 use Rattle.text_syntax.specs.Tree.{ruleOf}
 use Rattle.text_syntax.specs.Written.{Line, end}
@@ -21,7 +20,6 @@ use Rattle.program.specs.declared.rule.Sort.the-variants.{Least, Total}
 use Rattle.program.specs.declared.rule.Rule as C
 use Rattle.program.specs.declared.rule.Rule.the-variants.{Set, Combine, Remote}
 use Rattle.program.specs.declared.rule.Slot.{Slot}
-use Rattle.program.specs.Code.{Codes}
 use Rattle.program.specs.Stored.{targetIn, ruleIn}
 use Rattle.program.specs.Program as P
 use Rattle.program.specs.Program.{Target, Rule, Step, stepPlan, writes, isRemote, hasRemote, mostLines, isLeast, isTotal, someTarget}
@@ -30,6 +28,7 @@ use Rattle.text_rules.specs.Check as K
 use Rattle.text_rules.specs.Text.{closeLoop, withStep, advance, start}
 use Rattle.text_rules.specs.LineRead.{lineChecks, allPass, Reads, step-line, end-line, done-line, loop-line, rule-line}
 use Rattle.text_rules.specs.declared.line.LineRead.{LineRead}
+use Rattle.text_rules.specs.declared.scope.Scope.{Scope}
 use Rattle.text_rules.proofs.Checked.{Clean, rule-passes}
 use Rattle.program.proofs.Rules.{some-append}
 use Rattle.text_state.specs.State.{noRules, moreRules, withRemote, withRule, startState, standing, advanceOf}
@@ -145,7 +144,7 @@ counts-rule {x} {rs} c r h e k = go c e k
         (h .leasts-length) (length-set (x .totals) f true ∙ h .totals-length)
         (sort-same h r isLeast (x .leasts) (h .leasts-are) (λ i. ap (isLeast i) e)) taken)
 
-rule-target : (k : Codes) (x : Slot) (r : Rule) → ruleIn k x ≡ r → r .target ≡ targetIn (x .rule)
+rule-target : (k : List ℕ) (x : Slot) (r : Rule) → ruleIn k x ≡ r → r .target ≡ targetIn (x .rule)
 unfolding ruleIn
 rule-target k x r e = sym (ap (λ (r : Rule). r .target) e)
 
@@ -162,14 +161,14 @@ most-close (x ∷ []) = refl
 most-close (x ∷ y ∷ xs) = ap (max (length (stepPlan (x .rules)))) (most-close (y ∷ xs))
 
 -- a line that is clean passes what is asked of it
-pub clean-passes : {s : Sizes} {st : K.State} {l : Line} → Clean s st l → allPass (lineChecks s l) ≡ true
+pub clean-passes : {scope : Scope} {st : K.State} {l : Line} → Clean scope st l → allPass (lineChecks (scope .sizes) l) ≡ true
 unfolding allPass lineChecks
 clean-passes k = rw (k .is-named, k .is-kinded, k .is-short, k .in-range, k .is-shallow, k .few-operators)
 
 -- behind a line that has passed; n is the number of lines of the open step's plan, y is what was read of the line
-module _ (s : Sizes) (lim : Limits s) {x : State} {st : K.State} (h : Stands x st) (n : ℕ) where
-  pub advance-stands : {codes : Codes} {l : Line} {y : LineRead} → Reads s codes (some l) y → Clean s st l → (l ≡ end → n ≡ length (stepPlan (openRules st)))
-      → Stands (advanceOf x n y) (advance st l)
+module _ (scope : Scope) (lim : Limits (scope .sizes)) {x : State} {st : K.State} (h : Stands x st) (n : ℕ) where
+  pub advance-stands : {codes : List ℕ} {l : Line} {y : LineRead} → Reads (scope .sizes) codes (some l) y → Clean scope st l
+      → (l ≡ end → n ≡ length (stepPlan (openRules st))) → Stands (advanceOf x n y) (advance st l)
   unfolding advanceOf standing advance isOpen openRules named fieldNamed
   advance-stands step-line k e = record { steps-are = h .steps-are; lines-are = h .lines-are; around-is = h .around-is; in-step = refl; tally-is = counts-none }
   advance-stands end-line k e = record {
@@ -189,11 +188,11 @@ module _ (s : Sizes) (lim : Limits s) {x : State} {st : K.State} (h : Stands x s
   advance-stands (loop-line f) k e = record { steps-are = h .steps-are; lines-are = h .lines-are; around-is = refl; in-step = refl; tally-is = counts-none }
   advance-stands {codes} (rule-line c a y w) k e =
       let r : Rule = ruleOf c a in
-      let passed = rule-passes s lim st c a k in
+      let passed = rule-passes scope lim st c a k in
       record {
         steps-are = h .steps-are;
         lines-are = h .lines-are;
         around-is = h .around-is;
         in-step = refl;
-        tally-is = counts-rule (y .rule) r (h .tally-is) (rule-target codes y r (w (clean-passes k) .rule-is)) (field-below s lim (P.targetField (r .target)) (passed .field));
+        tally-is = counts-rule (y .rule) r (h .tally-is) (rule-target codes y r (w (clean-passes k) .rule-is)) (field-below (scope .sizes) lim (P.targetField (r .target)) (passed .field));
       }

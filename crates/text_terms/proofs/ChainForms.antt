@@ -1,11 +1,12 @@
 -- Chains, link by link: what a chain begins with, its inner chain, and the brackets behind it.
-use Prim.Native.Nat.{ℕ, suc, _+_, _-_, _≤_}
+use Prim.Native.Nat.{ℕ, suc, _+_, _-_, _*_, _^_, _≤_, _<_}
 use mathlib.Core.Path.{_≡_, refl, sym, ap, subst, _∙_}
 use mathlib.Core.Logic.{_≢_}
 use mathlib.Core.Bool.{Bool, false}
 use mathlib.Core.List.{List, [], _∷_, _++_}
 use mathlib.Core.Option.{Option, none, some}
 use native.Mathlib.Omega.{arith}
+use native.Mathlib.Nat.{pow-le-pow-right}
 use lib.ListN.{length, drop, length-append}
 use Rattle.register.specs.declared.Sizes.{Sizes}
 use Rattle.chain_text.specs.Scan.{step, steps}
@@ -22,7 +23,7 @@ use Rattle.text_terms.specs.declared.chains.ChainRead.{ChainRead}
 use Rattle.text_terms.specs.declared.chains.ChainRead.the-variants.{Chain, NoForm}
 use Rattle.text_places.specs.Word.{NoLetter}
 use Rattle.text_places.specs.Place.{tokensFrom, Behind, begins, Passing, Absent}
-use Rattle.text_terms.specs.Chain.{Opens, NoChain, Closes, Unclosed, ChainFormed, ChainAt, ClosedBy, EndsInside}
+use Rattle.text_terms.specs.Chain.{Opens, NoChain, Closes, Unclosed, ChainFormed, ChainAt, ClosedBy, EndsInside, PackedSmall}
 use Rattle.text_places.proofs.Places.{behind-behind, absent, past-absent, letter-capital}
 
 -- what a chain begins with: a letter and `[`, a letter alone, and neither a letter nor `u`
@@ -72,14 +73,22 @@ chain-closed s k x {l = l} o (Chain y i) (Chain z last) h q = record {
       ∙ ap (λ (f : Form (List ℕ)). then f (λ ls r. past closeSquare r (formed (l ∷ ls)))) (h .form-is)
       ∙ ap (λ (r : List S.Token). past closeSquare r (formed (l ∷ h .letters))) (q .1 .text);
   letters-are = q .0 ∙ h .letters-are;
+  small = rw (q .0) (h .small);
   behind = behind-behind (o .behind) (behind-behind (h .behind) (q .1 .behind));
 }
 
 -- `u` alone
-pub chain-alone : (s : Sizes) (k : ℕ) (x : Letters) {due : Bool} {line : List ℕ} {at end : ℕ} → Passing due false own line at end
-    → ChainFormed s k x due line at x end
+pub chain-alone : (s : Sizes) (k : ℕ) (x : Letters) {due : Bool} {line : List ℕ} {at end : ℕ} → x .packed < 9007199254740992
+    → Passing due false own line at end → ChainFormed s k x due line at x end
 unfolding steps
-chain-alone s k x w = record { letters = []; form-is = ap chainForm (w .text) ∙ chain-own _; letters-are = refl; behind = w .behind }
+chain-alone s k x h w = record { letters = []; form-is = ap chainForm (w .text) ∙ chain-own _; letters-are = refl; small = h; behind = w .behind }
+
+-- few hops are packed into a number that has a code
+pub hops-small : (k n : ℕ) → k ≤ 16 → n + 5 ≤ 5 * 8 ^ (16 - k) → n < 9007199254740992
+hops-small k n h few =
+    let less : 16 - k ≤ 16 = omega arith in
+    let p : 8 ^ (16 - k) ≤ 8 ^ 16 = pow-le-pow-right (omega arith) less in
+    omega (arith, few, p)
 
 -- where there is no room, nothing more is packed
 pub step-kept : (s : Sizes) {k : ℕ} (x : Letters) (l : ℕ) → k ≡ 0 → step s k x l .packed ≡ x .packed
@@ -90,6 +99,10 @@ pub chain-inside : (s : Sizes) (k : ℕ) (x : Letters) (due : Bool) (line : List
     r
 chain-inside s k x due line at NoForm h = tt
 chain-inside s k x due line at (Chain y end) h = h .behind .inside
+
+pub chain-small : (s : Sizes) (k : ℕ) (x : Letters) (due : Bool) (line : List ℕ) (at : ℕ) (r : ChainRead) → ChainAt s k x due line at r → PackedSmall r
+chain-small s k x due line at NoForm h = tt
+chain-small s k x due line at (Chain y end) h = h .small
 
 -- `]` once more
 pub record Closing (n : ℕ) (line : List ℕ) (at left i : ℕ) : Type 0 where
@@ -177,11 +190,12 @@ module _ {s : Sizes} {x : Letters} {line : List ℕ} {at : ℕ} {seen : Letters}
         ∙ chain-within (w .opened) _
         ∙ ap (λ (n : ℕ). closedChain n (w .opened) (tokensFrom false line end)) (sym (w .hops-are))
 
-    pub opening-closed : {last : ℕ} → Closes hops line end last → ChainFormed s 0 x false line at seen last
-    opening-closed q = record {
+    pub opening-closed : {last : ℕ} → x .packed < 9007199254740992 → Closes hops line end last → ChainFormed s 0 x false line at seen last
+    opening-closed h q = record {
       letters = w .opened;
       form-is = within ∙ q .text (w .opened);
       letters-are = w .letters-are;
+      small = rw (w .packed) h;
       behind = record { onward = omega (arith, w .few, u .behind .onward, q .onward); inside = q .inside };
     }
 

@@ -38,11 +38,11 @@ use Rattle.text_terms.specs.declared.chains.ChainRead.the-variants.{Chai
 use Rattle.text_places.specs.Place.{tokensFrom, Behind, Passing}
 use Rattle.text_terms.specs.Chain.{Opens, NoChain, ChainFormed, ChainAt}
 use Rattle.text_terms.specs.Term.{chainParts, numberParts, chainTerm, ChainTerm, ChainPartsAt, TermFormed, NoTerm}
-use Rattle.text_codes.specs.Coded.{kindOf, numberOf, packedOf, partsOf}
+use Rattle.text_codes.specs.Coded.{termCode, partsOf}
 
 -- the parts of a chain and of a number
 chain-parts : (s : Sizes) (ls : List ℕ) (b : Bool) → b ≡ isReferenceTerm (chain ls) → chainParts (summary s ls) b ≡ partsOf s (chain ls)
-unfolding summary partsOf kindOf numberOf packedOf termNamed termKinded termShort termInRange
+unfolding summary partsOf termCode termNamed termKinded termShort termInRange
 chain-parts s ls b h = rw (h, at-most 16 (length ls))
   where
     at-most : (k n : ℕ) → not (ltb k n) ≡ leb n k
@@ -53,7 +53,7 @@ chain-parts s ls b h = rw (h, at-most 16 (length ls))
         go false e = sym (le-leb n k (ltb-false k n e))
 
 number-parts : (s : Sizes) (negative : Bool) (x : Numeral) → numberParts (sumOf (numberValue negative x)) ≡ partsOf s (number negative x)
-unfolding partsOf kindOf numberOf packedOf termNamed termKinded termShort termInRange isReferenceTerm sumOf
+unfolding partsOf termCode termNamed termKinded termShort termInRange isReferenceTerm sumOf
 number-parts s negative x = go (inRange (numberValue negative x)) refl
   where
     go : (y : Bool) → inRange (numberValue negative x) ≡ y → numberParts (sumOf (numberValue negative x)) ≡ partsOf s (number negative x)
@@ -73,7 +73,8 @@ chain-formed {s} b w h = record {
 pub own-chain : {s : Sizes} {due : Bool} {line : List ℕ} {at end : ℕ} → Passing due false S.own line at end
     → ChainTerm s due line at (chainParts start true) end
 unfolding isReferenceTerm steps
-own-chain w = chain-formed true (record { letters = []; form-is = ap chainForm (w .text) ∙ chain-own _; letters-are = refl; behind = w .behind }) refl
+own-chain w = chain-formed true
+    (record { letters = []; form-is = ap chainForm (w .text) ∙ chain-own _; letters-are = refl; small = omega arith; behind = w .behind }) refl
 
 -- the kind of a chain is that of its first letter
 letter-kind : (ts : List S.Token) (ls : List ℕ) {l : ℕ} {r q : List S.Token} → chainForm ts ≡ formed ls r → ts ≡ S.letter l ∷ q

@@ -1,5 +1,5 @@
 -- What the reader of chains answers, by the tokens from a place on.
-use Prim.Native.Nat.{ℕ, _≤_}
+use Prim.Native.Nat.{ℕ, _≤_, _<_}
 use mathlib.Core.Path.{_≡_}
 use mathlib.Core.Bool.{Bool, true, false}
 use mathlib.Core.List.{List, _∷_}
@@ -54,6 +54,7 @@ pub record ChainFormed (s : Sizes) (k : ℕ) (x : Letters) (due : Bool) (line : 
   pub letters : List ℕ
   pub form-is : chainForm (tokensFrom due line at) ≡ formed letters (tokensFrom false line end)
   pub letters-are : y ≡ steps s k x letters
+  pub small : y .packed < 9007199254740992
   pub behind : Behind line at end
 
 -- a chain stands there, or none
@@ -65,6 +66,11 @@ ChainAt s k x due line at NoForm = NoChain due line at
 abbrev pub EndsInside : List ℕ → ChainRead → Type 0
 EndsInside line (Chain y end) = end ≤ length line
 EndsInside line NoForm = Unit {0}
+
+-- what is packed of a chain, of whatever letters, has a code
+abbrev pub PackedSmall : ChainRead → Type 0
+PackedSmall (Chain y end) = y .packed < 9007199254740992
+PackedSmall NoForm = Unit {0}
 
 -- an inner chain with `]` behind it
 abbrev pub ClosedAt : List ℕ → Letters → ℕ → ChainRead → Type 0

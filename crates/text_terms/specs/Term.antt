@@ -8,6 +8,7 @@ use Rattle.register.specs.declared.Sizes.{Sizes}
 use Rattle.integers.specs.declared.Sum.{Sum}
 use Rattle.integers.specs.declared.Sum.the-variants.{InRange, OutOfRange}
 use Rattle.chain_text.specs.declared.letters.Letters.{Letters}
+use Rattle.program.specs.Code.{chainCode, numberCode}
 use Rattle.text_syntax.specs.Form.{formed, unformed}
 use Rattle.text_syntax.specs.Written.{Term, chain, number}
 use Rattle.text_syntax.specs.Grammar.{chainForm, termForm}
@@ -23,9 +24,7 @@ use Rattle.text_terms.specs.Chain.{NoChain}
 -- a chain's code by what is known of its letters, and whether it is a reference
 abbrev pub chainParts : Letters → Bool → TermParts
 chainParts x reference = record {
-  kind = 0;
-  number = pos 0;
-  packed = x .packed;
+  code = chainCode (x .packed);
   named = x .named;
   kinded = x .kinded;
   reference = reference;
@@ -35,7 +34,7 @@ chainParts x reference = record {
 
 -- a number's code, in range or not: 0 stands for one that is out of range
 abbrev pub plainParts : ℤ → Bool → TermParts
-plainParts z ranged = record { kind = 1; number = z; packed = 0; named = true; kinded = true; reference = false; short = true; ranged = ranged }
+plainParts z ranged = record { code = numberCode z; named = true; kinded = true; reference = false; short = true; ranged = ranged }
 
 abbrev pub numberParts : Sum → TermParts
 numberParts (InRange z) = plainParts z true

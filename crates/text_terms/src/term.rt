@@ -1,11 +1,11 @@
 // The terms of a line: chains and numbers.
 ghost use mathlib.Core.Path.{_≡_};
 ghost use mathlib.Core.Bool.{true};
-ghost use Prim.Native.Nat.{_≤_};
+ghost use Prim.Native.Nat.{_≤_, _<_};
 ghost use lib.ListN.{length};
 ghost use Rattle.register.specs.Shape.{Limits};
 ghost use Rattle.integers.specs.Range.{sumOf};
-ghost use Rattle.text_terms.specs.Chain.{NoChain};
+ghost use Rattle.text_terms.specs.Chain.{NoChain, PackedSmall};
 ghost use Rattle.text_terms.specs.Term.{chainParts, chainTerm, plainParts, numberParts, ChainPartsAt, TermAt};
 use crate::chains;
 use crate::chains::ChainRead;
@@ -13,6 +13,7 @@ use crate::chains::Link;
 use chain_text::letters;
 use chain_text::letters::Letters;
 use integers::Sum;
+use program::code;
 use register::Sizes;
 use text_codes::code::TermParts;
 use text_lexer::lexer;
@@ -25,12 +26,11 @@ pub enum TermRead {
 }
 
 fn chain_parts(letters: Letters, reference: bool) -> TermParts
+    requires { ⌜ letters .packed < 9007199254740992 ⌝ }
     ensures { λ r. ⌜ r ≡ chainParts letters reference ⌝ }
 {
     TermParts {
-        kind: 0,
-        number: 0,
-        packed: letters.packed,
+        code: code::of_chain(letters.packed),
         named: letters.named,
         kinded: letters.kinded,
         reference,
@@ -41,6 +41,7 @@ fn chain_parts(letters: Letters, reference: bool) -> TermParts
 
 // A chain's answer as a term's, by the kind of its outermost letter.
 fn chain_term(read: ChainRead, reference: bool) -> TermRead
+    requires { ⌜ PackedSmall read ⌝ }
     ensures { λ r. ⌜ r ≡ chainTerm read reference ⌝ }
 {
     let ChainRead::Chain(letters, end) = read else {
@@ -54,9 +55,7 @@ fn plain_parts(number: i32, ranged: bool) -> TermParts
     ensures { λ r. ⌜ r ≡ plainParts number ranged ⌝ }
 {
     TermParts {
-        kind: 1,
-        number,
-        packed: 0,
+        code: code::of_number(number),
         named: true,
         kinded: true,
         reference: false,

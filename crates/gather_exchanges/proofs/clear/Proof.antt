@@ -14,19 +14,10 @@ Inv-loop values₀ marks₀ places j₀ values marks j = (j ≤ places) × Clear
 abbrev μ-loop : tie.MeasureT-loop
 μ-loop values₀ marks₀ places j₀ values marks j = places - j
 
-loop-holds : tie.Need-loop-holds Inv-loop μ-loop
-loop-holds c = (omega arith, clear-none _ _)
-
 put-reading-requires : tie.Need-put-reading-requires Inv-loop μ-loop
 put-reading-requires c κs =
     let l = c .before .before .before in
     (omega (arith, l .loop .inv .1 .values-length), omega (arith, l .loop .inv .1 .marks-length))
-
-add-j : tie.Need-add-j Inv-loop μ-loop
-add-j c = omega arith
-
-loop-less : tie.Need-loop-less Inv-loop μ-loop
-loop-less c = omega arith
 
 loop-again : tie.Need-loop-again Inv-loop μ-loop
 loop-again c =
@@ -34,12 +25,6 @@ loop-again c =
     let l = p .before .before .before .before in
     let put = p .put-reading .ensures in
     (omega arith, rw (put .0, put .1) (clear-next _ _ (l .loop .j) (omega arith) (omega arith) (l .loop .inv .1) (put .2)))
-
-same-length : tie.Need-same-length Inv-loop μ-loop
-same-length c = c .before .loop .inv .1 .values-length
-
-same-length-2 : tie.Need-same-length-2 Inv-loop μ-loop
-same-length-2 c = c .before .loop .inv .1 .marks-length
 
 returns : tie.Need-returns Inv-loop μ-loop
 returns c =
@@ -53,11 +38,11 @@ clear-spec =
     (tie.spec
     Inv-loop
     μ-loop
-    loop-holds
+    (λ c. (omega arith, clear-none _ _))
     put-reading-requires
-    add-j
-    loop-less
+    (λ c. omega arith)
+    (λ c. omega arith)
     loop-again
-    same-length
-    same-length-2
+    (λ c. c .before .loop .inv .1 .values-length)
+    (λ c. c .before .loop .inv .1 .marks-length)
     returns)

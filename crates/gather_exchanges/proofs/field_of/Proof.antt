@@ -8,8 +8,7 @@ use Rattle.plan_theory.specs.Plan.{word}
 use Rattle.plan_keys.specs.Keys.{factOf}
 use Rattle.plan_keys.proofs.Keys.{hops-long, hops-short}
 use Rattle.machine_messages.specs.Held.{needed}
-use Rattle.gather_exchanges.proofs.Held.{needed-one, needed-rest}
-use Rattle.gather_exchanges.proofs.Sending.{field-some, field-is}
+use Rattle.gather_exchanges.proofs.Held.{needed-one, needed-rest, field-some, field-is}
 use Rattle.gather_exchanges.proofs.field_of.Statement.{statement}
 use Rattle.gather_exchanges.proofs.field_of.Tie as tie
 
@@ -22,35 +21,14 @@ rest-word c =
     c .chain-of2 .ensures ∙ ap word (c .before .needs-of .ensures .read-is)
     ∙ sym (needed-rest _ (hops-long _ (omega (arith, c .before .before .if1 .left))))
 
-chain-of-requires : tie.Need-chain-of-requires
-chain-of-requires c κs = search needs
-
-first-hop-requires : tie.Need-first-hop-requires
-first-hop-requires c κs = field-some _ _ (c .before .before .pre .0) (own-word c)
-
-returns : tie.Need-returns
-returns c = field-is _ _ (c .before .before .before .pre .0) (own-word (c .before)) (c .first-hop .ensures)
-
-needs-of-requires : tie.Need-needs-of-requires
-needs-of-requires c κs = (hops-long _ (omega (arith, c .if1 .left)), c .before .pre .1)
-
-chain-of-requires-2 : tie.Need-chain-of-requires-2
-chain-of-requires-2 c κs = search needs
-
-first-hop-requires-2 : tie.Need-first-hop-requires-2
-first-hop-requires-2 c κs = field-some _ _ (c .before .before .before .pre .0) (rest-word c)
-
-returns-2 : tie.Need-returns-2
-returns-2 c = field-is _ _ (c .before .before .before .before .pre .0) (rest-word (c .before)) (c .first-hop2 .ensures)
-
 pub field-of-spec : {M : Type 1} → statement M
 field-of-spec =
     tie.close
     (tie.spec
-    chain-of-requires
-    first-hop-requires
-    returns
-    needs-of-requires
-    chain-of-requires-2
-    first-hop-requires-2
-    returns-2)
+    (λ c κs. search needs)
+    (λ c κs. field-some _ _ (own-word c) (c .before .before .pre .0))
+    (λ c. field-is _ _ (own-word (c .before)) (c .first-hop .ensures))
+    (λ c κs. (hops-long _ (omega (arith, c .if1 .left)), c .before .pre .1))
+    (λ c κs. search needs)
+    (λ c κs. field-some _ _ (rest-word c) (c .before .before .before .pre .0))
+    (λ c. field-is _ _ (rest-word (c .before)) (c .first-hop2 .ensures)))

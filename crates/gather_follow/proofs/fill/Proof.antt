@@ -34,30 +34,6 @@ start c = c .before .before .before .before .before
 abbrev at : tie.In-loop Inv-loop μ-loop → ℕ
 at c = c .before .loop .i
 
-loop-holds : tie.Need-loop-holds Inv-loop μ-loop
-loop-holds c = (omega arith, plan-none _ _ _ _ _ _)
-
-element-copy-out-if1 : tie.Need-element-copy-out-if1 Inv-loop μ-loop
-element-copy-out-if1 c = omega arith
-
-mul-line : tie.Need-mul-line Inv-loop μ-loop
-mul-line c = omega arith
-
-element-copy-out-line : tie.Need-element-copy-out-line Inv-loop μ-loop
-element-copy-out-line c = omega arith
-
-kind-of-requires : tie.Need-kind-of-requires Inv-loop μ-loop
-kind-of-requires c κs = search needs
-
-enum-told : tie.Need-enum-told Inv-loop μ-loop
-enum-told c = search needs
-
-enum-told-2 : tie.Need-enum-told-2 Inv-loop μ-loop
-enum-told-2 c = search needs
-
-chain-of-requires : tie.Need-chain-of-requires Inv-loop μ-loop
-chain-of-requires c κs = search needs
-
 -- the line that is looked at, by its kind and word
 this-line : (c : tie.In-loop Inv-loop μ-loop) {k : Kind} {w : List ℕ} → let fact = factOf (getD (now (start c .args .keys)) (at c) 0) in
     k ≡ kind fact → w ≡ word fact → line (factsIn (now (start c .args .keys)) (start c .args .count)) (at c) ≡ kindFact k w
@@ -83,12 +59,6 @@ fill-line-requires c κs =
       omega (arith, room, inv .marks-length),
     )
 
-add-i : tie.Need-add-i Inv-loop μ-loop
-add-i c = omega arith
-
-loop-less : tie.Need-loop-less Inv-loop μ-loop
-loop-less c = omega arith
-
 -- one more line is filled, or has no reading that is wanted
 filled : (c : tie.Joined1 Inv-loop μ-loop) → let b = c .before .before in
     Filled (start b .args .sizes) (cellsOf (now (start b .args .cells)) (now (start b .args .filled))) (factsIn (now (start b .args .keys)) (start b .args .count))
@@ -103,15 +73,6 @@ filled c =
     (λ w. rw (w .1, w .2) (plan-unwanted _ _ _ _ _ _ (at b) so-far (w .0 .left))))
     (c .if1 .came)
 
-loop-again : tie.Need-loop-again Inv-loop μ-loop
-loop-again c = (omega arith, filled c)
-
-same-length : tie.Need-same-length Inv-loop μ-loop
-same-length c = c .before .loop .inv .1 .values-length
-
-same-length-2 : tie.Need-same-length-2 Inv-loop μ-loop
-same-length-2 c = c .before .loop .inv .1 .marks-length
-
 returns : tie.Need-returns Inv-loop μ-loop
 returns c =
     let l = c .before .loop in
@@ -124,18 +85,18 @@ fill-spec =
     (tie.spec
     Inv-loop
     μ-loop
-    loop-holds
-    element-copy-out-if1
-    mul-line
-    element-copy-out-line
-    kind-of-requires
-    enum-told
-    enum-told-2
-    chain-of-requires
+    (λ c. (omega arith, plan-none _ _ _ _ _ _))
+    (λ c. omega arith)
+    (λ c. omega arith)
+    (λ c. omega arith)
+    (λ c κs. search needs)
+    (λ c. search needs)
+    (λ c. search needs)
+    (λ c κs. search needs)
     fill-line-requires
-    add-i
-    loop-less
-    loop-again
-    same-length
-    same-length-2
+    (λ c. omega arith)
+    (λ c. omega arith)
+    (λ c. (omega arith, filled c))
+    (λ c. c .before .loop .inv .1 .values-length)
+    (λ c. c .before .loop .inv .1 .marks-length)
     returns)

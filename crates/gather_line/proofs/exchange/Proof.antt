@@ -8,7 +8,7 @@ use borrow.Author.Needs.{needs}
 use denote.Ref.{now}
 use Rattle.register.specs.Cells.{cellsOf}
 use Rattle.chain.specs.declared.reading.Reading.{Reading}
-use Rattle.gather_line.specs.Written.{messageAt, LineSent}
+use Rattle.gather_line.specs.Written.{placesOf, messageAt, LineSent}
 use Rattle.gather_line.proofs.Writing.{read-kept, back-kept, message-kept, line-none, line-next}
 use Rattle.gather_line.proofs.Sent.{sent-le, line-below}
 use Rattle.gather_line.proofs.exchange.Statement.{statement}
@@ -16,17 +16,11 @@ use Rattle.gather_line.proofs.exchange.Tie as tie
 
 abbrev Inv-loop : tie.InvT-loop
 Inv-loop cells filled values₀ marks₀ sizes i back read field first sent₀ u₀ u-end values marks sent u =
-    let message = messageAt sizes (cellsOf cells filled) values₀ marks₀ back read field in
+    let message = messageAt sizes (cellsOf cells filled) (placesOf sizes values₀ marks₀) back read field in
     (u ≤ u-end) × LineSent sizes message i u values₀ marks₀ values marks sent
 
 abbrev μ-loop : tie.MeasureT-loop
 μ-loop cells filled values₀ marks₀ sizes i back read field first sent₀ u₀ u-end values marks sent u = u-end - u
-
-mul-first : tie.Need-mul-first Inv-loop μ-loop
-mul-first c = record { fits = omega arith }
-
-loop-holds : tie.Need-loop-holds Inv-loop μ-loop
-loop-holds c = (omega arith, line-none _ _ _ _ _)
 
 message-requires : tie.Need-message-requires Inv-loop μ-loop
 message-requires c κs =
@@ -50,34 +44,22 @@ start c = at c .before .before .before .before .before
 abbrev messageOf : tie.After-message Inv-loop μ-loop → ℕ → Reading
 messageOf c =
     let a = start c .args in
-    messageAt (a .sizes) (cellsOf (now (a .cells)) (now (a .filled))) (now (a .values)) (now (a .marks)) (a .back) (a .read) (a .field)
+    messageAt (a .sizes) (cellsOf (now (a .cells)) (now (a .filled))) (placesOf (a .sizes) (now (a .values)) (now (a .marks))) (a .back) (a .read) (a .field)
 
 message-is : (c : tie.After-message Inv-loop μ-loop) → c .message .result ≡ messageOf c (at c .loop .u)
 message-is c =
     let r = start c .pre .1 in
     c .message .ensures ∙ message-kept _ _ _ _ _ _ (at c .loop .inv .1 .before) _ _ _ _ _ (r .back-before) (r .read-before) (r .back-held) (omega arith)
 
-is-sent-requires : tie.Need-is-sent-requires Inv-loop μ-loop
-is-sent-requires c κs = search needs
-
 add-sent : tie.Need-add-sent Inv-loop μ-loop
 add-sent c =
     let m = c .before in
     record { fits = omega (arith, line-below _ _ _ (at m .loop .inv .1 .messages), sent-le (m .message .result), c .is-sent .ensures) }
 
-add-put-reading : tie.Need-add-put-reading Inv-loop μ-loop
-add-put-reading c = omega arith
-
 put-reading-requires : tie.Need-put-reading-requires Inv-loop μ-loop
 put-reading-requires c κs =
     let l = c .before .before .before .before .before .before .before in
     (omega (arith, l .loop .inv .1 .values-length), omega (arith, l .loop .inv .1 .marks-length))
-
-add-u : tie.Need-add-u Inv-loop μ-loop
-add-u c = omega arith
-
-loop-less : tie.Need-loop-less Inv-loop μ-loop
-loop-less c = omega arith
 
 loop-again : tie.Need-loop-again Inv-loop μ-loop
 loop-again c =
@@ -89,12 +71,6 @@ loop-again c =
     let put = p .put-reading .ensures in
     let next = line-next _ _ _ _ _ u _ _ (omega arith) (r .values-room) (r .marks-room) (at m .loop .inv .1) (message-is m) (put .2) (k .is-sent .ensures) in
     (omega arith, rw (put .0, put .1) next)
-
-same-length : tie.Need-same-length Inv-loop μ-loop
-same-length c = c .before .loop .inv .1 .values-length
-
-same-length-2 : tie.Need-same-length-2 Inv-loop μ-loop
-same-length-2 c = c .before .loop .inv .1 .marks-length
 
 returns : tie.Need-returns Inv-loop μ-loop
 returns c =
@@ -108,16 +84,16 @@ exchange-spec =
     (tie.spec
     Inv-loop
     μ-loop
-    mul-first
-    loop-holds
+    (λ c. record { fits = omega arith })
+    (λ c. (omega arith, line-none _ _ _ _ _))
     message-requires
-    is-sent-requires
+    (λ c κs. search needs)
     add-sent
-    add-put-reading
+    (λ c. omega arith)
     put-reading-requires
-    add-u
-    loop-less
+    (λ c. omega arith)
+    (λ c. omega arith)
     loop-again
-    same-length
-    same-length-2
+    (λ c. c .before .loop .inv .1 .values-length)
+    (λ c. c .before .loop .inv .1 .marks-length)
     returns)

@@ -11,23 +11,19 @@ read-cell-requires c κs =
     let s = c .before .before .before .before in
     (s .pre .0, s .pre .1, s .pre .2 .own (c .if1 .taken))
 
-returns : tie.Need-returns
-returns c = c .read-cell .ensures ∙ known-own _ _ _ _ _ _ _ (c .before .if1 .taken)
-
-mul-read-at : tie.Need-mul-read-at
-mul-read-at c = record { fits = omega (arith, c .before .before .before .before .before .pre .2 .line (c .before .if1 .left) .values-room) }
-
-add-read-at : tie.Need-add-read-at
-add-read-at c = record { fits = omega (arith, c .before .before .before .before .before .pre .2 .line (c .before .if1 .left) .values-room) }
-
 read-at-requires : tie.Need-read-at-requires
 read-at-requires c κs =
     let s = c .before .before .before .before .before in
     let held = s .pre .2 .line (c .before .if1 .left) in
     (omega (arith, held .values-room), omega (arith, held .marks-room), held .fits (s .args .v) (s .pre .1))
 
-returns-2 : tie.Need-returns-2
-returns-2 c = c .read-at .ensures ∙ known-told _ _ _ _ _ _ _ (c .before .before .if1 .left)
-
 pub known-spec : {M : Type 1} → statement M
-known-spec = tie.close (tie.spec read-cell-requires returns mul-read-at add-read-at read-at-requires returns-2)
+known-spec =
+    tie.close
+    (tie.spec
+    read-cell-requires
+    (λ c. c .read-cell .ensures ∙ known-own _ _ _ _ _ _ (c .before .if1 .taken))
+    (λ c. record { fits = omega (arith, c .before .before .before .before .before .pre .2 .line (c .before .if1 .left) .values-room) })
+    (λ c. record { fits = omega (arith, c .before .before .before .before .before .pre .2 .line (c .before .if1 .left) .values-room) })
+    read-at-requires
+    (λ c. c .read-at .ensures ∙ known-told _ _ _ _ _ _ (c .before .before .if1 .left)))

@@ -16,15 +16,6 @@ writer-requires c κs =
     let s = c .before .before .before in
     (s .pre .0 .limits .records≤, s .pre .1, s .pre .2)
 
-enum-known-number : tie.Need-enum-known-number
-enum-known-number c = search needs
-
-enum-told : tie.Need-enum-told
-enum-told c = search needs
-
-returns : tie.Need-returns
-returns c = message-none _ _ _ _ _ _ _ _ (sym (c .enum-told .given .1) ∙ c .before .before .writer .ensures)
-
 -- the writer's number is an index
 number-index : (c : tie.After-known-told) → let z = c .before .number .given .0 .0 in
     T (nonNeg z) × (natAbs z < c .before .before .before .before .before .before .before .args .sizes .records)
@@ -32,9 +23,6 @@ number-index c =
     let w = c .before .before .before in
     let s = w .before .before .before .before in
     writer-index (s .args .u) _ (s .pre .2) (s .pre .1) (sym (c .before .number .given .1) ∙ w .writer .ensures)
-
-index-requires : tie.Need-index-requires
-index-requires c κs = rw (kept _ (c .known-told .given .0 .1)) (number-index c .0)
 
 index-is : (c : tie.After-index) → c .index .result ≡ natAbs (c .before .before .number .given .0 .0)
 index-is c = c .index .ensures ∙ ap natAbs (kept (c .before .before .number .given .0 .0) (c .before .known-told .given .0 .1))
@@ -47,7 +35,16 @@ known-requires c κs =
 returns-2 : tie.Need-returns-2
 returns-2 c =
     let n = c .before .before .before in
-    c .known .ensures ∙ message-by _ _ _ _ _ _ _ _ _ (sym (n .number .given .1) ∙ n .before .before .writer .ensures) (index-is (c .before))
+    c .known .ensures ∙ message-by _ _ _ _ _ _ _ _ (sym (n .number .given .1) ∙ n .before .before .writer .ensures) (index-is (c .before))
 
 pub message-spec : {M : Type 1} → statement M
-message-spec = tie.close (tie.spec writer-requires enum-known-number enum-told returns index-requires known-requires returns-2)
+message-spec =
+    tie.close
+    (tie.spec
+    writer-requires
+    (λ c. search needs)
+    (λ c. search needs)
+    (λ c. message-none _ _ _ _ _ _ _ (sym (c .enum-told .given .1) ∙ c .before .before .writer .ensures))
+    (λ c κs. rw (kept _ (c .known-told .given .0 .1)) (number-index c .0))
+    known-requires
+    returns-2)

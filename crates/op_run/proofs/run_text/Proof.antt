@@ -1,7 +1,8 @@
 -- `op_run::run_text` meets its contract: the check, what is asked of the buffers, then the run over a copy of the register.
 -- Assumes nothing.
-use Prim.Native.Nat.{_≤_}
+use Prim.Native.Nat.{ℕ, _≤_}
 use mathlib.Core.Path.{_≡_, refl, sym, ap, _∙_}
+use mathlib.Core.List.{List}
 use native.Mathlib.Omega.{arith}
 use borrow.Author.Needs.{needs}
 use denote.Ref.{now}
@@ -13,7 +14,6 @@ use Rattle.register.proofs.Roundtrip.{Bytes}
 use Rattle.program.specs.Program.{Program, mostLines}
 use Rattle.text_rules.specs.Text.{check}
 use Rattle.text_reader.proofs.Reading.{refuse-none}
-use Rattle.program.specs.Code.{Codes, codesKept}
 use Rattle.program.specs.Kept.{programOf, Complete}
 use Rattle.program.specs.declared.Program as R
 use Rattle.op_check.proofs.Checks.{answered-refused, answered-program}
@@ -35,27 +35,27 @@ outcome e = let a = e .args in directRun (now (a .file)) (now (a .text)) (a .bud
 -- the text passed
 module _ (c : tie.Else1) where
   abbrev was-read : tie.After-read
-  was-read = c .before .before .before .before .before .before
+  was-read = c .before .before .before
 
   abbrev entry : tie.Start
-  entry = was-read .before .before .before .before .before .before .before .before .before
+  entry = was-read .before .before .before .before .before .before
 
   abbrev kept : R.Program
   kept = was-read .read .result .program
 
-  abbrev codes : Codes
-  codes = let l = was-read .read .last in codesKept (l .1 .1 .0) (l .1 .1 .1 .0) (l .1 .1 .1 .1 .0)
+  abbrev codes : List ℕ
+  codes = was-read .read .last .1 .1 .0
 
   abbrev program : Program
   program = programOf codes kept
 
   bytes : Bytes (now (entry .args .file))
-  bytes i = let f = was-read .before .before .before .before .before .before .before .before .shared-slice-known .given i in f .fits
+  bytes i = let f = was-read .before .before .before .before .before .shared-slice-known .given i in f .fits
 
   checked : check (now (entry .args .file)) (now (entry .args .text)) ≡ done program
   checked = answered-program (was-read .read .ensures) (c .if1 .left)
 
-  complete : Complete codes (was-read .read .last .1 .1 .1 .1 .1 .0) kept
+  complete : Complete codes kept
   complete = was-read .read .ensures .complete (c .if1 .left)
 
   line-limit : kept .lines ≤ 64
@@ -93,7 +93,7 @@ module _ (c : tie.Else2) where
 -- the run over the copy
 module _ (c : tie.After-run-program) where
   abbrev ready : tie.Else2
-  ready = c .before .before .before .before .before .before .before .before
+  ready = c .before .before .before .before .before
 
   ended : let x = first (asked ready) in let a = entry x .args in
       Ends (a .machine) (sizesOf (now (a .file))) (program x) (a .budget) (now (a .file)) (c .run-program .last .0) (c .run-program .result)
@@ -101,28 +101,10 @@ module _ (c : tie.After-run-program) where
       let x = first (asked ready) in
       over-copy (program x) (entry x .args .budget) (sized (asked ready) .sizes-of .ensures) (copied ready) (c .run-program .ensures)
 
-slice-aggregate-read : tie.Need-slice-aggregate-read
-slice-aggregate-read c = search needs
-
-slice-aggregate-read-2 : tie.Need-slice-aggregate-read-2
-slice-aggregate-read-2 c = search needs
-
-slice-aggregate-read-3 : tie.Need-slice-aggregate-read-3
-slice-aggregate-read-3 c = search needs
-
-slice-aggregate-read-4 : tie.Need-slice-aggregate-read-4
-slice-aggregate-read-4 c = search needs
-
-read-requires : tie.Need-read-requires
-read-requires c κs = search needs
-
-refused-requires : tie.Need-refused-requires
-refused-requires c κs = search needs
-
 returns : tie.Need-returns
 returns c =
-    let r = c .before .before .before .before .before .before .before in
-    let a = r .before .before .before .before .before .before .before .before .before .args in
+    let r = c .before .before .before .before in
+    let a = r .before .before .before .before .before .before .args in
     refused-answered (a .machine) (now (a .file)) (now (a .out)) (now (a .values)) (now (a .marks)) _ _
     (run-refused _ _ _ _ (answered-refused (r .read .ensures) (c .before .if1 .taken)))
     (record { answer-is = c .refused .ensures; out-same = refl; values-same = refl; marks-same = refl })
@@ -135,18 +117,6 @@ ready-requires c κs =
     let z = c .before .before .before .before in
     (rw (z .sizes-of .ensures) (limits _ (loaded _ _ (checked (z .before)) .within)), line-limit (z .before))
 
-refused-requires-2 : tie.Need-refused-requires-2
-refused-requires-2 c κs = search needs
-
-same-length : tie.Need-same-length
-same-length c = search needs
-
-same-length-2 : tie.Need-same-length-2
-same-length-2 c = search needs
-
-same-length-3 : tie.Need-same-length-3
-same-length-3 c = search needs
-
 returns-2 : tie.Need-returns-2
 returns-2 c =
     let t = c .before in
@@ -156,21 +126,9 @@ returns-2 c =
     refused-answered (a .machine) (now (a .file)) (now (a .out)) (now (a .values)) (now (a .marks)) _ _ (by-lengths q ∙ refuse-none _ _ _ (t .if2 .taken))
     (record { answer-is = c .refused2 .ensures; out-same = unready-untouched r (t .if2 .taken); values-same = r .values-same; marks-same = r .marks-same })
 
-slice-aggregate-run-program : tie.Need-slice-aggregate-run-program
-slice-aggregate-run-program c = search needs
-
-slice-aggregate-run-program-2 : tie.Need-slice-aggregate-run-program-2
-slice-aggregate-run-program-2 c = search needs
-
-slice-aggregate-run-program-3 : tie.Need-slice-aggregate-run-program-3
-slice-aggregate-run-program-3 c = search needs
-
-slice-aggregate-run-program-4 : tie.Need-slice-aggregate-run-program-4
-slice-aggregate-run-program-4 c = search needs
-
 run-program-requires : tie.Need-run-program-requires
 run-program-requires c κs =
-    let e = c .before .before .before .before .before .before .before in
+    let e = c .before .before .before .before in
     let x = first (asked e) in
     let a = entry x .args in
     let r = readied (asked e) in
@@ -186,15 +144,6 @@ restore-requires c κs =
     let g = c .before .before .before .before .before .before in
     sym (g .run-program .kept .0 ∙ ap length (copied (ready g)))
 
-same-length-4 : tie.Need-same-length-4
-same-length-4 c = search needs
-
-same-length-5 : tie.Need-same-length-5
-same-length-5 c = search needs
-
-same-length-6 : tie.Need-same-length-6
-same-length-6 c = search needs
-
 returns-3 : tie.Need-returns-3
 returns-3 c =
     let z = c .before .before in
@@ -207,28 +156,6 @@ returns-3 c =
 pub run-text-spec : {M : Type 1} → statement M
 run-text-spec =
     tie.close
-    (tie.spec
-    slice-aggregate-read
-    slice-aggregate-read-2
-    slice-aggregate-read-3
-    slice-aggregate-read-4
-    read-requires
-    refused-requires
-    returns
-    sizes-of-requires
-    ready-requires
-    refused-requires-2
-    same-length
-    same-length-2
-    same-length-3
-    returns-2
-    slice-aggregate-run-program
-    slice-aggregate-run-program-2
-    slice-aggregate-run-program-3
-    slice-aggregate-run-program-4
-    run-program-requires
-    restore-requires
-    same-length-4
-    same-length-5
-    same-length-6
-    returns-3)
+    (tie.spec (λ c. search needs) (λ c κs. search needs) (λ c κs. search needs) returns sizes-of-requires ready-requires (λ c κs. search needs) (λ c. search needs)
+    (λ c. search needs) (λ c. search needs) returns-2 (λ c. search needs) run-program-requires restore-requires (λ c. search needs) (λ c. search needs)
+    (λ c. search needs) returns-3)

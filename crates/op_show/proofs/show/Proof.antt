@@ -6,7 +6,7 @@ use borrow.Author.Needs.{needs}
 use denote.Ref.{now}
 use Rattle.plan_theory.specs.Plan.{lastRound}
 use Rattle.plan_lines.specs.Held.{factsIn}
-use Rattle.gather_exchanges.proofs.Planned.{planned-lines, planned-followable, planned-count, planned-rounds, planned-last}
+use Rattle.gather_exchanges.proofs.Planned.{planned-lines, planned-count, planned-rounds}
 use Rattle.op_show.proofs.Showing.{parts-cells, parts-valid, shown}
 use Rattle.op_show.proofs.show.Statement.{statement}
 use Rattle.op_show.proofs.show.Tie as tie
@@ -22,24 +22,6 @@ module _ (c : tie.After-clear) where
   last-is : let a = start .args in last-known .last-round .result ≡ lastRound (factsIn (now (a .keys)) (a .count))
   last-is = last-known .last-round .ensures .last-is _ (planned-count (start .pre .2)) (planned-rounds (start .pre .2))
 
-values-part-requires : tie.Need-values-part-requires
-values-part-requires c κs = search needs
-
-marks-part-requires : tie.Need-marks-part-requires
-marks-part-requires c κs = search needs
-
-last-round-requires : tie.Need-last-round-requires
-last-round-requires c κs = search needs
-
-exchanges-requires : tie.Need-exchanges-requires
-exchanges-requires c κs = search needs
-
-mul-clear : tie.Need-mul-clear
-mul-clear c = search needs
-
-clear-requires : tie.Need-clear-requires
-clear-requires c κs = search needs
-
 exchange-to-requires : tie.Need-exchange-to-requires
 exchange-to-requires c κs =
     let x = c .before .before .before .before .before in
@@ -51,27 +33,18 @@ exchange-to-requires c κs =
       k .1,
       record {
         lines = planned-lines (pre .2);
-        follow = planned-followable (pre .2);
         values-room = omega (arith, x .clear .ensures .values-length);
         marks-room = omega (arith, x .clear .ensures .marks-length);
       },
     )
 
-same-length : tie.Need-same-length
-same-length c = search needs
-
-same-length-2 : tie.Need-same-length-2
-same-length-2 c = search needs
-
 returns : tie.Need-returns
 returns c =
     let x = c .before .before .before .before .before .before .before .before .before in
     let a = start x .args in
-    let p = start x .pre .2 in
+    let pre = start x .pre in
     let r = last-known x .before in
-    shown (planned-count p) (x .before .before .before .before .exchanges .ensures)
-    (λ i h. omega (arith, planned-last p i h, last-is x))
-    (x .clear .ensures)
+    shown (pre .2) (pre .0) (x .before .before .before .before .exchanges .ensures) (last-is x) (x .clear .ensures)
     (rw (parts-cells (a .sizes) (now (a .file)) (r .before .values-part .ensures) (r .marks-part .ensures)) at
     (c .before .before .before .exchange-to .ensures))
 
@@ -79,13 +52,13 @@ pub show-spec : {M : Type 1} → statement M
 show-spec =
     tie.close
     (tie.spec
-    values-part-requires
-    marks-part-requires
-    last-round-requires
-    exchanges-requires
-    mul-clear
-    clear-requires
+    (λ c κs. search needs)
+    (λ c κs. search needs)
+    (λ c κs. search needs)
+    (λ c κs. search needs)
+    (λ c. search needs)
+    (λ c κs. search needs)
     exchange-to-requires
-    same-length
-    same-length-2
+    (λ c. search needs)
+    (λ c. search needs)
     returns)

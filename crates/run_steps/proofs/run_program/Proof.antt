@@ -9,7 +9,7 @@ use Rattle.run_steps.proofs.run_program.Tie as tie
 
 -- the ways back: to the entry, and to where the working cells have begun
 abbrev entry : tie.After-struct-known3 → tie.Start
-entry c = c .before .before .before .before .before .before .before .before .before .before .before
+entry c = c .before .before .before .before .before .before .before .before .before
 
 abbrev begun : tie.After-run-steps-arg3 → tie.After-begin
 begun c = c .before .before .before .before .before .before .before .before
@@ -18,7 +18,7 @@ at≤ : (c : tie.Start) → c .args .program .lines * c .args .sizes .records �
 at≤ c = lines-end (c .args .sizes) (c .pre .1 .lines≤) (c .pre .0 .valid .limits .records≤)
 
 mul-at : tie.Need-mul-at
-mul-at c = record { fits = omega (arith, at≤ (c .before .before .before .before .before .before .before)) }
+mul-at c = record { fits = omega (arith, at≤ (c .before .before .before .before .before)) }
 
 add-begin : tie.Need-add-begin
 add-begin c = record { fits = omega (arith, at≤ (entry c), entry c .pre .0 .valid .limits .records≤) }
@@ -47,27 +47,7 @@ run-steps-requires c κs =
       cells .0,
     )
 
-same-length : tie.Need-same-length
-same-length c = search needs
-
-same-length-2 : tie.Need-same-length-2
-same-length-2 c = search needs
-
-same-length-3 : tie.Need-same-length-3
-same-length-3 c = search needs
-
-returns : tie.Need-returns
-returns c = search needs
-
 pub run-program-spec : {M : Type 1} → statement M
 run-program-spec =
     tie.close
-    (tie.spec
-    mul-at
-    add-begin
-    begin-requires
-    run-steps-requires
-    same-length
-    same-length-2
-    same-length-3
-    returns)
+    (tie.spec mul-at add-begin begin-requires run-steps-requires (λ c. search needs) (λ c. search needs) (λ c. search needs) (λ c. search needs))

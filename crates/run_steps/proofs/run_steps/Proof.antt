@@ -13,7 +13,6 @@ use lib.ListN.{length, take, getD}
 use Rattle.register.specs.File.{cellsOfFile}
 use Rattle.program.specs.declared.frame.Frame.{Frame}
 use Rattle.program.specs.declared.Program as R
-use Rattle.program.specs.Code.{codesKept}
 use Rattle.program.specs.Kept.{stepsIn, programOf}
 use Rattle.step_cells.specs.Work.{Same}
 use Rattle.step_cells.proofs.Working.{same-then}
@@ -26,7 +25,7 @@ use Rattle.run_steps.proofs.Standing.{lines-end, scratch-behind, stands
 use Rattle.run_steps.proofs.Arrays.{noFrame}
 use Rattle.run_steps.proofs.Turn.{Held, held-anew, held-still, plain-more, Turn, base, limits, out-whole, out-length, at-step, few-steps, few-rules, setting-passes}
 use Rattle.run_steps.proofs.Turn.{taken-first, taken-more, column-space, planned, lines-values, lines-marks, Prepared, rules-fit}
-use Rattle.run_steps.proofs.Turn.{values-length, marks-length, Applied, room-still, ready-still, rule-ready, small-still}
+use Rattle.run_steps.proofs.Turn.{values-length, marks-length, Applied, room-still, ready-still, rule-ready, rule-agrees, small-still}
 use Rattle.run_steps.proofs.Done.{Done, done-remote, done-local, ready, turn-stands, turn-nearer}
 use Rattle.run_steps.specs.Answer.{inArrays}
 use Rattle.run_turn.proofs.Turning.{not-both, sends-nowhere}
@@ -37,41 +36,41 @@ use Rattle.run_steps.proofs.run_steps.Tie as tie
 
 -- the first k rules of the step are taken out, and it is seen whether they are plain
 abbrev Inv-loop2 : tie.InvT-loop2
-Inv-loop2 out values marks sizes kinds numbers chains places steps lines machine budget slots frames at base rules₀ frame plain₀ taken run step k₀ k-end rules plain k =
+Inv-loop2 out values marks sizes codes steps lines machine budget slots frames at base rules₀ frame plain₀ taken run step k₀ k-end rules plain k =
     Taken slots step (frame .rules) rules k × AllPlain plain (take k rules)
 
 abbrev μ-loop2 : tie.MeasureT-loop2
-μ-loop2 out values marks sizes kinds numbers chains places steps lines machine budget slots frames at base rules₀ frame plain₀ taken run step k₀ k-end rules plain k = frame .rules - k
+μ-loop2 out values marks sizes codes steps lines machine budget slots frames at base rules₀ frame plain₀ taken run step k₀ k-end rules plain k = frame .rules - k
 
 -- the first k rules are done at record u
 abbrev Inv-loop3 : tie.InvT-loop3
-Inv-loop3 out values₀ marks₀ sizes kinds numbers chains places steps lines machine budget slots frames at base rules frame plain taken run step setting used begun stop₀ u k₀ u-end
-    values marks stop k = RulesDone sizes (cellsOfFile sizes out) base (codesKept kinds numbers chains) rules used u values₀ marks₀ values marks stop k
+Inv-loop3 out values₀ marks₀ sizes codes steps lines machine budget slots frames at base rules frame plain taken run step setting used begun stop₀ u k₀ u-end
+    values marks stop k = RulesDone sizes (cellsOfFile sizes out) base codes rules used u values₀ marks₀ values marks stop k
 
 abbrev μ-loop3 : tie.MeasureT-loop3
-μ-loop3 out values₀ marks₀ sizes kinds numbers chains places steps lines machine budget slots frames at base rules frame plain taken run step setting used begun stop₀ u k₀ u-end
+μ-loop3 out values₀ marks₀ sizes codes steps lines machine budget slots frames at base rules frame plain taken run step setting used begun stop₀ u k₀ u-end
     values marks stop k = used - k
 
 -- all rules are done at the records below u
 abbrev Inv-records : tie.InvT-records
-Inv-records out values₀ marks₀ sizes kinds numbers chains places steps lines machine budget slots frames at base rules frame plain taken run step setting used begun stop₀ u₀ u-end
-    values marks stop u = RecordsDone sizes (cellsOfFile sizes out) base (codesKept kinds numbers chains) rules used values₀ marks₀ values marks stop u
+Inv-records out values₀ marks₀ sizes codes steps lines machine budget slots frames at base rules frame plain taken run step setting used begun stop₀ u₀ u-end
+    values marks stop u = RecordsDone sizes (cellsOfFile sizes out) base codes rules used values₀ marks₀ values marks stop u
 
 abbrev μ-records : tie.MeasureT-records
-μ-records out values₀ marks₀ sizes kinds numbers chains places steps lines machine budget slots frames at base rules frame plain taken run step setting used begun stop₀ u₀ u-end
+μ-records out values₀ marks₀ sizes codes steps lines machine budget slots frames at base rules frame plain taken run step setting used begun stop₀ u₀ u-end
     values marks stop u = sizes .records - u
 
 -- how far the run has come, the arrays have the lengths that they had, and the frame and rules of step `taken` are held, where that is
 -- a step
 abbrev Inv-loop : tie.InvT-loop
-Inv-loop out₀ values₀ marks₀ sizes kinds numbers chains places steps lines machine budget slots frames at base rules₀ frame₀ plain₀ taken₀ run₀
+Inv-loop out₀ values₀ marks₀ sizes codes steps lines machine budget slots frames at base rules₀ frame₀ plain₀ taken₀ run₀
     out values marks rules frame plain taken run =
-    StandsBy machine sizes (stepsIn (codesKept kinds numbers chains) slots (take steps frames)) at budget out₀ run out values marks
+    StandsBy machine sizes (stepsIn codes slots (take steps frames)) at budget out₀ run out values marks
     × (length rules ≡ 32) × (length out ≡ length out₀) × (length values ≡ length values₀) × (length marks ≡ length marks₀)
     × (taken < steps → Held slots frames taken frame rules plain)
 
 abbrev μ-loop : tie.MeasureT-loop
-μ-loop out₀ values₀ marks₀ sizes kinds numbers chains places steps lines machine budget slots frames at base rules₀ frame₀ plain₀ taken₀ run₀
+μ-loop out₀ values₀ marks₀ sizes codes steps lines machine budget slots frames at base rules₀ frame₀ plain₀ taken₀ run₀
     out values marks rules frame plain taken run = turns budget run
 
 -- a state of the function, or a need, with these invariants and measures
@@ -86,11 +85,11 @@ abbrev Entry : Type 0
 Entry = Of tie.Start
 
 abbrev entry : Of tie.After-struct-known → Entry
-entry c = c .before .before .before .before .before .before
+entry c = c .before .before .before .before
 
--- the program: its arrays `slots` and `frames` are passed as t9 and t10
+-- the program: its arrays `slots` and `frames` are passed as t6 and t7
 abbrev kept : Entry → R.Program
-kept e = inArrays (e .args .t9) (e .args .t10) (e .args .steps) (e .args .lines)
+kept e = inArrays (e .args .t6) (e .args .t7) (e .args .steps) (e .args .lines)
 
 -- the head of the loop over the steps
 abbrev Top : Type 0
@@ -235,7 +234,7 @@ module _ (c : Turning) where
 
   abbrev TurnOf : Frame → Type 0
   TurnOf f = Turn (e .args .machine) (e .args .sizes)
-      (codesKept (now (e .args .kinds)) (now (e .args .numbers)) (now (e .args .chains))) (now (e .args .places))
+      (now (e .args .codes))
       (kept e) (e .args .budget) (now (e .args .out)) (top c .loop .run) (top c .loop .out) (top c .loop .values) (top c .loop .marks) f
 
   more : top c .loop .run .step < e .args .steps
@@ -385,17 +384,21 @@ mul-apply-plain c = record { fits = omega (arith, at-hand (ruling c)) }
 array-copy-out-apply-plain : Of tie.Need-array-copy-out-apply-plain
 array-copy-out-apply-plain c = omega (arith, at-hand (ruling c))
 
+-- what stands below the working cells is as it was gathered
+same-here : (r : Ruling) → Same (base (turn (holdingOfRuling r))) (begun (records r) .begin .last .1 .0) (begun (records r) .begin .last .1 .1 .0)
+    (r .before .loop3 .values) (r .before .loop3 .marks)
+same-here r = same-then (records r .records .inv .same) (r .before .loop3 .inv .done .same)
+
 apply-plain-requires : Of tie.Need-apply-plain-requires
 apply-plain-requires c κs =
     let r = ruling (c .before) in
     let g = begun (records r) in
     let h = holdingOfRuling r in
     let t = turn h in
-    let same = same-then (records r .records .inv .same) (r .before .loop3 .inv .done .same) in
     let inside : r .before .loop3 .k < length (h .if2 .rules) = omega (arith, at-hand r, held h .rules-are .length-is) in (
-      (limits t, out-whole t, r .before .before .records-test .taken, room-still (prepared g) same),
-      plain-ready (plain-at (codesKept [] [] []) _ _ _ inside (r .loop3-test .taken) (held h .plain-are) (c .before .before .before .before .if3 .taken))
-          (rule-ready (prepared g) same _ _ (r .loop3-test .taken)),
+      (limits t, out-whole t, r .before .before .records-test .taken, room-still (prepared g) (same-here r)),
+      plain-ready (plain-at [] _ _ _ inside (r .loop3-test .taken) (held h .plain-are) (c .before .before .before .before .if3 .taken))
+          (rule-ready (prepared g) (same-here r) _ _ (r .loop3-test .taken)),
     )
 
 mul-apply-rule : Of tie.Need-mul-apply-rule
@@ -408,10 +411,9 @@ apply-rule-requires : Of tie.Need-apply-rule-requires
 apply-rule-requires c κs =
     let r = rulingCoded (c .before) in
     let g = begun (records r) in
-    let t = turn (holdingOfRuling r) in
-    let same = same-then (records r .records .inv .same) (r .before .loop3 .inv .done .same) in (
-      (limits t, out-whole t, r .before .before .records-test .taken, room-still (prepared g) same),
-      rule-ready (prepared g) same _ _ (r .loop3-test .taken),
+    let t = turn (holdingOfRuling r) in (
+      (limits t, out-whole t, r .before .before .records-test .taken, room-still (prepared g) (same-here r)),
+      rule-ready (prepared g) (same-here r) _ _ (r .loop3-test .taken),
     )
 
 enum-told : Of tie.Need-enum-told
@@ -431,8 +433,12 @@ loop3-less c = nearer (rulingOfRuled c .loop3-test .taken)
 loop3-again : Of tie.Need-loop3-again
 loop3-again c =
     let r = rulingOfRuled c in
-    rules-next (r .before .loop3 .inv) (r .loop3-test .taken) (rules-fit (prepared (begun (records r)))) (c .enum-told2 .given .1) _
-    (⊎-elim (λ w. local-as _ _ _ _ _ _ _ (w .9) (w .10) (w .11) (w .5 .ensures _)) (λ w. local-as _ _ _ _ _ _ _ (w .9) (w .10) (w .11) (w .5 .ensures)) (c .before .before .if3 .came)) (omega arith)
+    let b = prepared (begun (records r)) in
+    rules-next (r .before .loop3 .inv) (r .loop3-test .taken) (rules-fit b) (c .enum-told2 .given .1) _
+    (⊎-elim
+    (λ w. local-as _ _ _ _ _ _ _ (w .9) (w .10) (w .11) (w .5 .ensures _ _ (rule-agrees b (same-here r) _ _ (r .loop3-test .taken) _ (r .before .before .records-test .taken))))
+    (λ w. local-as _ _ _ _ _ _ _ (w .9) (w .10) (w .11) (w .5 .ensures _ (rule-agrees b (same-here r) _ _ (r .loop3-test .taken) _ (r .before .before .records-test .taken))))
+    (c .before .before .if3 .came)) (omega arith)
 
 add-u : Of tie.Need-add-u
 add-u c =
@@ -457,7 +463,10 @@ applied c =
     (λ w. left-behind i (w .0 .left) (w .1) (w .2) (w .3))
     (λ w.
     left-within i (w .0 .taken) (w .1 .inv) (w .2 .taken) (rules-fit b) (w .5 .given .1) (w .6) (w .7) (w .8) _
-    (⊎-elim (λ v. local-as _ _ _ _ _ _ _ (v .9) (v .10) (v .11) (v .5 .ensures _)) (λ v. local-as _ _ _ _ _ _ _ (v .9) (v .10) (v .11) (v .5 .ensures)) (w .3 .came)))
+    (⊎-elim
+    (λ v. local-as _ _ _ _ _ _ _ (v .9) (v .10) (v .11) (v .5 .ensures _ _ (rule-agrees b (same-then (i .same) (w .1 .inv .done .same)) _ _ (w .2 .taken) _ (w .0 .taken))))
+    (λ v. local-as _ _ _ _ _ _ _ (v .9) (v .10) (v .11) (v .5 .ensures _ (rule-agrees b (same-then (i .same) (w .1 .inv .done .same)) _ _ (w .2 .taken) _ (w .0 .taken))))
+    (w .3 .came)))
     (c .records-test .came)
 
 -- The remote writes, where there are any and no local sum is out of range.
@@ -474,7 +483,7 @@ apply-requires c κs =
     let t = turn h in
     let all = l .all (sends-nowhere _ _ (sym (s .sends .ensures) ∙ c .before .before .before .if4 .taken)) in (
       (limits t, out-whole t, room-still b (l .same), few-rules t, b .taken .length-is),
-      ((ready-still b (l .same), all .in-range), (small-still b (l .same) all, held h .plain-are)),
+      (ready-still b (l .same), (small-still b (l .same) all, held h .plain-are)),
     )
 
 -- all rules are done, remote ones too: `w` has what is known behind the call, or that there are none

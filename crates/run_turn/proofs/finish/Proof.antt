@@ -31,44 +31,11 @@ committed c = c .before .before
 abbrev committedOf : tie.After-enum-told4 → tie.After-commit
 committedOf c = committed (c .before .before)
 
-enum-told : tie.Need-enum-told
-enum-told c = search needs
-
-stopped-requires : tie.Need-stopped-requires
-stopped-requires c κs = search needs
-
-returns : tie.Need-returns
-returns c = stops-before (c .before .enum-told .given .1) refl (c .stopped .ensures)
-
-enum-told-2 : tie.Need-enum-told-2
-enum-told-2 c = search needs
-
-add-commit : tie.Need-add-commit
-add-commit c = let r = at-end (c .before .before) in record { fits = omega (arith, r .room .base≤) }
-
-commit-requires : tie.Need-commit-requires
-commit-requires c κs = let r = at-end (c .before .before) in (r .limits, r .whole, r .room, r .proper)
-
-enum-told-3 : tie.Need-enum-told-3
-enum-told-3 c = search needs
-
-stopped-requires-2 : tie.Need-stopped-requires-2
-stopped-requires-2 c κs = search needs
-
-same-length : tie.Need-same-length
-same-length c = search needs
-
 returns-2 : tie.Need-returns-2
 returns-2 c =
     let told = c .before in
     let done = committed (told .before .before) in
     stops-total _ (local done .enum-told2 .given .1) (done .commit .ensures) (told .enum-told3 .given .1) (c .stopped2 .ensures)
-
-enum-told-4 : tie.Need-enum-told-4
-enum-told-4 c = search needs
-
-count-requires : tie.Need-count-requires
-count-requires c κs = at-end (local (committedOf c)) .counts-small
 
 next-requires : tie.Need-next-requires
 next-requires c κs =
@@ -87,9 +54,6 @@ add-t25 c =
     let r = at-end (local (committedOf (c .before .before .before .before))) in
     record { fits = omega (arith, r .few-finished) }
 
-same-length-2 : tie.Need-same-length-2
-same-length-2 c = search needs
-
 returns-3 : tie.Need-returns-3
 returns-3 c =
     let counted = c .before .before .before in
@@ -102,5 +66,19 @@ pub finish-spec : {M : Type 1} → statement M
 finish-spec =
     tie.close
     (tie.spec
-    enum-told stopped-requires returns enum-told-2 add-commit commit-requires enum-told-3 stopped-requires-2 same-length returns-2 enum-told-4
-    count-requires next-requires add-t25 same-length-2 returns-3)
+    (λ c. search needs)
+    (λ c κs. search needs)
+    (λ c. stops-before (c .before .enum-told .given .1) refl (c .stopped .ensures))
+    (λ c. search needs)
+    (λ c. let r = at-end (c .before .before) in record { fits = omega (arith, r .room .base≤) })
+    (λ c κs. let r = at-end (c .before .before) in (r .limits, r .whole, r .room, r .proper))
+    (λ c. search needs)
+    (λ c κs. search needs)
+    (λ c. search needs)
+    returns-2
+    (λ c. search needs)
+    (λ c κs. at-end (local (committedOf c)) .counts-small)
+    next-requires
+    add-t25
+    (λ c. search needs)
+    returns-3)

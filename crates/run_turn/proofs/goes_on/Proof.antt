@@ -8,9 +8,6 @@ use Rattle.run_turn.proofs.Turning.{not-both}
 use Rattle.run_turn.proofs.goes_on.Statement.{statement}
 use Rattle.run_turn.proofs.goes_on.Tie as tie
 
-enum-told : tie.Need-enum-told
-enum-told c = search needs
-
 -- the run has stopped
 returns : tie.Need-returns
 returns c = record {
@@ -19,9 +16,6 @@ returns c = record {
   left = λ t. true-false t refl;
   ends = λ f n l. not-both n (c .enum-told .given .1);
 }
-
-enum-told-2 : tie.Need-enum-told-2
-enum-told-2 c = search needs
 
 -- the budget is spent
 returns-2 : tie.Need-returns-2
@@ -42,4 +36,4 @@ returns-3 c = record {
 }
 
 pub goes-on-spec : {M : Type 1} → statement M
-goes-on-spec = tie.close (tie.spec enum-told returns enum-told-2 returns-2 returns-3)
+goes-on-spec = tie.close (tie.spec (λ c. search needs) returns (λ c. search needs) returns-2 returns-3)

@@ -10,7 +10,7 @@ use types.Run.{OneOf}
 use Rattle.program.specs.declared.rule.Rule.{Rule}
 use Rattle.program.proofs.rule.Rule.{the-type}
 use Rattle.program.specs.declared.rule.Rule.the-variants.{Set, Combine, Remote}
-use Rattle.program.specs.Program.{isRemote}
+use Rattle.program.specs.Program.{isRemote, targetField}
 use Rattle.program.specs.Stored.{targetIn, expressionIn}
 use Rattle.machine.specs.Remote.{sentBy}
 use Rattle.step_effects.specs.Answers.{messagesIn}
@@ -19,9 +19,6 @@ use Rattle.step_plain.proofs.Doing.{send-unheld, send-held}
 use borrow.Author.Needs.{needs}
 use Rattle.step_plain.proofs.message_of.Statement.{statement}
 use Rattle.step_plain.proofs.message_of.Tie as tie
-
-enum-known-rule : tie.Need-enum-known-rule
-enum-known-rule c = search needs
 
 -- a rule of the first two variants is a local one
 local : (r : Rule) → OneOf (0 ∷ 1 ∷ []) (tagOf the-type r) → isRemote (targetIn r) ≡ false
@@ -32,30 +29,27 @@ local (Remote k f c x) h = absurd (⊎-elim (λ e. omega arith) (λ e. omega ari
 
 returns : tie.Need-returns
 unfolding messagesIn
-returns c k = send-local _ _ _ (local _ (c .match .keys2))
-
-holds-requires : tie.Need-holds-requires
-holds-requires c κs = search needs
+returns c = (tt, λ codes read agrees. send-local _ _ _ (local _ (c .match .keys2)))
 
 returns-2 : tie.Need-returns-2
 unfolding messagesIn
-returns-2 c k = send-unheld _ _ _ (c .before .holds .ensures k) (c .if1 .taken)
+returns-2 c = (tt, λ codes read agrees. send-unheld _ _ _ (c .before .holds .ensures codes read (agrees .0)) (c .if1 .taken))
 
 send-requires : tie.Need-send-requires
-unfolding targetIn
 send-requires c κs =
     let r = c .before .before .before in
     let p = r .before .before .before .before .before .before .pre in
-    let found = rw (r .rule .given .1) at (p .0 .2 .rule) in
-    ((p .0 .0, p .0 .1, found), rw (r .rule .given .1) at (p .1))
+    ((p .0 .0, p .0 .1, rw (r .rule .given .1) at (p .0 .2 .rule)), rw (r .rule .given .1) at (p .1))
 
 returns-3 : tie.Need-returns-3
-unfolding targetIn expressionIn sentBy
-returns-3 c k =
+unfolding targetIn expressionIn sentBy targetField
+returns-3 c =
     let e = c .before in
-    let r = e .before .before .before in
-    c .send .ensures k ∙ send-held _ _ _ (e .before .holds .ensures k) (e .if1 .left) (r .rule .given .1)
+    let is = e .before .before .before .rule .given .1 in (
+      rw is (c .send .ensures .0),
+      λ codes read agrees.
+          c .send .ensures .1 codes read (rw is at (agrees .1)) ∙ send-held _ _ _ (e .before .holds .ensures codes read (agrees .0)) (e .if1 .left) is,
+    )
 
 pub message-of-spec : {M : Type 1} → statement M
-message-of-spec =
-    tie.close (tie.spec enum-known-rule returns holds-requires returns-2 send-requires returns-3)
+message-of-spec = tie.close (tie.spec (λ c. search needs) returns (λ c κs. search needs) returns-2 send-requires returns-3)

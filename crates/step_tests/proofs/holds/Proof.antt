@@ -7,12 +7,6 @@ use borrow.Author.Needs.{needs}
 use Rattle.step_tests.proofs.holds.Statement.{statement}
 use Rattle.step_tests.proofs.holds.Tie as tie
 
-enum-told : tie.Need-enum-told
-enum-told c = search needs
-
-enum-known-test : tie.Need-enum-known-test
-enum-known-test c = search needs
-
 term-value-requires : tie.Need-term-value-requires
 term-value-requires c κs =
     let s = c .before .before .before .before .before .before in
@@ -23,27 +17,19 @@ term-value-requires-2 c κs =
     let s = c .before .before .before .before .before .before .before in
     (s .pre .0, s .pre .1, (rw (c .before .before .test .given .1) at (s .pre .2)) .1)
 
-compare-readings-requires : tie.Need-compare-readings-requires
-compare-readings-requires c κs = search needs
-
 returns : tie.Need-returns
 unfolding testIn holds
-returns c k = rw (c .enum-told .given .1)
+returns c codes read agrees = rw (c .enum-told .given .1)
 
 returns-2 : tie.Need-returns-2
 unfolding testIn holds
-returns-2 c k =
-    rw (c .before .before .before .before .test .given .1)
-    (c .compare-readings .ensures ∙ ap₂ (compareReadings _) (c .before .before .term-value .ensures k) (c .before .term-value2 .ensures k))
+returns-2 c codes read agrees =
+    let is = c .before .before .before .before .test .given .1 in
+    let a = rw is at agrees in
+    rw is
+    (c .compare-readings .ensures
+    ∙ ap₂ (compareReadings _) (c .before .before .term-value .ensures codes read (a .0)) (c .before .term-value2 .ensures codes read (a .1)))
 
 pub holds-spec : {M : Type 1} → statement M
 holds-spec =
-    tie.close
-    (tie.spec
-    enum-told
-    enum-known-test
-    term-value-requires
-    term-value-requires-2
-    compare-readings-requires
-    returns
-    returns-2)
+    tie.close (tie.spec (λ c. search needs) (λ c. search needs) term-value-requires term-value-requires-2 (λ c κs. search needs) returns returns-2)

@@ -14,23 +14,8 @@ use Rattle.text_joins.specs.declared.Reading.the-variants.{Read, NoForm,
 use Rattle.text_joins.proofs.close_group.Statement.{statement}
 use Rattle.text_joins.proofs.close_group.Tie as tie
 
-enum-known-inner : tie.Need-enum-known-inner
-enum-known-inner c = search needs
-
 mark-requires : tie.Need-mark-requires
 mark-requires c κs = (subst (EndInside _) (c .before .inner .given .1) (c .before .before .before .before .pre), omega arith, omega arith)
-
-enum-known-end : tie.Need-enum-known-end
-enum-known-end c = search needs
-
-enum-told : tie.Need-enum-told
-enum-told c = search needs
-
-enum-told-2 : tie.Need-enum-told-2
-enum-told-2 c = search needs
-
-enum-told-3 : tie.Need-enum-told-3
-enum-told-3 c = search needs
 
 returns : tie.Need-returns
 unfolding operandBehind
@@ -56,14 +41,5 @@ returns-4 c = subst (λ (x : Reading). GroupedBy (now (c .before .before .before
 pub close-group-spec : {M : Type 1} → statement M
 close-group-spec =
     tie.close
-    (tie.spec
-    enum-known-inner
-    mark-requires
-    enum-known-end
-    enum-told
-    enum-told-2
-    enum-told-3
-    returns
-    returns-2
-    returns-3
-    returns-4)
+    (tie.spec (λ c. search needs) mark-requires (λ c. search needs) (λ c. search needs) (λ c. search needs) (λ c. search needs) returns returns-2
+    returns-3 returns-4)

@@ -10,58 +10,35 @@ use Rattle.text_joins.specs.declared.Joining.the-variants.{Done}
 use Rattle.text_joins.proofs.joined.Statement.{statement}
 use Rattle.text_joins.proofs.joined.Tie as tie
 
-enum-known-read : tie.Need-enum-known-read
-enum-known-read c = search needs
-
 put-sign-requires : tie.Need-put-sign-requires
-put-sign-requires c κs = (
-  subst (ReadyFor _ _) (c .before .before .read .given .1) (c .before .before .before .before .before .before .pre .0) .2,
-  c .before .before .before .before .before .before .pre .1,
-)
+put-sign-requires c κs = subst (ReadyFor _ _) (c .before .before .read .given .1) (c .before .before .before .before .before .before .pre) .2
 
 next-element-requires : tie.Need-next-element-requires
 next-element-requires c κs = let r = subst (ReadyFor _ _) (c .before .before .before .before .before .read .given .1)
-    (c .before .before .before .before .before .before .before .before .before .pre .0) in (r .0, r .1)
-
-enum-told : tie.Need-enum-told
-enum-told c = search needs
-
-enum-told-2 : tie.Need-enum-told-2
-enum-told-2 c = search needs
-
-same-length : tie.Need-same-length
-same-length c = search needs
+    (c .before .before .before .before .before .before .before .before .before .pre) in (r .0, r .1)
 
 returns : tie.Need-returns
 returns c =
     let a = c .before .before .before .before .before .before .before .before .before .before .args in
     let p = c .before .before .before .put-sign in
-    subst (λ (x : Reading). JoinedBy (rankOf (a .sums)) (now (a .line)) (now (a .kinds)) (p .last .0) (a .kind) x (c .next-element .result))
+    subst (λ (x : Reading). JoinedBy (rankOf (a .sums)) (now (a .line)) (now (a .codes)) (p .last .0) (a .sign) x (c .next-element .result))
     (sym (c .before .before .before .before .before .before .read .given .1))
-    (record { codes = p .result; put = p .ensures; next = c .next-element .ensures })
+    (record { used = p .result; put = p .ensures; next = c .next-element .ensures })
 
 returns-2 : tie.Need-returns-2
 returns-2 c =
     let a = c .before .before .before .before .args in
-    subst (λ (x : Reading). JoinedBy (rankOf (a .sums)) (now (a .line)) (now (a .kinds)) (now (a .kinds)) (a .kind) x (Done NoForm))
+    subst (λ (x : Reading). JoinedBy (rankOf (a .sums)) (now (a .line)) (now (a .codes)) (now (a .codes)) (a .sign) x (Done NoForm))
     (sym (c .enum-told .given .1)) refl
 
 returns-3 : tie.Need-returns-3
 returns-3 c =
     let a = c .before .before .before .before .args in
-    subst (λ (x : Reading). JoinedBy (rankOf (a .sums)) (now (a .line)) (now (a .kinds)) (now (a .kinds)) (a .kind) x (Done Deep))
+    subst (λ (x : Reading). JoinedBy (rankOf (a .sums)) (now (a .line)) (now (a .codes)) (now (a .codes)) (a .sign) x (Done Deep))
     (sym (c .enum-told2 .given .1)) refl
 
 pub joined-spec : {M : Type 1} → statement M
 joined-spec =
     tie.close
-    (tie.spec
-    enum-known-read
-    put-sign-requires
-    next-element-requires
-    enum-told
-    enum-told-2
-    same-length
-    returns
-    returns-2
+    (tie.spec (λ c. search needs) put-sign-requires next-element-requires (λ c. search needs) (λ c. search needs) (λ c. search needs) returns returns-2
     returns-3)

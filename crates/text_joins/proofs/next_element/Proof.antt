@@ -10,9 +10,6 @@ use Rattle.text_joins.proofs.next_element.Tie as tie
 ranked-requires : tie.Need-ranked-requires
 ranked-requires c κs = c .before .pre .0
 
-enum-known-sign : tie.Need-enum-known-sign
-enum-known-sign c = search needs
-
 with-operator-requires : tie.Need-with-operator-requires
 with-operator-requires c κs =
     let r = subst (RankedAt _ _ _) (c .before .sign .given .1) (c .before .before .before .ranked .ensures) in
@@ -24,19 +21,13 @@ with-operator-requires c κs =
       c .before .before .before .before .before .good,
     )
 
-kind-of-requires : tie.Need-kind-of-requires
-kind-of-requires c κs = search needs
-
-enum-told : tie.Need-enum-told
-enum-told c = search needs
-
 returns : tie.Need-returns
 returns c = record {
   sign = _;
   ranked = subst (RankedAt _ _ _) (c .before .before .before .sign .given .1) (c .before .before .before .before .before .ranked .ensures);
   gathered = c .before .with-operator .ensures;
-  codes-are = refl;
-  kind-is = c .kind-of .ensures;
+  used-is = refl;
+  sign-is = c .of-operator .ensures;
 }
 
 returns-2 : tie.Need-returns-2
@@ -44,17 +35,10 @@ returns-2 c = record {
   none = subst (RankedAt _ _ _) (c .enum-told .given .1) (c .before .before .ranked .ensures);
   gathered = refl;
   end-is = refl;
-  codes-are = refl;
+  used-is = refl;
 }
 
 pub next-element-spec : {M : Type 1} → statement M
 next-element-spec =
     tie.close
-    (tie.spec
-    ranked-requires
-    enum-known-sign
-    with-operator-requires
-    kind-of-requires
-    enum-told
-    returns
-    returns-2)
+    (tie.spec ranked-requires (λ c. search needs) with-operator-requires (λ c κs. search needs) (λ c. search needs) returns returns-2)

@@ -8,16 +8,10 @@ use Rattle.text_joins.specs.Join.{RankedAt, rankOf}
 use Rattle.text_joins.proofs.ranked.Statement.{statement}
 use Rattle.text_joins.proofs.ranked.Tie as tie
 
-sum-sign-requires : tie.Need-sum-sign-requires
-sum-sign-requires c κs = search needs
-
 returns : tie.Need-returns
 returns c =
     let a = c .before .before .before .args in
     subst (λ (b : Bool). RankedAt (rankOf b) (now (a .line)) (a .at) (c .sum-sign .result)) (sym (c .before .if1 .taken)) (c .sum-sign .ensures)
-
-smaller-sign-requires : tie.Need-smaller-sign-requires
-smaller-sign-requires c κs = search needs
 
 returns-2 : tie.Need-returns-2
 returns-2 c =
@@ -25,4 +19,4 @@ returns-2 c =
     subst (λ (b : Bool). RankedAt (rankOf b) (now (a .line)) (a .at) (c .smaller-sign .result)) (sym (c .before .if1 .left)) (c .smaller-sign .ensures)
 
 pub ranked-spec : {M : Type 1} → statement M
-ranked-spec = tie.close (tie.spec sum-sign-requires returns smaller-sign-requires returns-2)
+ranked-spec = tie.close (tie.spec (λ c κs. search needs) returns (λ c κs. search needs) returns-2)

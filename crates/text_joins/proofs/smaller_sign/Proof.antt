@@ -9,20 +9,8 @@ use Rattle.text_joins.proofs.Ranks.{ranked-none, ranked-other}
 use Rattle.text_joins.proofs.smaller_sign.Statement.{statement}
 use Rattle.text_joins.proofs.smaller_sign.Tie as tie
 
-operator-requires : tie.Need-operator-requires
-operator-requires c κs = search needs
-
-enum-known-sign : tie.Need-enum-known-sign
-enum-known-sign c = search needs
-
-enum-told : tie.Need-enum-told
-enum-told c = search needs
-
 returns : tie.Need-returns
 returns c = ranked-none isSmaller (subst (PassesOperator _ _) (c .enum-told .given .1) (c .before .before .operator .ensures))
-
-is-sum-requires : tie.Need-is-sum-requires
-is-sum-requires c κs = search needs
 
 returns-2 : tie.Need-returns-2
 unfolding isSmaller
@@ -39,4 +27,4 @@ returns-3 c = record {
 }
 
 pub smaller-sign-spec : {M : Type 1} → statement M
-smaller-sign-spec = tie.close (tie.spec operator-requires enum-known-sign enum-told returns is-sum-requires returns-2 returns-3)
+smaller-sign-spec = tie.close (tie.spec (λ c κs. search needs) (λ c. search needs) (λ c. search needs) returns (λ c κs. search needs) returns-2 returns-3)

@@ -8,20 +8,8 @@ use Rattle.text_joins.proofs.Ranks.{ranked-none, ranked-other}
 use Rattle.text_joins.proofs.sum_sign.Statement.{statement}
 use Rattle.text_joins.proofs.sum_sign.Tie as tie
 
-operator-requires : tie.Need-operator-requires
-operator-requires c κs = search needs
-
-enum-known-sign : tie.Need-enum-known-sign
-enum-known-sign c = search needs
-
-enum-told : tie.Need-enum-told
-enum-told c = search needs
-
 returns : tie.Need-returns
 returns c = ranked-none isSum (subst (PassesOperator _ _) (c .enum-told .given .1) (c .before .before .operator .ensures))
-
-is-sum-requires : tie.Need-is-sum-requires
-is-sum-requires c κs = search needs
 
 returns-2 : tie.Need-returns-2
 returns-2 c = record {
@@ -36,4 +24,4 @@ returns-3 c = ranked-other isSum
     (sym (c .before .is-sum .ensures) ∙ c .if1 .left)
 
 pub sum-sign-spec : {M : Type 1} → statement M
-sum-sign-spec = tie.close (tie.spec operator-requires enum-known-sign enum-told returns is-sum-requires returns-2 returns-3)
+sum-sign-spec = tie.close (tie.spec (λ c κs. search needs) (λ c. search needs) (λ c. search needs) returns (λ c κs. search needs) returns-2 returns-3)

@@ -10,12 +10,9 @@ use Rattle.text_next.proofs.goes_on.Tie as tie
 returns : tie.Need-returns
 returns c = sym (starts-past isWithin _ _ (c .if1 .taken))
 
-shared-slice-read-result : tie.Need-shared-slice-read-result
-shared-slice-read-result c = search needs
-
 returns-2 : tie.Need-returns-2
 unfolding isWithin
 returns-2 c = sym (starts-within isWithin _ _ (c .before .if1 .left))
 
 pub goes-on-spec : {M : Type 1} → statement M
-goes-on-spec = tie.close (tie.spec returns shared-slice-read-result returns-2)
+goes-on-spec = tie.close (tie.spec returns (λ c. search needs) returns-2)

@@ -46,12 +46,4 @@ returns c = onward-end isWithin (c .before .before .loop .inv) (sym (c .before .
 pub line-end-spec : {M : Type 1} → statement M
 line-end-spec =
     tie.close
-    (tie.spec
-    Inv-loop
-    μ-loop
-    loop-holds
-    goes-on-requires
-    add-i
-    loop-less
-    loop-again
-    returns)
+    (tie.spec Inv-loop μ-loop loop-holds goes-on-requires add-i loop-less loop-again returns)

@@ -9,53 +9,26 @@ use Rattle.text_next.proofs.read_first.Tie as tie
 
 returns : tie.Need-returns
 returns c =
-    let d = c .before .before .before .before in
+    let d = c .before .before .before in
     let a = d .args in
     next-none (a .sizes) (now (a .text)) (a .at) (a .end) (a .count) (d .pre .2) (d .pre .3) _ _ (omega (arith, c .if1 .taken))
 
-sub-read-line : tie.Need-sub-read-line
-sub-read-line c = search needs
-
-part-read-line-start : tie.Need-part-read-line-start
-part-read-line-start c = search needs
-
-part-read-line-end : tie.Need-part-read-line-end
-part-read-line-end c = search needs
-
 read-line-requires : tie.Need-read-line-requires
 read-line-requires c κs =
-    let d = c .before .before .before .before .before .before .before .before in
+    let d = c .before .before .before .before .before in
     let a = d .args in
-    let left = c .before .before .before .before .if1 .left in
+    let left = c .before .before .if1 .left in
     (d .pre .0, next-roomy (a .sizes) (now (a .text)) (a .at) (a .end) (a .count) (d .pre .2) (d .pre .3) _ (omega (arith, left)) (d .pre .4), d .pre .4 .few)
-
-same-length : tie.Need-same-length
-same-length c = search needs
-
-same-length-2 : tie.Need-same-length-2
-same-length-2 c = search needs
-
-same-length-3 : tie.Need-same-length-3
-same-length-3 c = search needs
 
 returns-2 : tie.Need-returns-2
 returns-2 c =
-    let l = c .before .before .before .before .before in
-    let d = l .before .before .before .before .before .before .before .before .before in
+    let k = c .before .before .before .before .before in
+    let r = k .before .before .before in
+    let d = r in
     let a = d .args in
-    let left = l .before .before .before .before .before .if1 .left in
-    next-line (a .sizes) (now (a .text)) (a .at) (a .end) (a .count) (d .pre .2) (d .pre .3) _ _ _ (omega (arith, left)) (l .read-line .ensures)
+    let left = k .if1 .left in
+    next-line (a .sizes) (now (a .text)) (a .at) (a .end) (a .count) (d .pre .2) (d .pre .3) _ _ _ (omega (arith, left)) (c .before .before .read-line .ensures)
 
 pub read-first-spec : {M : Type 1} → statement M
 read-first-spec =
-    tie.close
-    (tie.spec
-    returns
-    sub-read-line
-    part-read-line-start
-    part-read-line-end
-    read-line-requires
-    same-length
-    same-length-2
-    same-length-3
-    returns-2)
+    tie.close (tie.spec returns (λ c. search needs) (λ c. search needs) (λ c. search needs) read-line-requires (λ c. search needs) returns-2)

@@ -29,7 +29,7 @@ sizes-of-requires c κs = both c .0 .long
 returns-2 : tie.Need-returns-2
 returns-2 c =
     let b = both (c .before) in
-    record { limits = rw (c .sizes-of .ensures) (limits _ (b .0 .within)); inside = omega arith; short = b .1; whole = λ z. (c .sizes-of .ensures, refl) }
+    record { limits = rw (c .sizes-of .ensures) (limits _ (b .0 .within)); inside = omega arith; short = b .1; whole = λ z. (rw (c .sizes-of .ensures), refl) }
 
 pub readable-spec : {M : Type 1} → statement M
 readable-spec = tie.close (tie.spec returns sizes-of-requires returns-2)

@@ -29,7 +29,7 @@ passed : (c : tie.Else1) → let a = entry c .args in
     check (now (a .file)) (now (a .text)) ≡ done (programOf (answer c .codes) (c .before .before .check .result .program))
 passed c = answered-program (answer c .answers) (c .if1 .left)
 
-complete : (c : tie.Else1) → Complete (answer c .codes) (answer c .places) (c .before .before .check .result .program)
+complete : (c : tie.Else1) → Complete (answer c .codes) (c .before .before .check .result .program)
 complete c = answer c .answers .complete (c .if1 .left)
 
 -- the step is there, one of at most 32

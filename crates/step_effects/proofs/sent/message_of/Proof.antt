@@ -11,21 +11,18 @@ use lib.IntN.{ℤ}
 use Rattle.program.specs.declared.rule.Rule.{Rule}
 use Rattle.program.proofs.rule.Rule.{the-type}
 use Rattle.program.specs.declared.rule.Rule.the-variants.{Set, Combine, Remote}
-use Rattle.program.specs.Program.{isRemote}
+use Rattle.program.specs.Program.{isRemote, targetField}
 use Rattle.program.specs.Stored.{targetIn}
 use Rattle.machine.specs.Remote.{sentTo}
 use Rattle.step_operations.specs.declared.operation.Evaluated.{Evaluated}
 use Rattle.step_operations.specs.declared.operation.Evaluated.the-variants.{Value}
 use Rattle.step_operations.proofs.operation.Evaluated as E
-use Rattle.step_tests.proofs.Sides.{both-values, named}
+use Rattle.step_tests.proofs.Sides.{both-values, named, named-within}
 use Rattle.step_effects.specs.Answers.{messagesIn}
 use Rattle.step_effects.proofs.Answering.{send-local, sent-nowhere, sent-one, sent-none}
 use borrow.Author.Needs.{needs}
 use Rattle.step_effects.proofs.sent.message_of.Statement.{statement}
 use Rattle.step_effects.proofs.sent.message_of.Tie as tie
-
-enum-known-rule : tie.Need-enum-known-rule
-enum-known-rule c = search needs
 
 -- a rule of the first two variants is a local one
 local : (r : Rule) → OneOf (0 ∷ 1 ∷ []) (tagOf the-type r) → isRemote (targetIn r) ≡ false
@@ -40,79 +37,57 @@ no-value v h z e = ⊎-elim (λ q. omega arith) (λ q. omega arith) (subst (λ (
 
 returns : tie.Need-returns
 unfolding messagesIn
-returns c = send-local _ _ _ (local _ (c .match .keys2))
+returns c = (tt, λ read agrees in-range. send-local _ _ _ (local _ (c .match .keys2)))
 
 found-at-requires : tie.Need-found-at-requires
 found-at-requires c κs =
     let r = c .before .before in
-    let p = r .before .before .before .before .before .before .before .before .before .pre in
-    (p .0 .0, p .0 .1, (rw (r .rule .given .1) at (p .0 .2 .rule)) .0 .reaches)
-
-enum-known-to : tie.Need-enum-known-to
-enum-known-to c = search needs
-
-enum-told : tie.Need-enum-told
-enum-told c = search needs
+    let p = r .before .before .before .before .before .before .before .pre in
+    (p .0, p .1, (rw (r .rule .given .1) at (p .2 .rule)) .0)
 
 returns-2 : tie.Need-returns-2
 unfolding messagesIn
 returns-2 c =
     let x = c .before .before in
-    let r = x .before .before .before in
-    let p = r .before .before .before .before .before .before .before .before .before .pre in
-    let found = (rw (r .rule .given .1) at (p .0 .2 .rule)) .0 in
-    sent-nowhere _ _ _ (r .rule .given .1) (sym (x .found-at .ensures ∙ found .found-is) ∙ c .enum-told .given .1)
-
-effect-requires : tie.Need-effect-requires
-effect-requires c κs = search needs
-
-enum-known-value : tie.Need-enum-known-value
-enum-known-value c = search needs
+    let r = x .before .before .before in (
+      tt,
+      λ read agrees in-range.
+          sent-nowhere _ _ _ (r .rule .given .1) (sym (x .found-at .ensures ∙ (rw (r .rule .given .1) at (agrees .1)) .0) ∙ c .enum-told .given .1),
+    )
 
 returns-3 : tie.Need-returns-3
 unfolding messagesIn
 returns-3 c =
     let e = c .before in
     let r = e .before .before .before .before .before .before .before in
-    let p = r .before .before .before .before .before .before .before .before .before .pre in
-    sent-none _ _ _ (r .rule .given .1) (e .effect .ensures) (p .1 .1) (no-value _ (c .match3 .keys2))
+    (tt, λ read agrees in-range. sent-none _ _ _ (r .rule .given .1) (e .effect .ensures read agrees) in-range (no-value _ (c .match3 .keys2)))
 
 index-requires : tie.Need-index-requires
-unfolding targetIn
 index-requires c κs =
     let k = c .before .before .before .before in
     let x = k .before .before .before in
     let r = x .before .before .before in
-    let p = r .before .before .before .before .before .before .before .before .before .pre in
-    let found = (rw (r .rule .given .1) at (p .0 .2 .rule)) .0 in
-    named (sym (x .found-at .ensures ∙ found .found-is) ∙ k .before .to .given .1) (k .known-told2 .given .0 .1) (rw (r .rule .given .1) at (p .1 .0))
+    named (sym (x .found-at .ensures) ∙ k .before .to .given .1) (k .known-told2 .given .0 .1) (rw (r .rule .given .1) at (r .before .before .before .before .before .before .before .pre .3))
 
 returns-4 : tie.Need-returns-4
-unfolding sentTo messagesIn
+unfolding sentTo messagesIn targetIn targetField
 returns-4 c =
     let l = c .before in
     let e = l .before .before .before in
     let k = e .before in
     let x = k .before .before .before in
-    let r = x .before .before .before in
-    let p = r .before .before .before .before .before .before .before .before .before .pre in
-    let found = (rw (r .rule .given .1) at (p .0 .2 .rule)) .0 in
-    let to = sym (x .found-at .ensures ∙ found .found-is) ∙ k .before .to .given .1 in
-    let (amount, sent) = sent-one _ _ _ (r .rule .given .1) (e .effect .ensures) (p .1 .1) (l .before .value .given .1) in
-    rw (c .index .ensures) (both-values _ _ to amount (k .known-told2 .given .0 .1) (l .known-told3 .given .0 .1)) ∙ sent
+    let is = x .before .before .before .rule .given .1 in
+    let fits = k .known-told2 .given .0 .1 in
+    let found = sym (x .found-at .ensures) ∙ k .before .to .given .1 in (
+      (rw is, λ n w. named-within found fits (c .index .ensures) n (rw is at w)),
+      λ read agrees in-range.
+          let to = sym ((rw is at (agrees .1)) .0) ∙ found in
+          let (amount, sent) = sent-one _ _ _ is (e .effect .ensures read agrees) in-range (l .before .value .given .1) in
+          rw (c .index .ensures) (both-values _ _ to amount fits (l .known-told3 .given .0 .1)) ∙ sent,
+    )
 
 pub message-of-spec : {M : Type 1} → statement M
 message-of-spec =
     tie.close
-    (tie.spec
-    enum-known-rule
-    returns
-    found-at-requires
-    enum-known-to
-    enum-told
-    returns-2
-    effect-requires
-    enum-known-value
-    returns-3
-    index-requires
-    returns-4)
+    (tie.spec (λ c. search needs) returns found-at-requires (λ c. search needs) (λ c. search needs) returns-2 (λ c κs. search needs) (λ c. search needs) returns-3
+    index-requires returns-4)

@@ -9,36 +9,6 @@ use Rattle.step_operations.proofs.Operating.{summed, read-back, in-rang
 use Rattle.step_operations.proofs.operation.join_by.Statement.{statement}
 use Rattle.step_operations.proofs.operation.join_by.Tie as tie
 
-in-range-requires : tie.Need-in-range-requires
-in-range-requires c κs = search needs
-
-enum-known-a : tie.Need-enum-known-a
-enum-known-a c = search needs
-
-in-range-requires-2 : tie.Need-in-range-requires-2
-in-range-requires-2 c κs = search needs
-
-enum-known-b : tie.Need-enum-known-b
-enum-known-b c = search needs
-
-enum-told : tie.Need-enum-told
-enum-told c = search needs
-
-operate-by-requires : tie.Need-operate-by-requires
-operate-by-requires c κs = search needs
-
-enum-told-2 : tie.Need-enum-told-2
-enum-told-2 c = search needs
-
-in-range-requires-3 : tie.Need-in-range-requires-3
-in-range-requires-3 c κs = search needs
-
-enum-told-3 : tie.Need-enum-told-3
-enum-told-3 c = search needs
-
-enum-told-4 : tie.Need-enum-told-4
-enum-told-4 c = search needs
-
 -- the first has a value
 module _ (c : tie.After-in-range2) where
   abbrev first : tie.After-in-range
@@ -48,23 +18,23 @@ module _ (c : tie.After-in-range2) where
   value-is = in-range-answer _ (summed (first .before .fits .x) (first .in-range .ensures) (c .before .before .a .given .1))
 
 returns : tie.Need-returns
-returns c =
+returns c op is =
     let m = c .before .before in
     let h = first m .before .fits .y in
     ap answerOf (toZ-ofZ h) ∙ without-joined _ (Value _) tt (value-is m) _ (summed h (m .in-range2 .ensures) (c .enum-told .given .1))
 
 returns-3 : tie.Need-returns-3
-returns-3 c =
+returns-3 c op is =
     let k = c .before in
     let m = k .before .before .before in
     let b = in-range-answer _ (summed (first m .before .fits .y) (m .in-range2 .ensures) (k .before .b .given .1)) in
     read-back _ (c .operate-by .ok)
-    ∙ numbers-joined _ _ (value-is m) b (m .before .known-told .given .0 .1) (k .known-told2 .given .0 .1) (c .operate-by .ensures)
+    ∙ numbers-joined _ _ (value-is m) b (m .before .known-told .given .0 .1) (k .known-told2 .given .0 .1) (c .operate-by .ensures op is)
 
 -- it is out of range
 returns-2 : tie.Need-returns-2
 unfolding joined
-returns-2 c =
+returns-2 c op is =
     let k = c .before in
     let r = k .before .before in
     let h = r .before .fits .x in
@@ -81,14 +51,14 @@ module _ (c : tie.Else1) where
 
 returns-4 : tie.Need-returns-4
 unfolding joined
-returns-4 c =
+returns-4 c op is =
     let n = c .before .before in
     let s = start (n .before) in
     let y = in-range-answer _ (summed (s .fits .y) (n .in-range3 .ensures) (c .enum-told3 .given .1)) in
     ap answerOf (toZ-ofZ (s .fits .x)) ∙ rw (unfilled (n .before), y)
 
 returns-5 : tie.Need-returns-5
-returns-5 c =
+returns-5 c op is =
     let n = c .before .before in
     let h = start (n .before) .fits .y in
     ap answerOf (toZ-ofZ h) ∙ without-joined _ Missing tt (unfilled (n .before)) _ (summed h (n .in-range3 .ensures) (c .enum-told4 .given .1))
@@ -96,19 +66,5 @@ returns-5 c =
 pub join-by-spec : {M : Type 1} → statement M
 join-by-spec =
     tie.close
-    (tie.spec
-    in-range-requires
-    enum-known-a
-    in-range-requires-2
-    enum-known-b
-    enum-told
-    returns
-    operate-by-requires
-    enum-told-2
-    returns-2
-    in-range-requires-3
-    enum-told-3
-    enum-told-4
-    returns-3
-    returns-4
-    returns-5)
+    (tie.spec (λ c κs. search needs) (λ c. search needs) (λ c κs. search needs) (λ c. search needs) (λ c. search needs) returns
+    (λ c κs. search needs) (λ c. search needs) returns-2 (λ c κs. search needs) (λ c. search needs) (λ c. search needs) returns-3 returns-4 returns-5)

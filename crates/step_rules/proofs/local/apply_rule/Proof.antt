@@ -1,109 +1,60 @@
 -- `step_rules::local::apply_rule` meets its contract: what the rule writes is performed.
 -- Assumes nothing.
-use mathlib.Core.Path.{_≡_, sym}
-use mathlib.Core.Bool.{true}
+use mathlib.Core.Path.{_≡_, sym, ap₂, subst}
 use mathlib.Core.List.{List}
-use Prim.Native.Nat.{ℕ}
 use native.Mathlib.Omega.{arith}
 use denote.Ref.{now}
+use lib.ListN.{take}
 use lib.Seq.{length-take-le}
+use Rattle.register.specs.Cells.{cellsOf}
 use Rattle.register.specs.File.{cellsOfFile}
 use Rattle.register.specs.declared.cells.Cell.{Cell}
 use Rattle.register.proofs.Loading.{file-parts}
-use Rattle.chain.specs.declared.reading.Reading.{Reading}
-use Rattle.chain.specs.Word.{hasField}
-use Rattle.program.specs.Program.{Rule, targetField}
-use Rattle.program.specs.Code.{codesKept}
 use Rattle.program.specs.Stored.{ruleIn}
-use Rattle.step_terms.specs.Found.{followed}
-use Rattle.step_effects.specs.Answers.{writeOf}
+use Rattle.program.specs.Terms.{SlotPlaced}
+use Rattle.step_terms.specs.Found.{Agrees}
 use Rattle.step_rules.proofs.Locals.{writes-field}
 use borrow.Author.Needs.{needs}
 use Rattle.step_rules.proofs.local.apply_rule.Statement.{statement}
 use Rattle.step_rules.proofs.local.apply_rule.Tie as tie
 
--- over the arguments: the cells before the step, what the record reads, the rule and the field that it writes
-module _ (c : tie.Start) where
-  abbrev cells : List Cell
-  cells = cellsOfFile (c .args .sizes) (now (c .args .out))
-
-  abbrev read : List ℕ → Reading
-  read = followed (c .args .sizes) cells (c .args .u)
-
-  abbrev rule : Rule
-  rule = ruleIn (codesKept (now (c .args .kinds)) (now (c .args .numbers)) (now (c .args .chains))) (c .args .rule .slot)
-
-  field : hasField (c .args .sizes) (targetField (rule .target)) ≡ true
-  unfolding ruleIn
-  field = c .pre .1 .field
-
-values-part-requires : tie.Need-values-part-requires
-values-part-requires c κs = search needs
-
-marks-part-requires : tie.Need-marks-part-requires
-marks-part-requires c κs = search needs
-
-slice-reshare-prefix-local-write : tie.Need-slice-reshare-prefix-local-write
-slice-reshare-prefix-local-write c = search needs
-
-slice-aggregate-local-write : tie.Need-slice-aggregate-local-write
-slice-aggregate-local-write c = sym (length-take-le _ _ (omega (arith, c .before .before .before .before .before .before .before .before .pre .0 .3 .values-room)))
-
-slice-reshare-prefix-local-write-2 : tie.Need-slice-reshare-prefix-local-write-2
-slice-reshare-prefix-local-write-2 c = search needs
-
-slice-aggregate-local-write-2 : tie.Need-slice-aggregate-local-write-2
-slice-aggregate-local-write-2 c = sym (length-take-le _ _ (omega (arith, c .before .before .before .before .before .before .before .before .before .pre .0 .3 .marks-room)))
-
 local-write-requires : tie.Need-local-write-requires
-unfolding cellsOfFile
 local-write-requires c κs =
     let m = c .before .before in
-    let s = m .before .before .before .before .before .before .before in
+    let s = m .before .before .before .before .before in
     let p = s .pre .0 in
-    rw (m .before .values-part .ensures, m .marks-part .ensures)
-    (file-parts (now (s .args .out)) (s .args .sizes) (p .0) (p .1), p .2, s .pre .1 .found _ (p .2))
+    (rw (m .before .values-part .ensures, m .marks-part .ensures) (file-parts (now (s .args .out)) (s .args .sizes) (p .0) (p .1)), p .2, s .pre .1 .reaches _ (p .2))
 
--- what the rule writes, over the file
+-- the entry, from where the write is known
 abbrev start : tie.After-local-write → tie.Start
-start c = c .before .before .before .before .before .before .before .before .before .before
-
-wrote : (c : tie.After-local-write) → writeOf (read (start c)) (rule (start c)) ≡ c .local-write .result
-unfolding cellsOfFile
-wrote c =
-    let m = c .before .before .before in
-    rw (m .before .values-part .ensures, m .marks-part .ensures) at (sym (c .local-write .ensures))
+start c = c .before .before .before .before .before .before .before .before
 
 perform-requires : tie.Need-perform-requires
 perform-requires c κs =
     let w = c .before .before in
     let s = start w in
-    (s .pre .0 .0, s .pre .0 .2, writes-field _ _ _ (rule s) (field s) _ (wrote w), s .pre .0 .3)
+    (s .pre .0 .0, s .pre .0 .2, writes-field _ _ (s .pre .1 .field) (w .local-write .result) (w .local-write .ensures .0), s .pre .0 .3)
 
-same-length : tie.Need-same-length
-same-length c = search needs
-
-same-length-2 : tie.Need-same-length-2
-same-length-2 c = search needs
+-- the cells by the parts of the file
+cells-are : (w : tie.After-local-write)
+    → let m = w .before .before .before in cellsOf (now (m .before .values-part .result)) (now (m .marks-part .result)) ≡ cellsOfFile (start w .args .sizes) (now (start w .args .out))
+unfolding cellsOfFile
+cells-are w = let m = w .before .before .before in ap₂ cellsOf (m .before .values-part .ensures) (m .marks-part .ensures)
 
 returns : tie.Need-returns
-returns c =
+unfolding ruleIn
+returns c read agrees =
     let p = c .before .before .before in
     let w = p .before .before .before in
-    p .perform .ensures _ _ (wrote w) (field (start w))
+    let a = start w .args in
+    let there = subst (λ (cs : List Cell). SlotPlaced (Agrees (a .sizes) cs (take (a .base) (now (a .values))) (take (a .base) (now (a .marks))) (a .u) read) (now (a .codes)) (a .rule))
+    (sym (cells-are w)) agrees in
+    p .perform .ensures read _ (sym (w .local-write .ensures .1 read there)) (start w .pre .1 .field)
 
 pub apply-rule-spec : {M : Type 1} → statement M
 apply-rule-spec =
     tie.close
-    (tie.spec
-    values-part-requires
-    marks-part-requires
-    slice-reshare-prefix-local-write
-    slice-aggregate-local-write
-    slice-reshare-prefix-local-write-2
-    slice-aggregate-local-write-2
-    local-write-requires
-    perform-requires
-    same-length
-    same-length-2
-    returns)
+    (tie.spec (λ c κs. search needs) (λ c κs. search needs) (λ c. search needs)
+    (λ c. sym (length-take-le _ _ (omega (arith, c .before .before .before .before .before .before .pre .0 .3 .values-room)))) (λ c. search needs)
+    (λ c. sym (length-take-le _ _ (omega (arith, c .before .before .before .before .before .before .before .pre .0 .3 .marks-room)))) local-write-requires perform-requires
+    (λ c. search needs) (λ c. search needs) returns)

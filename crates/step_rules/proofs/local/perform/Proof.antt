@@ -9,20 +9,11 @@ use borrow.Author.Needs.{needs}
 use Rattle.step_rules.proofs.local.perform.Statement.{statement}
 use Rattle.step_rules.proofs.local.perform.Tie as tie
 
-enum-told : tie.Need-enum-told
-enum-told c = search needs
-
-enum-known-write : tie.Need-enum-known-write
-enum-known-write c = search needs
-
 store-requires : tie.Need-store-requires
 store-requires c κs =
     let w = c .before .before .before in
     let s = w .before .before .before in
     (s .pre .0, s .pre .1, subst (WritesField (s .args .sizes)) (w .write .given .1) (s .pre .2), s .pre .3)
-
-enum-known-write-2 : tie.Need-enum-known-write-2
-enum-known-write-2 c = search needs
 
 column-requires : tie.Need-column-requires
 column-requires c κs =
@@ -31,16 +22,10 @@ column-requires c κs =
     (s .pre .0 .references≤, field-below (s .args .sizes) (s .pre .0) _ (subst (WritesField (s .args .sizes)) (w .write2 .given .1) (s .pre .2)))
 
 returns : tie.Need-returns
-returns c cells r e field = rule-idles _ _ _ _ _ _ _ (e ∙ c .enum-told .given .1)
-
-same-length : tie.Need-same-length
-same-length c = search needs
-
-same-length-2 : tie.Need-same-length-2
-same-length-2 c = search needs
+returns c read r e field = rule-idles _ _ _ _ _ _ _ (e ∙ c .enum-told .given .1)
 
 returns-2 : tie.Need-returns-2
-returns-2 c cells r e field =
+returns-2 c read r e field =
     let stored = c .before .before .before in
     let w = stored .before .before .before .before in
     let p = w .before .before .before .pre in
@@ -49,19 +34,10 @@ returns-2 c cells r e field =
     rule-stores _ _ _ _ _ _ _ _ z (e ∙ w .write .given .1) (p .0) (p .1) field (p .3) (rw (kept z fits) at (stored .store .ensures)) (record { sfits = fits })
 
 returns-3 : tie.Need-returns-3
-returns-3 c cells r e field = rw (c .column .ensures) (rule-offends _ _ _ _ _ _ _ (e ∙ c .before .before .write2 .given .1))
+returns-3 c read r e field = rw (c .column .ensures) (rule-offends _ _ _ _ _ _ _ (e ∙ c .before .before .write2 .given .1))
 
 pub perform-spec : {M : Type 1} → statement M
 perform-spec =
     tie.close
-    (tie.spec
-    enum-told
-    enum-known-write
-    store-requires
-    enum-known-write-2
-    column-requires
-    returns
-    same-length
-    same-length-2
-    returns-2
-    returns-3)
+    (tie.spec (λ c. search needs) (λ c. search needs) store-requires (λ c. search needs) column-requires returns (λ c. search needs) (λ c. search needs)
+    returns-2 returns-3)

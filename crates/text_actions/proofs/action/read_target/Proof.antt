@@ -14,15 +14,6 @@ use Rattle.text_actions.proofs.Forms.{target-none, target-unopened, tar
 use Rattle.text_actions.proofs.action.read_target.Statement.{statement}
 use Rattle.text_actions.proofs.action.read_target.Tie as tie
 
-letter-requires : tie.Need-letter-requires
-letter-requires c κs = search needs
-
-enum-known-letter : tie.Need-enum-known-letter
-enum-known-letter c = search needs
-
-enum-told : tie.Need-enum-told
-enum-told c = search needs
-
 returns : tie.Need-returns
 returns c = target-none (subst (PassesLetter false _ _) (c .enum-told .given .1) (c .before .before .letter .ensures false))
 
@@ -30,12 +21,6 @@ mark-requires : tie.Need-mark-requires
 mark-requires c κs =
     let l = subst (PassesLetter false _ _) (c .before .letter2 .given .1) (c .before .before .before .letter .ensures false) in
     (l .passing .behind .inside, omega arith, omega arith)
-
-enum-known-inner : tie.Need-enum-known-inner
-enum-known-inner c = search needs
-
-enum-told-2 : tie.Need-enum-told-2
-enum-told-2 c = search needs
 
 returns-2 : tie.Need-returns-2
 unfolding operandBehind
@@ -51,12 +36,6 @@ read-chain-requires c κs =
     let o = subst (Passes false false openSquare _ _) (c .before .inner .given .1) (c .before .before .before .mark .ensures) in
     (c .before .before .before .before .before .before .before .before .before .pre .0, o .behind .inside)
 
-enum-known-parts : tie.Need-enum-known-parts
-enum-known-parts c = search needs
-
-enum-told-3 : tie.Need-enum-told-3
-enum-told-3 c = search needs
-
 returns-3 : tie.Need-returns-3
 unfolding operandBehind
 returns-3 c =
@@ -70,12 +49,6 @@ mark-requires-2 : tie.Need-mark-requires-2
 mark-requires-2 c κs =
     let w = subst (ChainPartsAt _ false _ _) (c .before .parts .given .1) (c .before .before .before .read-chain .ensures) in
     (w .behind .inside, omega arith, omega arith)
-
-enum-known-end : tie.Need-enum-known-end
-enum-known-end c = search needs
-
-enum-told-4 : tie.Need-enum-told-4
-enum-told-4 c = search needs
 
 returns-4 : tie.Need-returns-4
 unfolding operandBehind
@@ -111,21 +84,5 @@ returns-5 c =
 pub read-target-spec : {M : Type 1} → statement M
 read-target-spec =
     tie.close
-    (tie.spec
-    letter-requires
-    enum-known-letter
-    enum-told
-    returns
-    mark-requires
-    enum-known-inner
-    enum-told-2
-    returns-2
-    read-chain-requires
-    enum-known-parts
-    enum-told-3
-    returns-3
-    mark-requires-2
-    enum-known-end
-    enum-told-4
-    returns-4
-    returns-5)
+    (tie.spec (λ c κs. search needs) (λ c. search needs) (λ c. search needs) returns mark-requires (λ c. search needs) (λ c. search needs) returns-2
+    read-chain-requires (λ c. search needs) (λ c. search needs) returns-3 mark-requires-2 (λ c. search needs) (λ c. search needs) returns-4 returns-5)

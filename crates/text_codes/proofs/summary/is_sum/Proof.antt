@@ -7,15 +7,6 @@ use Rattle.program.specs.declared.rule.Operator.{Operator}
 use Rattle.text_codes.proofs.summary.is_sum.Statement.{statement}
 use Rattle.text_codes.proofs.summary.is_sum.Tie as tie
 
-enum-told : tie.Need-enum-told
-enum-told c = search needs
-
-enum-told-2 : tie.Need-enum-told-2
-enum-told-2 c = search needs
-
-enum-told-3 : tie.Need-enum-told-3
-enum-told-3 c = search needs
-
 returns : tie.Need-returns
 unfolding isSum
 returns c = sym (ap (λ (o : Operator). isSum o) (c .enum-told .given .1))
@@ -29,4 +20,4 @@ unfolding isSum
 returns-3 c = sym (ap (λ (o : Operator). isSum o) (c .enum-told3 .given .1))
 
 pub is-sum-spec : {M : Type 1} → statement M
-is-sum-spec = tie.close (tie.spec enum-told enum-told-2 enum-told-3 returns returns-2 returns-3)
+is-sum-spec = tie.close (tie.spec (λ c. search needs) (λ c. search needs) (λ c. search needs) returns returns-2 returns-3)

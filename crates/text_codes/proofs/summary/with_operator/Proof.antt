@@ -5,15 +5,9 @@ use Rattle.text_syntax.specs.Flat.{withOperator}
 use Rattle.text_codes.proofs.summary.with_operator.Statement.{statement}
 use Rattle.text_codes.proofs.summary.with_operator.Tie as tie
 
-is-sum-requires : tie.Need-is-sum-requires
-is-sum-requires c κs = search needs
-
-add-t5 : tie.Need-add-t5
-add-t5 c = search needs
-
 returns : tie.Need-returns
 unfolding withOperator
 returns c = rw (c .before .before .is-sum .ensures)
 
 pub with-operator-spec : {M : Type 1} → statement M
-with-operator-spec = tie.close (tie.spec is-sum-requires add-t5 returns)
+with-operator-spec = tie.close (tie.spec (λ c κs. search needs) (λ c. search needs) returns)

@@ -8,9 +8,6 @@ use Rattle.text_syntax.specs.Flat.{merged}
 use Rattle.text_codes.proofs.summary.with_term.Statement.{statement}
 use Rattle.text_codes.proofs.summary.with_term.Tie as tie
 
-larger-requires : tie.Need-larger-requires
-larger-requires c κs = search needs
-
 returns : tie.Need-returns
 unfolding merged
 returns c =
@@ -20,4 +17,4 @@ returns c =
     rw (deeper, ← longer)
 
 pub with-term-spec : {M : Type 1} → statement M
-with-term-spec = tie.close (tie.spec larger-requires returns)
+with-term-spec = tie.close (tie.spec (λ c κs. search needs) returns)

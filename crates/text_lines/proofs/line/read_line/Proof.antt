@@ -18,91 +18,37 @@ use Rattle.text_lexer.proofs.Lexemes.{lexed}
 use Rattle.text_rules.specs.declared.line.LineRead.the-variants.{Step, End, Done}
 use Rattle.text_rules.specs.LineRead.{step-line, end-line, done-line}
 use Rattle.text_places.proofs.Places.{told, passed, goes-on, absent}
-use Rattle.text_actions.proofs.Actions.{roomy-later}
 use Rattle.text_lines.proofs.Lines.{word-at, loop-at, if-line, rule-line-at}
 use Rattle.text_lines.proofs.line.read_line.Statement.{statement}
 use Rattle.text_lines.proofs.line.read_line.Tie as tie
 
-next-token-requires : tie.Need-next-token-requires
-next-token-requires c κs = search needs
-
 -- the first token of the line
-first : (c : tie.After-next-token) → Lexed false (now (c .before .before .before .before .args .line)) 0 (c .next-token .result)
+first : (c : tie.After-next-token) → Lexed false (now (c .before .before .before .args .line)) 0 (c .next-token .result)
 first c = lexed _ _ _ (omega arith) (c .next-token .ensures)
-
-enum-told : tie.Need-enum-told
-enum-told c = search needs
-
-word-line-requires : tie.Need-word-line-requires
-word-line-requires c κs = first (c .before .before) .inside
-
-enum-told-2 : tie.Need-enum-told-2
-enum-told-2 c = search needs
-
-word-line-requires-2 : tie.Need-word-line-requires-2
-word-line-requires-2 c κs = first (c .before .before) .inside
-
-enum-told-3 : tie.Need-enum-told-3
-enum-told-3 c = search needs
-
-word-line-requires-3 : tie.Need-word-line-requires-3
-word-line-requires-3 c κs = first (c .before .before) .inside
-
-enum-told-4 : tie.Need-enum-told-4
-enum-told-4 c = search needs
-
-read-loop-requires : tie.Need-read-loop-requires
-read-loop-requires c κs = (c .before .before .before .before .before .before .pre .0, first (c .before .before) .inside)
-
-enum-told-5 : tie.Need-enum-told-5
-enum-told-5 c = search needs
 
 read-tested-requires : tie.Need-read-tested-requires
 read-tested-requires c κs =
-    let p = c .before .before .before .before .before .before .before .before .before .pre in
-    let h = goes-on (first (c .before .before .before .before .before)) _ (c .before .before .before .enum-told5 .given .1) tt in
-    (p .0, h .inside, roomy-later h (p .1), p .2)
-
-same-length : tie.Need-same-length
-same-length c = search needs
-
-same-length-2 : tie.Need-same-length-2
-same-length-2 c = search needs
-
-same-length-3 : tie.Need-same-length-3
-same-length-3 c = search needs
+    let p = c .before .before .before .before .before .before .pre in
+    let h = goes-on (first (c .before .before .before)) _ (c .before .enum-told5 .given .1) tt in
+    (p .0, h .inside, omega (arith, h .onward, p .1), p .2)
 
 returns : tie.Need-returns
 returns c =
-    let r = c .before .before .before .before .before in
-    if-line _ _ _ _ (passed (first (r .before .before .before .before .before .before)) (r .before .before .before .before .enum-told5 .given .1))
-    (r .read-tested .ensures)
-
-always-requires : tie.Need-always-requires
-always-requires c κs = search needs
-
-read-ruled-requires : tie.Need-read-ruled-requires
-read-ruled-requires c κs = search needs
-
-same-length-4 : tie.Need-same-length-4
-same-length-4 c = search needs
-
-same-length-5 : tie.Need-same-length-5
-same-length-5 c = search needs
-
-same-length-6 : tie.Need-same-length-6
-same-length-6 c = search needs
+    let k = c .before .before .before .before in
+    let r = k .before .before in
+    if-line _ _ _ _ (passed (first (r)) (k .enum-told5 .given .1)) (c .before .before .read-tested .ensures)
 
 returns-2 : tie.Need-returns-2
 unfolding tokenCode
 returns-2 c =
-    let r = c .before .before .before .before .before in
-    let w = first (r .before .before .before .before .before .before) in
+    let r = c .before .before .before .before in
+    let s = r .before in
+    let i = s .before in
+    let w = first (i) in
     let others : List ℕ = 5 ∷ 6 ∷ 7 ∷ 8 ∷ 9 ∷ 10 ∷ 11 ∷ 12 ∷ 13 ∷ 14 ∷ 15 ∷ 16 ∷ 17 ∷ 18 ∷ 19 ∷ [] in
-    let k = r .before .before .before .before .before .match .keys6 in
+    let k = s .match .keys6 in
     rule-line-at _ _ _ _ (absent w stepWord (told others k tt)) (absent w endWord (told others k tt)) (absent w doneWord (told others k tt))
-    (absent w loopWord (told others k tt)) (absent w ifWord (told others k tt)) (r .before .before .before .before .always .ensures)
-    (r .read-ruled .ensures)
+    (absent w loopWord (told others k tt)) (absent w ifWord (told others k tt)) (r .always .ensures) (c .before .before .read-ruled .ensures)
 
 returns-3 : tie.Need-returns-3
 unfolding tokens
@@ -131,29 +77,9 @@ returns-6 c =
 pub read-line-spec : {M : Type 1} → statement M
 read-line-spec =
     tie.close
-    (tie.spec
-    next-token-requires
-    enum-told
-    word-line-requires
-    enum-told-2
-    word-line-requires-2
-    enum-told-3
-    word-line-requires-3
-    enum-told-4
-    read-loop-requires
-    enum-told-5
-    read-tested-requires
-    same-length
-    same-length-2
-    same-length-3
-    returns
-    always-requires
-    read-ruled-requires
-    same-length-4
-    same-length-5
-    same-length-6
-    returns-2
-    returns-3
-    returns-4
-    returns-5
-    returns-6)
+    (tie.spec (λ c κs. search needs) (λ c. search needs) (λ c κs. first (c .before .before) .inside) (λ c. search needs)
+    (λ c κs. first (c .before .before) .inside)
+    (λ c. search needs) (λ c κs. first (c .before .before) .inside) (λ c. search needs)
+    (λ c κs. (c .before .before .before .before .before .pre .0, first (c .before .before) .inside)) (λ c. search needs) read-tested-requires
+    (λ c. search needs)
+    returns (λ c κs. search needs) (λ c κs. search needs) (λ c. search needs) returns-2 returns-3 returns-4 returns-5 returns-6)

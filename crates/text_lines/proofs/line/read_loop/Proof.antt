@@ -9,15 +9,6 @@ use Rattle.text_lines.proofs.Lines.{no-letter, loop-letter}
 use Rattle.text_lines.proofs.line.read_loop.Statement.{statement}
 use Rattle.text_lines.proofs.line.read_loop.Tie as tie
 
-letter-requires : tie.Need-letter-requires
-letter-requires c κs = search needs
-
-enum-known-letter : tie.Need-enum-known-letter
-enum-known-letter c = search needs
-
-enum-told : tie.Need-enum-told
-enum-told c = search needs
-
 returns : tie.Need-returns
 returns c = no-letter _ _ (let p = subst (PassesLetter false _ _) (c .enum-told .given .1) (c .before .before .letter .ensures false) in p .none)
 
@@ -25,12 +16,10 @@ field-of-requires : tie.Need-field-of-requires
 field-of-requires c κs = capital-low _
     (let p = subst (PassesLetter false _ _) (c .before .letter2 .given .1) (c .before .before .before .letter .ensures false) in p .capital)
 
-names-field-requires : tie.Need-names-field-requires
-names-field-requires c κs = search needs
-
 word-line-requires : tie.Need-word-line-requires
 word-line-requires c κs =
-    let p = subst (PassesLetter false _ _) (c .before .before .before .letter2 .given .1) (c .before .before .before .before .before .letter .ensures false) in
+    let k = c .before .before .before .before .before in
+    let p = subst (PassesLetter false _ _) (c .before .before .before .letter2 .given .1) (k .letter .ensures false) in
     p .passing .behind .inside
 
 returns-2 : tie.Need-returns-2
@@ -42,12 +31,4 @@ returns-2 c =
 pub read-loop-spec : {M : Type 1} → statement M
 read-loop-spec =
     tie.close
-    (tie.spec
-    letter-requires
-    enum-known-letter
-    enum-told
-    returns
-    field-of-requires
-    names-field-requires
-    word-line-requires
-    returns-2)
+    (tie.spec (λ c κs. search needs) (λ c. search needs) (λ c. search needs) returns field-of-requires (λ c κs. search needs) word-line-requires returns-2)

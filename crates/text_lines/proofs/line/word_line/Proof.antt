@@ -5,9 +5,6 @@ use Rattle.text_lines.proofs.Lines.{word-ends, word-goes-on}
 use Rattle.text_lines.proofs.line.word_line.Statement.{statement}
 use Rattle.text_lines.proofs.line.word_line.Tie as tie
 
-ends-requires : tie.Need-ends-requires
-ends-requires c κs = search needs
-
 returns : tie.Need-returns
 returns c = word-ends _ _ (c .before .ends .ensures) (c .if1 .taken)
 
@@ -15,4 +12,4 @@ returns-2 : tie.Need-returns-2
 returns-2 c = word-goes-on _ _ (c .before .ends .ensures) (c .if1 .left)
 
 pub word-line-spec : {M : Type 1} → statement M
-word-line-spec = tie.close (tie.spec ends-requires returns returns-2)
+word-line-spec = tie.close (tie.spec (λ c κs. search needs) returns returns-2)

@@ -11,48 +11,22 @@ use Rattle.text_plan.proofs.store.plan_line.Tie as tie
 
 -- the start, and a rule from where it is planned
 abbrev begun : tie.After-slice-known → tie.Start
-begun c = c .before .before .before
+begun c = c .before
 
-abbrev rule-line : tie.After-plan-rule-arg8 → tie.After-read
-rule-line c = c .before .before .before .before .before .before .before .before .before
-
-enum-known-read : tie.Need-enum-known-read
-enum-known-read c = search needs
+abbrev rule-line : tie.After-plan-rule-arg7 → tie.After-read
+rule-line c = c .before .before .before .before .before .before .before .before
 
 plan-rule-requires : tie.Need-plan-rule-requires
 plan-rule-requires c κs =
     let l = rule-line c in
     let s = begun (l .before .before) in
-    let a = s .args in
-    let f = subst (LineFits (now (a .kinds)) (now (a .chains)) (now (a .places)) (a .state)) (l .read .given .1) (s .pre .4) in
-    ((s .pre .0, f .0, s .pre .1), f .1)
+    let f = subst (LineFits (now (s .args .codes)) (s .args .state)) (l .read .given .1) (s .pre .3) in
+    (s .pre .0, f .0, f .1)
 
-place-requires : tie.Need-place-requires
-place-requires c κs = search needs
-
-enum-told : tie.Need-enum-told
-enum-told c = search needs
-
-enum-told-2 : tie.Need-enum-told-2
-enum-told-2 c = search needs
-
-sub-t27 : tie.Need-sub-t27
-sub-t27 c =
+sub-t23 : tie.Need-sub-t23
+sub-t23 c =
     let s = begun (c .before .before .before) in
-    let a = s .args in
-    subst (LineFits (now (a .kinds)) (now (a .chains)) (now (a .places)) (a .state)) (c .before .enum-told2 .given .1) (s .pre .4)
-
-enum-told-3 : tie.Need-enum-told-3
-enum-told-3 c = search needs
-
-enum-told-4 : tie.Need-enum-told-4
-enum-told-4 c = search needs
-
-enum-told-5 : tie.Need-enum-told-5
-enum-told-5 c = search needs
-
-same-length : tie.Need-same-length
-same-length c = search needs
+    subst (LineFits (now (s .args .codes)) (s .args .state)) (c .before .enum-told2 .given .1) (s .pre .3)
 
 returns : tie.Need-returns
 returns c =
@@ -61,41 +35,26 @@ returns c =
     let at = p .plan-rule .result in
     record {
       leaves = rw (e .1)
-          (record { at = at; stores = ap (λ (n : ℕ). W.Rule n (record { slot = e .0 .0; at = at })) (c .place .ensures); planned = p .plan-rule .ensures });
+          (record { at = at; stores = ap (λ (n : ℕ). W.Rule n (record { slot = e .0 .0; at = at })) (c .place .ensures); walked = p .plan-rule .ensures });
     }
 
 returns-2 : tie.Need-returns-2
-returns-2 c = record { leaves = rw (c .enum-told .given .1) (record { stores = refl; same-plan = refl; same-wanted = refl; same-places = refl }) }
+returns-2 c = record { leaves = rw (c .enum-told .given .1) (record { stores = refl; same-lines = refl; same-codes = refl }) }
 
 returns-3 : tie.Need-returns-3
-returns-3 c = record { leaves = rw (c .before .enum-told2 .given .1) (record { stores = refl; same-plan = refl; same-wanted = refl; same-places = refl }) }
+returns-3 c = record { leaves = rw (c .before .enum-told2 .given .1) (record { stores = refl; same-lines = refl; same-codes = refl }) }
 
 returns-4 : tie.Need-returns-4
-returns-4 c = record { leaves = rw (c .enum-told3 .given .1) (record { stores = refl; same-plan = refl; same-wanted = refl; same-places = refl }) }
+returns-4 c = record { leaves = rw (c .enum-told3 .given .1) (record { stores = refl; same-lines = refl; same-codes = refl }) }
 
 returns-5 : tie.Need-returns-5
-returns-5 c = record { leaves = rw (c .enum-told4 .given .1) (record { stores = refl; same-plan = refl; same-wanted = refl; same-places = refl }) }
+returns-5 c = record { leaves = rw (c .enum-told4 .given .1) (record { stores = refl; same-lines = refl; same-codes = refl }) }
 
 returns-6 : tie.Need-returns-6
-returns-6 c = record { leaves = rw (c .enum-told5 .given .1) (record { stores = refl; same-plan = refl; same-wanted = refl; same-places = refl }) }
+returns-6 c = record { leaves = rw (c .enum-told5 .given .1) (record { stores = refl; same-lines = refl; same-codes = refl }) }
 
 pub plan-line-spec : {M : Type 1} → statement M
 plan-line-spec =
     tie.close
-    (tie.spec
-    enum-known-read
-    plan-rule-requires
-    place-requires
-    enum-told
-    enum-told-2
-    sub-t27
-    enum-told-3
-    enum-told-4
-    enum-told-5
-    same-length
-    returns
-    returns-2
-    returns-3
-    returns-4
-    returns-5
-    returns-6)
+    (tie.spec (λ c. search needs) plan-rule-requires (λ c κs. search needs) (λ c. search needs) (λ c. search needs) sub-t23 (λ c. search needs) (λ c. search needs)
+    (λ c. search needs) (λ c. search needs) returns returns-2 returns-3 returns-4 returns-5 returns-6)

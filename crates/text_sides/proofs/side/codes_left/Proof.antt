@@ -5,9 +5,6 @@ use Rattle.text_sides.proofs.Sides.{left-same, left-more}
 use Rattle.text_sides.proofs.side.codes_left.Statement.{statement}
 use Rattle.text_sides.proofs.side.codes_left.Tie as tie
 
-add-if1 : tie.Need-add-if1
-add-if1 c = search needs
-
 returns : tie.Need-returns
 returns c = left-same _ _ _ (c .if1 .taken)
 
@@ -15,4 +12,4 @@ returns-2 : tie.Need-returns-2
 returns-2 c = left-more _ _ _ (c .if1 .left)
 
 pub codes-left-spec : {M : Type 1} → statement M
-codes-left-spec = tie.close (tie.spec add-if1 returns returns-2)
+codes-left-spec = tie.close (tie.spec (λ c. search needs) returns returns-2)

@@ -1,24 +1,24 @@
 -- `text_sides::side::operator_in` meets its contract.
 -- Assumes nothing.
+use mathlib.Core.Path.{sym, _∙_}
 use borrow.Author.Needs.{needs}
-use Rattle.program.specs.Code.{operatorOf}
+use Rattle.text_sides.specs.Side.{operatorIn}
 use Rattle.text_sides.proofs.Sides.{smaller-left}
 use Rattle.text_sides.proofs.side.operator_in.Statement.{statement}
 use Rattle.text_sides.proofs.side.operator_in.Tie as tie
 
-shared-slice-read-kind : tie.Need-shared-slice-read-kind
-shared-slice-read-kind c = search needs
-
 returns : tie.Need-returns
-unfolding operatorOf
-returns c = simp (c .if1 .taken)
+unfolding operatorIn
+returns c = let e = sym (c .before .kind .ensures) ∙ c .if1 .taken in rw e
 
 returns-2 : tie.Need-returns-2
-unfolding operatorOf
-returns-2 c = simp (c .if2 .taken)
+unfolding operatorIn
+returns-2 c = let e = sym (c .before .before .kind .ensures) ∙ c .if2 .taken in rw e
 
 returns-3 : tie.Need-returns-3
-returns-3 c = smaller-left _ (c .before .if1 .left) (c .if2 .left)
+returns-3 c =
+    let k = c .before .before .kind .ensures in
+    smaller-left _ (λ e. c .before .if1 .left (k ∙ e)) (λ e. c .if2 .left (k ∙ e))
 
 pub operator-in-spec : {M : Type 1} → statement M
-operator-in-spec = tie.close (tie.spec shared-slice-read-kind returns returns-2 returns-3)
+operator-in-spec = tie.close (tie.spec (λ c κs. search needs) returns returns-2 returns-3)

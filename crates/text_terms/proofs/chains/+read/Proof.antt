@@ -12,7 +12,7 @@ use Rattle.chain_text.specs.Scan.{step}
 use Rattle.chain_text.specs.declared.letters.Letters.{Letters}
 use Rattle.chain_text.proofs.Scanning.{step-small}
 use Rattle.text_terms.specs.Chain.{LinkAt, Opens, ChainAt}
-use Rattle.text_terms.proofs.ChainForms.{chain-alone, chain-closed, chain-inside, step-kept}
+use Rattle.text_terms.proofs.ChainForms.{hops-small, chain-alone, chain-closed, chain-inside, step-kept}
 use Rattle.text_terms.proofs.chains.read.Reads as read
 use Rattle.text_terms.proofs.chains.read.Kinds as read-kinds
 use Rattle.text_terms.proofs.chains.+read.Lts-read as read-lts
@@ -128,7 +128,8 @@ module _ (t : ℕ) where
       (c .before .before .before .before .letter .given .0 .1 .0) (c .read .result) (c .read .ensures)
 
   returns-2 : read-lts.Need-returns-2 (called t) (read-at t) read.Post
-  returns-2 c = chain-alone _ _ _ (subst (LinkAt false _ _) (c .before .end .given .1) (c .before .before .before .first-link .ensures))
+  returns-2 c = let p = c .before .before .before .before .before .pre .1 in chain-alone _ _ _ (hops-small _ _ (p .1) (p .2))
+      (subst (LinkAt false _ _) (c .before .end .given .1) (c .before .before .before .first-link .ensures))
 
   returns-3 : read-lts.Need-returns-3 (called t) (read-at t) read.Post
   returns-3 c = subst (LinkAt false _ _) (c .enum-told .given .1) (c .before .before .first-link .ensures)

@@ -14,23 +14,11 @@ use Rattle.text_terms.specs.declared.chains.ChainRead.the-variants.{Chai
 use Rattle.text_terms.proofs.chains.closed.Statement.{statement}
 use Rattle.text_terms.proofs.chains.closed.Tie as tie
 
-enum-known-inner : tie.Need-enum-known-inner
-enum-known-inner c = search needs
-
-enum-told : tie.Need-enum-told
-enum-told c = search needs
-
 returns : tie.Need-returns
 returns c = subst (λ (x : ChainRead). ClosedBy (now (c .before .before .before .args .line)) x NoForm) (sym (c .enum-told .given .1)) refl
 
 mark-requires : tie.Need-mark-requires
 mark-requires c κs = (subst (EndsInside _) (c .before .inner .given .1) (c .before .before .before .before .pre), omega arith, omega arith)
-
-enum-known-end : tie.Need-enum-known-end
-enum-known-end c = search needs
-
-enum-told-2 : tie.Need-enum-told-2
-enum-told-2 c = search needs
 
 returns-2 : tie.Need-returns-2
 unfolding operandBehind
@@ -50,12 +38,4 @@ returns-3 c =
 pub closed-spec : {M : Type 1} → statement M
 closed-spec =
     tie.close
-    (tie.spec
-    enum-known-inner
-    enum-told
-    returns
-    mark-requires
-    enum-known-end
-    enum-told-2
-    returns-2
-    returns-3)
+    (tie.spec (λ c. search needs) (λ c. search needs) returns mark-requires (λ c. search needs) (λ c. search needs) returns-2 returns-3)

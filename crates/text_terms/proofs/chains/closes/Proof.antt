@@ -24,12 +24,6 @@ loop-holds c = closing-start _ (c .before .pre)
 mark-requires : tie.Need-mark-requires Inv-loop μ-loop
 mark-requires c κs = (c .before .loop .inv .inside, omega arith, omega arith)
 
-enum-known-end : tie.Need-enum-known-end Inv-loop μ-loop
-enum-known-end c = search needs
-
-enum-told : tie.Need-enum-told Inv-loop μ-loop
-enum-told c = search needs
-
 returns : tie.Need-returns Inv-loop μ-loop
 unfolding operandBehind
 returns c = closing-none (c .before .before .before .before .loop .inv) (c .before .before .before .loop-test .taken)
@@ -52,15 +46,4 @@ returns-2 c = closing-done (c .before .loop .inv) (c .loop-test .left)
 pub closes-spec : {M : Type 1} → statement M
 closes-spec =
     tie.close
-    (tie.spec
-    Inv-loop
-    μ-loop
-    loop-holds
-    mark-requires
-    enum-known-end
-    enum-told
-    returns
-    sub-left
-    loop-less
-    loop-again
-    returns-2)
+    (tie.spec Inv-loop μ-loop loop-holds mark-requires (λ c. search needs) (λ c. search needs) returns sub-left loop-less loop-again returns-2)

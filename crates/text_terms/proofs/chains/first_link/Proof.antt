@@ -12,41 +12,18 @@ use Rattle.text_terms.proofs.ChainForms.{link-letter, link-none, link-o
 use Rattle.text_terms.proofs.chains.first_link.Statement.{statement}
 use Rattle.text_terms.proofs.chains.first_link.Tie as tie
 
-letter-requires : tie.Need-letter-requires
-letter-requires c κs = search needs
-
-enum-known-letter : tie.Need-enum-known-letter
-enum-known-letter c = search needs
-
 mark-requires : tie.Need-mark-requires
 mark-requires c κs =
     let p = subst (PassesLetter false _ _) (c .before .letter2 .given .1) (c .before .before .before .letter .ensures false) in
     (p .passing .behind .inside, omega arith, omega arith)
-
-enum-known-end : tie.Need-enum-known-end
-enum-known-end c = search needs
-
-enum-told : tie.Need-enum-told
-enum-told c = search needs
-
-enum-told-2 : tie.Need-enum-told-2
-enum-told-2 c = search needs
-
-mark-requires-2 : tie.Need-mark-requires-2
-mark-requires-2 c κs = search needs
-
-enum-known-end-2 : tie.Need-enum-known-end-2
-enum-known-end-2 c = search needs
-
-enum-told-3 : tie.Need-enum-told-3
-enum-told-3 c = search needs
 
 returns : tie.Need-returns
 unfolding operandBehind
 returns c =
     let s = c .before .before .before .before in
     let p = subst (PassesLetter _ _ _) (s .before .letter2 .given .1) (s .before .before .before .letter .ensures _) in
-    link-letter _ _ _ _ (p .passing .text) (p .passing .behind) (subst (Passes false false openSquare _ _) (c .before .end .given .1) (c .before .before .before .mark .ensures))
+    link-letter _ _ _ _ (p .passing .text) (p .passing .behind)
+    (subst (Passes false false openSquare _ _) (c .before .end .given .1) (c .before .before .before .mark .ensures))
 
 returns-2 : tie.Need-returns-2
 unfolding operandBehind
@@ -69,17 +46,5 @@ returns-4 c =
 pub first-link-spec : {M : Type 1} → statement M
 first-link-spec =
     tie.close
-    (tie.spec
-    letter-requires
-    enum-known-letter
-    mark-requires
-    enum-known-end
-    enum-told
-    enum-told-2
-    mark-requires-2
-    enum-known-end-2
-    enum-told-3
-    returns
-    returns-2
-    returns-3
-    returns-4)
+    (tie.spec (λ c κs. search needs) (λ c. search needs) mark-requires (λ c. search needs) (λ c. search needs) (λ c. search needs) (λ c κs. search needs)
+    (λ c. search needs) (λ c. search needs) returns returns-2 returns-3 returns-4)

@@ -24,9 +24,6 @@ loop-holds c = opening-start _ _ (c .before .pre .2)
 first-link-requires : tie.Need-first-link-requires Inv-loop μ-loop
 first-link-requires c κs = c .loop .inv .inside
 
-enum-known-letter : tie.Need-enum-known-letter Inv-loop μ-loop
-enum-known-letter c = search needs
-
 -- the letter that opens
 opens : (c : tie.After-known-told Inv-loop μ-loop) → let line = now (c .before .before .before .before .before .before .args .line) in let i =
     c .before .before .before .before .loop .i in
@@ -59,23 +56,15 @@ loop-less c = omega (arith, opens (c .before) .behind .onward, opens (c .before)
 loop-again : tie.Need-loop-again Inv-loop μ-loop
 loop-again c = opening-more (c .before .before .before .before .before .loop .inv) (opens (c .before)) (c .step .ensures)
 
-enum-known-end : tie.Need-enum-known-end Inv-loop μ-loop
-enum-known-end c = search needs
-
 closes-requires : tie.Need-closes-requires Inv-loop μ-loop
 closes-requires c κs = subst (LinkAt false _ _) (c .before .end .given .1) (c .before .before .before .first-link .ensures) .behind .inside
-
-enum-known-last : tie.Need-enum-known-last Inv-loop μ-loop
-enum-known-last c = search needs
-
-enum-told : tie.Need-enum-told Inv-loop μ-loop
-enum-told c = search needs
 
 returns : tie.Need-returns Inv-loop μ-loop
 returns c =
     let u = subst (LinkAt false _ _) (c .before .before .before .before .before .end .given .1)
     (c .before .before .before .before .before .before .before .first-link .ensures) in
-    opening-closed (c .before .before .before .before .before .before .before .before .loop .inv) u
+    let k = c .before .before .before .before .before .before .before .before in
+    opening-closed (k .loop .inv) u (omega (arith, k .before .before .pre .1))
     (subst (ClosesAt _ _ _) (c .before .last .given .1) (c .before .before .before .closes .ensures))
 
 returns-2 : tie.Need-returns-2 Inv-loop μ-loop
@@ -85,9 +74,6 @@ returns-2 c =
     opening-unclosed (c .before .before .before .before .before .before .before .loop .inv) u
     (subst (ClosesAt _ _ _) (c .enum-told .given .1) (c .before .before .closes .ensures))
 
-enum-told-2 : tie.Need-enum-told-2 Inv-loop μ-loop
-enum-told-2 c = search needs
-
 returns-3 : tie.Need-returns-3 Inv-loop μ-loop
 returns-3 c = opening-none (c .before .before .before .loop .inv)
     (subst (LinkAt false _ _) (c .enum-told2 .given .1) (c .before .before .first-link .ensures))
@@ -95,21 +81,5 @@ returns-3 c = opening-none (c .before .before .before .loop .inv)
 pub overlong-spec : {M : Type 1} → statement M
 overlong-spec =
     tie.close
-    (tie.spec
-    Inv-loop
-    μ-loop
-    loop-holds
-    first-link-requires
-    enum-known-letter
-    step-requires
-    add-hops
-    loop-less
-    loop-again
-    enum-known-end
-    closes-requires
-    enum-known-last
-    enum-told
-    returns
-    returns-2
-    enum-told-2
-    returns-3)
+    (tie.spec Inv-loop μ-loop loop-holds first-link-requires (λ c. search needs) step-requires add-hops loop-less loop-again (λ c. search needs)
+    closes-requires (λ c. search needs) (λ c. search needs) returns returns-2 (λ c. search needs) returns-3)

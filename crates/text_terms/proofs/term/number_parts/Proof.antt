@@ -11,21 +11,6 @@ use Rattle.text_terms.specs.Term.{plainParts, numberParts}
 use Rattle.text_terms.proofs.term.number_parts.Statement.{statement}
 use Rattle.text_terms.proofs.term.number_parts.Tie as tie
 
-in-range-requires : tie.Need-in-range-requires
-in-range-requires c = search needs
-
-enum-known-number : tie.Need-enum-known-number
-enum-known-number c = search needs
-
-plain-parts-requires : tie.Need-plain-parts-requires
-plain-parts-requires c = search needs
-
-enum-told : tie.Need-enum-told
-enum-told c = search needs
-
-plain-parts-requires-2 : tie.Need-plain-parts-requires-2
-plain-parts-requires-2 c = search needs
-
 returns : tie.Need-returns
 returns c =
     let s = c .before .before .before .before in
@@ -43,11 +28,4 @@ returns-2 c =
 pub number-parts-spec : {M : Type 1} → statement M
 number-parts-spec =
     tie.close
-    (tie.spec
-    in-range-requires
-    enum-known-number
-    plain-parts-requires
-    enum-told
-    plain-parts-requires-2
-    returns
-    returns-2)
+    (tie.spec (λ c. search needs) (λ c. search needs) (λ c. search needs) (λ c. search needs) (λ c. search needs) returns returns-2)

@@ -19,16 +19,10 @@ use Rattle.text_terms.proofs.term.number_term.Tie as tie
 next-token-requires : tie.Need-next-token-requires
 next-token-requires c κs = c .before .pre .0
 
-enum-known-token : tie.Need-enum-known-token
-enum-known-token c = search needs
-
 returns : tie.Need-returns
 returns c =
     number-none (c .before .before .before .pre .1) (lexed _ _ _ (c .before .before .before .pre .0) (c .before .next-token .ensures))
     (λ v. told (0 ∷ 1 ∷ 2 ∷ 3 ∷ 4 ∷ 5 ∷ 6 ∷ 7 ∷ 9 ∷ 10 ∷ 11 ∷ 12 ∷ 13 ∷ 14 ∷ 15 ∷ 16 ∷ 17 ∷ 18 ∷ 19 ∷ []) (c .match .keys2) tt)
-
-number-parts-requires : tie.Need-number-parts-requires
-number-parts-requires c κs = search needs
 
 returns-2 : tie.Need-returns-2
 returns-2 c =
@@ -42,4 +36,4 @@ returns-2 c =
     (goes-on w _ (c .before .before .token .given .1) tt))
 
 pub number-term-spec : {M : Type 1} → statement M
-number-term-spec = tie.close (tie.spec next-token-requires enum-known-token returns number-parts-requires returns-2)
+number-term-spec = tie.close (tie.spec next-token-requires (λ c. search needs) returns (λ c κs. search needs) returns-2)

@@ -13,22 +13,13 @@ use Rattle.chain_text.proofs.Scanning.{step-small}
 use Rattle.text_terms.specs.Chain.{LinkAt, Opens, ChainAt}
 use Rattle.text_terms.specs.Term.{ChainTerm, ChainPartsAt}
 use Rattle.text_codes.specs.declared.code.TermParts.{TermParts}
-use Rattle.text_terms.proofs.ChainForms.{chain-closed, chain-inside}
+use Rattle.text_terms.proofs.ChainForms.{chain-closed, chain-inside, chain-small}
 use Rattle.text_terms.proofs.Terms.{own-chain, letter-chain}
 use Rattle.text_terms.proofs.term.read_chain.Statement.{statement}
 use Rattle.text_terms.proofs.term.read_chain.Tie as tie
 
-first-link-requires : tie.Need-first-link-requires
-first-link-requires c κs = search needs
-
-enum-known-end : tie.Need-enum-known-end
-enum-known-end c = search needs
-
 chain-parts-requires : tie.Need-chain-parts-requires
-chain-parts-requires c κs = search needs
-
-enum-known-letter : tie.Need-enum-known-letter
-enum-known-letter c = search needs
+chain-parts-requires c κs = omega arith
 
 -- the letter that opens
 opens : (c : tie.After-known-told2) → let a = c .before .before .before .before .before .args in Opens (a .due) (now (a .line)) (a .at)
@@ -55,11 +46,20 @@ closed-requires c κs =
     chain-inside (a .sizes) 15 (c .before .step .result) false (now (a .line)) (c .before .before .before .letter .given .0 .1 .0) (c .read .result)
     (c .read .ensures)
 
-chain-term-requires : tie.Need-chain-term-requires
-chain-term-requires c κs = search needs
+-- the chain in its brackets
+bracketed : (c : tie.After-closed) → let a = c .before .before .before .before .before .before .before .before .args in
+    ChainAt (a .sizes) 16 start (a .due) (now (a .line)) (a .at) (c .closed .result)
+bracketed c =
+    let a = c .before .before .before .before .before .before .before .before .args in
+    let k = c .before .before .before .before .letter .given .0 in
+    chain-closed (a .sizes) 16 start (opens (c .before .before .before)) (c .before .read .result) (c .closed .result)
+    (subst (λ (y : Letters). ChainAt (a .sizes) 15 y false (now (a .line)) (k .1 .0) (c .before .read .result)) (c .before .before .step .ensures)
+    (c .before .read .ensures))
+    (c .closed .ensures)
 
-enum-told : tie.Need-enum-told
-enum-told c = search needs
+chain-term-requires : tie.Need-chain-term-requires
+chain-term-requires c κs = let a = c .before .before .before .before .before .before .before .before .args in
+    chain-small (a .sizes) 16 start (a .due) (now (a .line)) (a .at) (c .closed .result) (bracketed c)
 
 returns : tie.Need-returns
 returns c =
@@ -70,14 +70,8 @@ returns c =
 returns-2 : tie.Need-returns-2
 returns-2 c =
     let a = c .before .before .before .before .before .before .before .before .before .args in
-    let o = opens (c .before .before .before .before) in
-    let inner : ChainAt (a .sizes) 15 (step (a .sizes) 16 start (c .before .before .before .before .before .letter .given .0 .0)) false (now (a .line))
-    (c .before .before .before .before .before .letter .given .0 .1 .0) (c .before .before .read .result) =
-    subst (λ (y : Letters). ChainAt (a .sizes) 15 y false (now (a .line)) (c .before .before .before .before .before .letter .given .0 .1 .0)
-    (c .before .before .read .result)) (c .before .before .before .step .ensures) (c .before .before .read .ensures) in
     subst (ChainPartsAt (a .sizes) (a .due) (now (a .line)) (a .at)) (sym (c .chain-term .ensures))
-    (letter-chain (a .sizes) o (c .before .closed .result)
-    (chain-closed (a .sizes) 16 start o (c .before .before .read .result) (c .before .closed .result) inner (c .before .closed .ensures)))
+    (letter-chain (a .sizes) (opens (c .before .before .before .before)) (c .before .closed .result) (bracketed (c .before)))
 
 returns-3 : tie.Need-returns-3
 returns-3 c = subst (LinkAt _ _ _) (c .enum-told .given .1) (c .before .before .first-link .ensures)
@@ -85,16 +79,5 @@ returns-3 c = subst (LinkAt _ _ _) (c .enum-told .given .1) (c .before .before .
 pub read-chain-spec : {M : Type 1} → statement M
 read-chain-spec =
     tie.close
-    (tie.spec
-    first-link-requires
-    enum-known-end
-    chain-parts-requires
-    enum-known-letter
-    step-requires
-    read-requires
-    closed-requires
-    chain-term-requires
-    enum-told
-    returns
-    returns-2
-    returns-3)
+    (tie.spec (λ c κs. search needs) (λ c. search needs) chain-parts-requires (λ c. search needs) step-requires read-requires closed-requires
+    chain-term-requires (λ c. search needs) returns returns-2 returns-3)

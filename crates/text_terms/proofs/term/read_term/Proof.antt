@@ -7,17 +7,9 @@ use Rattle.text_terms.proofs.Terms.{chain-term}
 use Rattle.text_terms.proofs.term.read_term.Statement.{statement}
 use Rattle.text_terms.proofs.term.read_term.Tie as tie
 
-read-chain-requires : tie.Need-read-chain-requires
-read-chain-requires c κs = search needs
-
-enum-known-parts : tie.Need-enum-known-parts
-enum-known-parts c = search needs
-
-enum-told : tie.Need-enum-told
-enum-told c = search needs
-
 number-term-requires : tie.Need-number-term-requires
-number-term-requires c κs = (c .before .before .before .before .pre .1, subst (ChainPartsAt _ _ _ _) (c .enum-told .given .1) (c .before .before .read-chain .ensures))
+number-term-requires c κs =
+    (c .before .before .before .before .pre .1, subst (ChainPartsAt _ _ _ _) (c .enum-told .given .1) (c .before .before .read-chain .ensures))
 
 returns : tie.Need-returns
 returns c = c .number-term .ensures
@@ -28,10 +20,4 @@ returns-2 c = chain-term (subst (ChainPartsAt _ _ _ _) (c .before .parts .given 
 pub read-term-spec : {M : Type 1} → statement M
 read-term-spec =
     tie.close
-    (tie.spec
-    read-chain-requires
-    enum-known-parts
-    enum-told
-    number-term-requires
-    returns
-    returns-2)
+    (tie.spec (λ c κs. search needs) (λ c. search needs) (λ c. search needs) number-term-requires returns returns-2)

@@ -1,3 +1,0 @@
--- Laws of the definitions of `specs/`, for the proofs here and in the crates above.
-pub mod Listing
-pub mod Marking
