@@ -1,7 +1,7 @@
 //! Paths as Rust values.
 
 use crate::lent::{self, PathBuffers};
-use crate::{Cell, Register};
+use crate::Cell;
 
 /// A hop of a path: the cell that it looks at.
 #[derive(Clone, Copy, Debug, PartialEq, Eq)]
@@ -30,24 +30,20 @@ impl Path {
     /// The path from a record that a call has left in the buffers. The reading is
     /// the last cell, for the chain `u` the record's own number.
     pub(crate) fn taken_from(
-        register: &Register,
         record: usize,
         buffers: &PathBuffers,
         answer: &lent::Answer,
     ) -> Path {
         let hop = |i: usize| {
-            let record = buffers.records[i] as usize;
-            let field = char::from(buffers.fields[i]);
-            // The call tells what is read; where the value comes from stands in the file.
-            let cell = match (buffers.marks[i], register.cell(record, field)) {
-                (0, _) => Cell::Unfilled,
-                (_, Some(Cell::WorkedOut(_))) => Cell::WorkedOut(buffers.values[i] as i32),
-                _ => Cell::Measured(buffers.values[i] as i32),
-            };
+            let value = buffers.values[i] as i32;
             Hop {
-                record,
-                field,
-                cell,
+                record: buffers.records[i] as usize,
+                field: char::from(buffers.fields[i]),
+                cell: match buffers.marks[i] {
+                    0 => Cell::Unfilled,
+                    1 => Cell::Measured(value),
+                    _ => Cell::WorkedOut(value),
+                },
             }
         };
         let hops: Vec<Hop> = (0..answer[lent::HOPS] as usize).map(hop).collect();

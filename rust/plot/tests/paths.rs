@@ -48,10 +48,12 @@ fn expected(before: PathBuffers, sizes: Sizes, answer: &Result<Vec<Hop>, Refusal
     for (i, hop) in hops.iter().enumerate() {
         expected.buffers.records[i] = hop.record as u64;
         expected.buffers.fields[i] = sizes.letter(hop.field);
-        if let Some(value) = hop.cell.value() {
-            expected.buffers.values[i] = i64::from(value);
-            expected.buffers.marks[i] = 1;
-        }
+        expected.buffers.values[i] = hop.cell.value().map_or(0, i64::from);
+        expected.buffers.marks[i] = match hop.cell {
+            Cell::Missing => 0,
+            Cell::Measured(_) => 1,
+            Cell::WorkedOut(_) => 2,
+        };
     }
     expected
 }
