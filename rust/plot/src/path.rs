@@ -1,7 +1,7 @@
 //! Paths as Rust values.
 
-use crate::lent::{self, PathBuffers};
 use crate::Cell;
+use crate::lent::{self, PathBuffers};
 
 /// A hop of a path: the cell that it looks at.
 #[derive(Clone, Copy, Debug, PartialEq, Eq)]
@@ -29,11 +29,7 @@ pub struct Path {
 impl Path {
     /// The path from a record that a call has left in the buffers. The reading is
     /// the last cell, for the chain `u` the record's own number.
-    pub(crate) fn taken_from(
-        record: usize,
-        buffers: &PathBuffers,
-        answer: &lent::Answer,
-    ) -> Path {
+    pub(crate) fn taken_from(record: usize, buffers: &PathBuffers, answer: &lent::Answer) -> Path {
         let hop = |i: usize| {
             let value = buffers.values[i] as i32;
             Hop {
