@@ -23,7 +23,7 @@ use Rattle.program.specs.Program.{targetField, expressionReadings, testReadings
 use Rattle.text_numerals.specs.Numeral.{isDigit, digits, decimal, allDigits, centimetres, wholeDigits, noLeadingZero, twoDecimals, isNumeral, withDecimals, numeral, printedNumeral, signedForm, numberValue, signedValue}
 use Rattle.text_numerals.specs.Span.{span}
 use Rattle.text_numerals.specs.Word.{opensWith}
-use Rattle.text_syntax.specs.Lexing.{spelled, words, signs, fixedToken, numberToken, firstToken, operandBehind, isSpace, unlessEmpty, skipped, followed, tokensFrom, tokensAt, tokens}
+use Rattle.text_syntax.specs.Lexing.{spelled, words, signs, fixedToken, numberToken, firstToken, operandBehind, isSpace, unlessEmpty, skipped, followed, tokensWithin, tokensAt, tokens}
 use Rattle.text_syntax.specs.Kind.{kind, fixedIn, letterIn, writeIn, operatorIn, comparisonIn, same, is}
 use Rattle.text_syntax.specs.Form.{held, oneOf, past, then, thenOr, or, whole}
 use Rattle.text_syntax.specs.Grammar.{linked, chainForm, numberIn, termForm, groupForm, operandForm, isSum, isSmaller, operatorForm, joinedTo, joined, expressionForm, expression, localForm, sentForm, remoteForm, ruleForm, comparedForm, testedForm, anyForm, lineForm}
@@ -53,7 +53,7 @@ alteringText = bytes "step\nif N[u] == N[u]: M[u] := 1\nend\n"
 
 -- the cells behind its run over the register of these cells, "allowance 1,000"
 unfoldable pub cellsBehind : List Cell → Outcome (List Cell)
-unfolding textProgram readFrom start closedText lineOutcome advance settingIn withStep pieceForm lines onto check after unless lineRefusal planFits sortsAgree oneSort someTarget isTotal isLeast hasRoom inPlace openRules isOpen isOutside isDigit digits decimal allDigits centimetres wholeDigits noLeadingZero twoDecimals isNumeral withDecimals numeral printedNumeral signedForm numberValue signedValue span opensWith spelled words signs fixedToken numberToken firstToken operandBehind isSpace unlessEmpty skipped followed tokensFrom tokensAt tokens kind fixedIn letterIn writeIn operatorIn comparisonIn same is held oneOf past then thenOr or whole linked chainForm numberIn termForm groupForm operandForm isSum isSmaller operatorForm joinedTo joined expressionForm expression localForm sentForm remoteForm ruleForm comparedForm testedForm anyForm lineForm conditionExpressions actionExpressions expressions everyExpression everyTerm termsPass target termNamed fieldNamed named termKinded isReferenceTerm isReferenceExpression isMeasure oneKind sameKind conditionKinds actionKinds kindsAgree kinded termShort short termInRange numbersInRange depth shallow operators fewOperators termTree treeOf testOf targetOf sourceOf ruleOf inRange startsWith C.isCapital C.letterField C.isReferenceLetter C.names every C.innerReferences C.wordOf stepPlan readings ruleReadings targetReadings testReadings expressionReadings plan addReadings add withTree tree treeWithin fourBytes wordAt wordBytes valueAt valueBytes eqZ orElse firstOf valueOf markOf valuesOf marksOf width cellCount cellIndex sizesOf valuesPart marksPart fileOf withinLimits cellRefusal refusalAt recordRefusal cellsRefusal loadSized load isReference column readOf readCell hop follow valueAtRecord both value readingInRange cellInRange overflows compare compareReadings holds targetField storedOver assign localRule localRules localRecords testOverflows offends sumColumn sentBy ruleMessages messages recordMessages deliverAll stepCells earlier firstSome inRecord sumOffence totalColumn totalOffence offence direct entered following behind unlessOffended stepFirst runFrom run
+unfolding textProgram readFrom start closedText lineOutcome advance settingIn withStep pieceForm lines onto check after unless lineRefusal planFits sortsAgree oneSort someTarget isTotal isLeast hasRoom inPlace openRules isOpen isOutside isDigit digits decimal allDigits centimetres wholeDigits noLeadingZero twoDecimals isNumeral withDecimals numeral printedNumeral signedForm numberValue signedValue span opensWith spelled words signs fixedToken numberToken firstToken operandBehind isSpace unlessEmpty skipped followed tokensWithin tokensAt tokens kind fixedIn letterIn writeIn operatorIn comparisonIn same is held oneOf past then thenOr or whole linked chainForm numberIn termForm groupForm operandForm isSum isSmaller operatorForm joinedTo joined expressionForm expression localForm sentForm remoteForm ruleForm comparedForm testedForm anyForm lineForm conditionExpressions actionExpressions expressions everyExpression everyTerm termsPass target termNamed fieldNamed named termKinded isReferenceTerm isReferenceExpression isMeasure oneKind sameKind conditionKinds actionKinds kindsAgree kinded termShort short termInRange numbersInRange depth shallow operators fewOperators termTree treeOf testOf targetOf sourceOf ruleOf inRange startsWith C.isCapital C.letterField C.isReferenceLetter C.names every C.innerReferences C.wordOf stepPlan readings ruleReadings targetReadings testReadings expressionReadings plan addReadings add withTree tree treeWithin fourBytes wordAt wordBytes valueAt valueBytes eqZ orElse firstOf valueOf markOf valuesOf marksOf width cellCount cellIndex sizesOf valuesPart marksPart fileOf withinLimits cellRefusal refusalAt recordRefusal cellsRefusal loadSized load isReference column readOf readCell hop follow valueAtRecord both value readingInRange cellInRange overflows compare compareReadings holds targetField storedOver assign localRule localRules localRecords testOverflows offends sumColumn sentBy ruleMessages messages recordMessages deliverAll stepCells earlier firstSome inRecord sumOffence totalColumn totalOffence offence direct entered following behind unlessOffended stepFirst runFrom run
 cellsBehind cells =
     after (check (fileOf pairSizes cells) alteringText) (λ p. done (run pairSizes (direct pairSizes) p 1000 cells .cells))
 

@@ -119,14 +119,14 @@ followed none f = unknown ∷ []
 followed (first k r) f = k ∷ f (operandBehind k) (skipped r)
 
 -- the tokens of a text, n at most
-unfoldable pub tokensFrom : ℕ → Bool → List ℕ → List Token
-tokensFrom zero operand t = []
-tokensFrom (suc n) operand [] = []
-tokensFrom (suc n) operand (b ∷ t) = followed (firstToken operand (b ∷ t)) (tokensFrom n)
+unfoldable pub tokensWithin : ℕ → Bool → List ℕ → List Token
+tokensWithin zero operand t = []
+tokensWithin (suc n) operand [] = []
+tokensWithin (suc n) operand (b ∷ t) = followed (firstToken operand (b ∷ t)) (tokensWithin n)
 
 -- the tokens of a text, where an operand must begin or not
 unfoldable pub tokensAt : Bool → List ℕ → List Token
-tokensAt operand t = tokensFrom (length t) operand t
+tokensAt operand t = tokensWithin (length t) operand t
 
 -- the tokens of a line
 unfoldable pub tokens : List ℕ → List Token
