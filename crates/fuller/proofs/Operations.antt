@@ -28,7 +28,7 @@ use Rattle.op_inspect.specs.Inspection.{stepLines, inspection}
 use Rattle.op_inspect.specs.Answer.{StepAnswered}
 use Rattle.op_inspect.specs.declared.InspectAnswer.{InspectAnswer}
 use Rattle.fuller.specs.Fuller.{Retained, Fuller, FullerFile}
-use Rattle.fuller.specs.Claims.{MessagesRetained, PlacesRetained, AnswersRetained, FullerClaims}
+use Rattle.fuller.specs.Claims.{MessagesRetained, PlacesRetained, FullerClaims}
 use Rattle.fuller.proofs.Readings.{readings-retained}
 use Rattle.fuller.proofs.Messages.{messages-retained, step-most}
 

@@ -1,13 +1,10 @@
 -- A fuller register whose depth a whole text alters.
 use Prim.Native.Nat.{ℕ, zero, suc}
-use mathlib.Core.Path.{_≡_, refl}
-use mathlib.Core.List.{[], _∷_}
-use lib.IntN.{pos}
+use mathlib.Core.Path.{refl}
 use lib.ListN.{getD}
-use Rattle.laws.specs.Outcome.{done}
 use Rattle.register.specs.Cells.{cellOf, cellsOf}
-use Rattle.register.specs.File.{fileOf, cellsOfFile}
-use Rattle.register.specs.declared.cells.Cell.the-variants.{Missing, Measured, WorkedOut}
+use Rattle.register.specs.File.{cellsOfFile}
+use Rattle.register.specs.declared.cells.Cell.the-variants.{Missing}
 use Rattle.chain.specs.Word.{readOf}
 use Rattle.fuller.specs.Fuller.{Retained}
 use Rattle.fuller.specs.WholeText.{firstCells, secondCells, cellsBehind, WholeTextAlters}

@@ -1,10 +1,9 @@
 -- "cell by cell 3, 4, 5": the first cell that is refused decides, whatever a later one is.
 use mathlib.Core.Path.{_≡_, refl}
-use mathlib.Core.List.{List, [], _∷_}
+use mathlib.Core.List.{[], _∷_}
 use Rattle.laws.specs.Outcome.{orElse, first}
 use Rattle.integers.specs.Bytes.{fourBytes, wordAt, valueAt}
 use Rattle.integers.specs.Range.{eqZ, isIndex}
-use Rattle.register.specs.declared.Sizes.{Sizes}
 use Rattle.register.specs.File.{width, cellIndex}
 use Rattle.register.specs.Load.{cellRefusal, refusalAt, recordRefusal, cellsRefusal}
 

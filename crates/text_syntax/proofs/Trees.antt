@@ -1,13 +1,13 @@
 -- Every tree is written.
-use mathlib.Core.Path.{_≡_, ap₂}
+use mathlib.Core.Path.{ap₂}
 use Prim.Native.Nat.{_<_}
 use native.Mathlib.Omega.{arith}
 use Rattle.program.specs.declared.rule.Operator.{Operator}
 use Rattle.program.specs.declared.rule.Operator.the-variants.{Plus, Minus, Smaller}
 use Rattle.program.specs.Program as P
-use Rattle.text_syntax.specs.Written.{Expression, term, group, operation, chain, number}
-use Rattle.text_syntax.specs.Printed.{tightness, bound, ProperExpression}
-use Rattle.text_syntax.specs.Tree.{termTree, treeOf, TermsWritten, TreesWritten}
+use Rattle.text_syntax.specs.Written.{term, group, operation, chain, number}
+use Rattle.text_syntax.specs.Printed.{tightness, bound}
+use Rattle.text_syntax.specs.Tree.{termTree, treeOf, TreesWritten}
 
 loose : (o : Operator) → tightness o < 2
 unfolding tightness
