@@ -15,8 +15,8 @@ pub struct Hop {
 }
 
 /// The path behind a reading. It is the whole reason: every register of the same
-/// sizes that agrees on its cells, values and whether filled, has the same path and
-/// the same reading.
+/// sizes that agrees on its cells, values and whether filled, has the same path, but
+/// for measured against worked out, and the same reading.
 #[derive(Clone, Debug, PartialEq, Eq)]
 pub struct Path {
     /// The hops from the inside out, up to the value or the first gap. There are
