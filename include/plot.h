@@ -107,12 +107,13 @@ uint32_t plot_read(const uint8_t *file, size_t file_length, const uint8_t *text,
  *
  * Refused as plot_read is. Otherwise answer[PLOT_ANSWER_HOPS] is the number of hops, 0
  * for the chain u, and for each hop i: records[i] is its record, fields[i] the letter of
- * its field, marks[i] 1 where that cell is filled, measured or worked out, and 0 where it
- * is not, and values[i] its value, 0 where it is unfilled. Places behind the last hop become 0. On a refusal the four
- * arrays stay as they were.
+ * its field, values[i] the value of that cell, 0 where it is unfilled, and marks[i] its
+ * mark as the file has it: 0 unfilled, 1 measured, 2 worked out. Places behind the last
+ * hop become 0. On a refusal the four arrays stay as they were.
  *
  * The list is the whole reason: every register of the same sizes that agrees on these
- * cells has the same path and the same reading.
+ * cells, on their values and on which are filled, has the same path, but for marks 1
+ * against 2, and the same reading.
  */
 uint32_t plot_path(const uint8_t *file, size_t file_length, const uint8_t *text, size_t text_length, uint64_t u,
                    uint64_t records[16], uint8_t fields[16], int64_t values[16], uint8_t marks[16],

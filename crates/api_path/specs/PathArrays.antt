@@ -3,18 +3,12 @@ use Prim.Native.Nat.{ℕ}
 use mathlib.Core.List.{List, map}
 use lib.IntN.{ℤ, pos}
 use lib.ListN.{getD}
-use Rattle.register.specs.Cells.{valueOf}
-use Rattle.register.specs.declared.cells.Cell.{Cell}
-use Rattle.chain.specs.Word.{readOf}
-use Rattle.chain.specs.Way.{isFilled}
+use Rattle.register.specs.Cells.{valueOf, markOf}
 use Rattle.chain_path.specs.declared.Hop.{Hop}
-use Rattle.api_plan.specs.PlanArrays.{flagNumber, letterOf, PlacesHold}
+use Rattle.api_plan.specs.PlanArrays.{letterOf, PlacesHold}
 
--- 1 where a cell is filled, measured or worked out: what is read of it, not its mark in the file
-unfoldable pub filledMark : Cell → ℕ
-filledMark c = flagNumber (isFilled (readOf c))
-
--- the record at which hop i stands, the letter of its field, its cell's value and whether it is filled; 0 behind the last hop
+-- "each hop's record, field and cell" (M-109), for hop i: the record at which it stands, the letter of its field, and of its cell the value and
+-- the mark, as the file has them; 0 behind the last hop
 unfoldable pub recordAt : List Hop → ℕ → ℕ
 recordAt hs i = getD (map (λ h. h .u) hs) i 0
 
@@ -25,7 +19,7 @@ unfoldable pub hopValueAt : List Hop → ℕ → ℤ
 hopValueAt hs i = getD (map (λ h. valueOf (h .cell)) hs) i (pos 0)
 
 unfoldable pub hopMarkAt : List Hop → ℕ → ℕ
-hopMarkAt hs i = getD (map (λ h. filledMark (h .cell)) hs) i 0
+hopMarkAt hs i = getD (map (λ h. markOf (h .cell)) hs) i 0
 
 -- the four arrays of these hops
 pub record PathArrays (hs : List Hop) (records fields : List ℕ) (values : List ℤ) (marks : List ℕ) : Type 0 where

@@ -1,8 +1,8 @@
 // A path's hops as the four arrays of the C interface.
 ghost use mathlib.Core.Path.{_≡_};
-ghost use Rattle.register.specs.Cells.{valueOf};
+ghost use Rattle.register.specs.Cells.{valueOf, markOf};
 ghost use Rattle.chain_path.specs.Path.{hopsOf, HoldsPath};
-ghost use Rattle.api_path.specs.PathArrays.{filledMark, PathArrays};
+ghost use Rattle.api_path.specs.PathArrays.{PathArrays};
 use chain_path::Path;
 use register::cells::Cell;
 
@@ -17,14 +17,14 @@ fn value_of(cell: Cell) -> i64
     }
 }
 
-// Whether a cell is filled: 1 where it is, measured or worked out.
+// The mark of a cell, as the file has it.
 fn mark_of(cell: Cell) -> u8
-    ensures { λ r. ⌜ r ≡ filledMark cell ⌝ }
+    ensures { λ r. ⌜ r ≡ markOf cell ⌝ }
 {
     match cell {
         Cell::Missing => 0,
         Cell::Measured(_) => 1,
-        Cell::WorkedOut(_) => 1,
+        Cell::WorkedOut(_) => 2,
     }
 }
 

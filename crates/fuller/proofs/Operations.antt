@@ -28,9 +28,9 @@ use Rattle.op_inspect.specs.Inspection.{stepLines, inspection}
 use Rattle.op_inspect.specs.Answer.{StepAnswered}
 use Rattle.op_inspect.specs.declared.InspectAnswer.{InspectAnswer}
 use Rattle.fuller.specs.Fuller.{Retained, Fuller, FullerFile}
-use Rattle.fuller.specs.Claims.{MessagesRetained, PlacesRetained}
+use Rattle.fuller.specs.Claims.{MessagesRetained, PlacesRetained, FullerClaims}
 use Rattle.fuller.proofs.Readings.{readings-retained}
-use Rattle.fuller.proofs.Messages.{messages-retained}
+use Rattle.fuller.proofs.Messages.{messages-retained, step-most}
 
 -- a value of the first is that of the second
 retained-value : (x y : Reading) → Retained x y → {z : ℤ} → x ≡ Value z → y ≡ Value z
@@ -71,19 +71,19 @@ shown-retained {s} {cells} {cells′} fuller {l} {t} p q i u hi hu =
 
 module _ {s : Sizes} {file file′ : List ℕ} (k : FullerFile s file file′) where
   -- a single reading that is filled
-  pub reading-retained : (text : List ℕ) (u : ℕ) {z : ℤ} → reading file text u ≡ done (Value z) → reading file′ text u ≡ done (Value z)
+  reading-retained : (text : List ℕ) (u : ℕ) {z : ℤ} → reading file text u ≡ done (Value z) → reading file′ text u ≡ done (Value z)
   unfolding readingLoaded
   reading-retained text u e =
       reading-loaded file′ text u (k .loads′)
       ∙ at-retained s (k .cells-fuller) u (wordOfForm s (form text)) (sym (reading-loaded file text u (k .loads)) ∙ e)
 
   -- a text is the same program, or refused alike
-  pub check-same : (text : List ℕ) → check file text ≡ check file′ text
+  check-same : (text : List ℕ) → check file text ≡ check file′ text
   unfolding check
   check-same text = rw (k .loads, k .loads′) refl
 
   -- the plan of every step of a text that passes
-  pub text-retained : (text : List ℕ) {p : Program} → check file text ≡ done p → {x : Step} → List·Memᴰ x p
+  text-retained : (text : List ℕ) {p : Program} → check file text ≡ done p → {x : Step} → List·Memᴰ x p
       → MessagesRetained s (cellsOfFile s file) (cellsOfFile s file′) (stepPlan (x .rules))
   text-retained text e {x} i = messages-retained s (k .cells-fuller) (stepPlan (x .rules))
 
@@ -94,15 +94,31 @@ module _ {s : Sizes} {file file′ : List ℕ} (k : FullerFile s file file′) w
   lines-same step a b (done p) = rw (← loads-with s file (k .loads) .sizes, ← loads-with s file′ (k .loads′) .sizes) refl
 
   -- the same step is looked at, or the look refused alike
-  pub inspection-same : (text : List ℕ) (step a b : ℕ) → inspection file text step a b ≡ inspection file′ text step a b
+  inspection-same : (text : List ℕ) (step a b : ℕ) → inspection file text step a b ≡ inspection file′ text step a b
   unfolding inspection
   inspection-same text step a b = rw (check-same text) (lines-same step a b (check file′ text))
 
   -- two looks at it, whatever their buffers held before
-  pub look-retained : {l : List Fact} {t : ℕ} {v w values values′ : List ℤ} {m n marks marks′ : List ℕ} {r r′ : InspectAnswer}
+  look-retained : {l : List Fact} {t : ℕ} {v w values values′ : List ℤ} {m n marks marks′ : List ℕ} {r r′ : InspectAnswer}
       → StepAnswered l file t v m values marks r → StepAnswered l file′ t w n values′ marks′ r′
       → PlacesRetained (s .records) (length l) values marks values′ marks′
   look-retained {l} {t} {v} {w} {values} {values′} {m} {n} {marks} {marks′} p q =
       shown-retained (k .cells-fuller)
       (subst (λ (s : Sizes). Shown s (cellsOfFile s file) l t v m values marks) (sym (loads-with s file (k .loads) .sizes)) (p .shown))
       (subst (λ (s : Sizes). Shown s (cellsOfFile s file′) l t w n values′ marks′) (sym (loads-with s file′ (k .loads′) .sizes)) (q .shown))
+
+-- for every two such files
+pub fuller-claims : FullerClaims
+fuller-claims =
+    record {
+      readings = readings-retained;
+      messages = messages-retained;
+      counted = step-most;
+      answers = λ k. record {
+        reading-retained = reading-retained k;
+        check-same = check-same k;
+        text-retained = text-retained k;
+        inspection-same = inspection-same k;
+        look-retained = look-retained k;
+      };
+    }

@@ -16,7 +16,7 @@ use Rattle.machine.specs.Value.{cellInRange}
 use Rattle.machine.specs.Local.{offends}
 use Rattle.machine.specs.Step.{stepCells, Offence}
 
--- a rule of these is done and forms a sum out of range for column c
+-- a rule of these forms a sum out of range, in its test or where that holds, and writes column c
 abbrev pub SumThere : Sizes → (List ℕ → Reading) → List Rule → ℕ → Type 0
 SumThere s read rs c = (r : Rule) × List·Memᴰ r rs × (offends read r ≡ true) × (column s (targetField (r .target)) ≡ c)
 

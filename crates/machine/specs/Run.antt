@@ -93,7 +93,7 @@ stepFirst s reader goOn (x ∷ rest) p cells =
     (behind x cells (goOn (following s (x .setting) rest after pass) pass after))
 
 -- the run of the steps to come, with a budget for this many more: "Before each step, if the finished steps equal the
--- allowance .. the run is stopped as exhausted"
+-- allowance (an unsigned 16-bit number), the run is stopped as spent."
 unfoldable pub runFrom : Sizes → Reader → ℕ → List Step → Pass → List Cell → Run
 runFrom s reader zero [] p cells = ended cells complete
 runFrom s reader zero (x ∷ rest) p cells = ended cells exhausted

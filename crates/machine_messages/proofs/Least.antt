@@ -14,11 +14,7 @@ use Rattle.plan_theory.proofs.Places.{place-line}
 use Rattle.plan_theory.specs.Promise.{Promise}
 use Rattle.plan_theory.proofs.Kept.{plan-promise}
 use Rattle.program.specs.Program.{Step, readings, stepPlan}
-
--- "a reading's rounds in the plan are the round of its Read line, 0 where it has none"
-pub data RoundsInPlan (l : List Fact) (w : List ℕ) : ℕ → Type 0 where
-  listed : (i : ℕ) → i < length l → line l i ≡ read w → RoundsInPlan l w (round (line l i))
-  unlisted : ((i : ℕ) → i < length l → line l i ≡ read w → ⊥) → RoundsInPlan l w 0
+use Rattle.machine_messages.specs.Least.{RoundsInPlan, listed, unlisted, ReadingsLeast}
 
 module _ {ws : List (List ℕ)} {l : List Fact} (p : Promise ws l) {w : List ℕ} (m : List·Memᴰ w ws) where
   -- a reading has its Read line exactly if it has two or more hops
@@ -44,8 +40,12 @@ module _ {ws : List (List ℕ)} {l : List Fact} (p : Promise ws l) {w : List ℕ
       (λ (h : 2 ≤ length w). let (b, e) = reading-line h in absurd (none (lineIndex l (read w)) b e))
       (lt-or-le (length w) 2)
 
--- each reading of a step: the plan derives it in that many rounds, and "every other derivation .. has at least as many rounds
--- as that reading has in the plan"
-pub step-least : (x : Step) {w : List ℕ} → List·Memᴰ w (readings (x .rules)) → {n : ℕ} → RoundsInPlan (stepPlan (x .rules)) w n → LeastRounds w n
+-- each reading of a step
+pub step-least : (x : Step) → ReadingsLeast (x .rules)
 unfolding stepPlan
-step-least x {w} m r = subst (LeastRounds w) (sym (in-plan-round (plan-promise (readings (x .rules))) m r)) (round-least w)
+step-least x =
+    let promise = plan-promise (readings (x .rules)) in
+    record {
+      planned = λ {w} m. (round (read w), round-in-plan promise m);
+      least = λ {w} m r. subst (LeastRounds w) (sym (in-plan-round promise m r)) (round-least w);
+    }

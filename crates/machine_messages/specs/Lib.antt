@@ -2,3 +2,4 @@
 pub mod Held
 pub mod Counts
 pub mod By
+pub mod Least

@@ -20,7 +20,7 @@ use Rattle.register.specs.Shape.{Valid, refersWithin}
 use Rattle.register.specs.declared.Sizes.{Sizes}
 use Rattle.register.specs.declared.cells.Cell.{Cell}
 use Rattle.register.specs.declared.cells.Cell.the-variants.{Missing as Unfilled}
-use Rattle.register.proofs.Roundtrip.{Bytes, loads, cells-valid, load-encode, decode-encode}
+use Rattle.register.proofs.Roundtrip.{loads, cells-valid, load-encode, decode-encode}
 use Rattle.chain.specs.declared.reading.Reading.{Reading}
 use Rattle.chain.specs.declared.reading.Reading.the-variants.{Missing, Value}
 use Rattle.chain.specs.Word.{valueAtRecord}
@@ -31,6 +31,7 @@ use Rattle.chain_path.proofs.Reason.{reading-last, agree-same, unfilled-at, lis
 use Rattle.op_read.specs.Reading.{wordOfForm, atRecord, readingLoaded, reading}
 use Rattle.op_read.proofs.Outcomes.{not-done, same-done, reading-refused, reading-loaded}
 use Rattle.op_path.specs.Path.{pathOfWord, pathLoaded, readingPath, pathShows}
+use Rattle.op_path.specs.Reason.{ReadingIsLast, SameAt, PathIsReason, ListedNeeded}
 use Rattle.op_path.proofs.Outcomes.{path-refused, path-loaded}
 
 -- the word that is asked for at record u, or its refusal: the same for every register of these sizes
@@ -54,7 +55,7 @@ module _ (s : Sizes) (file text : List ℕ) (u : ℕ) (e : load file ≡ done s)
   reading-asked = reading-loaded file text u e ∙ asked-then _ (wordOfForm s (form text)) (ltb u (s .records))
 
 -- the reading is the last cell of the path, and refused where the path is
-pub reading-is-last : (file text : List ℕ) (u : ℕ) → reading file text u ≡ after (readingPath file text u) (λ hs. done (readBehind (Value (pos u)) hs))
+pub reading-is-last : ReadingIsLast
 unfolding after
 reading-is-last file text u = go (load file) refl
   where
@@ -70,16 +71,10 @@ reading-is-last file text u = go (load file) refl
     go (done s) e = reading-asked s file text u e ∙ word s (asked s text u) ∙ ap last (sym (path-asked s file text u e))
     go (refused k l) e = reading-refused file text u e ∙ ap last (sym (path-refused file text u e))
 
--- two registers in which a chain at record u has the same path and the same outcome
-pub record SameAt (file other text : List ℕ) (u : ℕ) : Type 0 where
-  pub path-same : pathShows (readingPath other text u) ≡ pathShows (readingPath file text u)
-  pub reading-same : reading other text u ≡ reading file text u
-
 module _ (s : Sizes) (file other text : List ℕ) (u : ℕ) (e : load file ≡ done s) (e′ : load other ≡ done s) where
-  -- "Its list must be the reason": cells outside the list may be any
-  pub path-reason : ((hs : List Hop) → readingPath file text u ≡ done hs → AgreesOn s (cellsOfFile s other) hs) → SameAt file other text u
+  agreed-same : ((hs : List Hop) → readingPath file text u ≡ done hs → AgreesOn s (cellsOfFile s other) hs) → SameAt file other text u
   unfolding pathAtRecord valueAtRecord after
-  path-reason agrees =
+  agreed-same agrees =
       go (asked s text u) (path-asked s file text u e) (path-asked s other text u e′) (reading-asked s file text u e) (reading-asked s other text u e′)
     where
       listed : List ℕ → List ℕ → Outcome (List Hop)
@@ -111,6 +106,10 @@ module _ (s : Sizes) (file other text : List ℕ) (u : ℕ) (e : load file ≡ d
           ro ∙ ap (λ (cells : List Cell). done (valueAtRecord s cells w u)) q ∙ ap done (listed-needed s (cellsOfFile s file) w (Value (pos u)) listed)
       go (refused k l) pf ro = not-done pf p
 
+-- "Its list must be the reason": cells outside the list may be any
+pub path-reason : PathIsReason
+path-reason s file other text u e e′ agrees = agreed-same s file other text u e e′ agrees
+
 -- cells of which one is made unfilled
 unfilled-valid : (s : Sizes) (cells : List Cell) (j : ℕ) → Valid s cells → Valid s (set cells j Unfilled)
 unfolding refersWithin valueOf
@@ -130,10 +129,8 @@ unfilled-valid s cells j v =
         go (no n) = rw (getD-set-other cells j i Unfilled Unfilled n) p
 
 -- the register with a listed cell made unfilled, all else as it was: it loads, and the reading is missing
-pub listed-each-needed : (s : Sizes) (file text : List ℕ) (u : ℕ) {hs : List Hop} {h : Hop} → Bytes file → load file ≡ done s
-    → readingPath file text u ≡ done hs → List·Memᴰ h hs
-    → let other = fileOf s (set (cellsOfFile s file) (cellPlace s h) Unfilled) in (load other ≡ done s) × (reading other text u ≡ done Missing)
-listed-each-needed s file text u {hs} {h} b e p m =
+pub listed-each-needed : ListedNeeded
+listed-each-needed s file text u hs h b e p m =
     let cells = set (cellsOfFile s file) (cellPlace s h) Unfilled in
     let v = unfilled-valid s (cellsOfFile s file) (cellPlace s h) (cells-valid s file b (loads s file e)) in
     (load-encode s cells v, unfilled-missing s file (fileOf s cells) text u e (load-encode s cells v) p m (decode-encode s cells v))

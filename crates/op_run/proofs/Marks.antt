@@ -24,6 +24,7 @@ use Rattle.run_steps.specs.declared.RunAnswer.{RunAnswer}
 use Rattle.op_check.proofs.Passed.{passed}
 use Rattle.op_run.specs.Answer.{Ended, RunAnswered}
 use Rattle.op_run.specs.Marks.{MeasuredBefore, UnfilledBefore}
+use Rattle.op_run.specs.Claims.{OutputMeasured, OutputUnfilled}
 use Rattle.op_run.proofs.Answering.{register}
 
 -- a cell by its mark
@@ -74,18 +75,22 @@ module _ (m : Machine) (file text : List ℕ) {p : Program} (e : check file text
 
   module _ {out : List ℕ} {values values′ : List ℤ} {marks marks′ : List ℕ} {r : RunAnswer}
       (a : RunAnswered m end file out values marks values′ marks′ r) where
-    -- a cell marked 1 in the output was marked 1 in the register as loaded, with the same value
-    pub output-measured : MeasuredBefore s file out
-    output-measured =
+    measured-before : MeasuredBefore s file out
+    measured-before =
         output-is (MeasuredBefore s file) s (end .cells) file (end .ending) out r (a .ended)
         (bytes-measured s (register file text e bytes) (encoded-register s (end .cells) valid)
         (rw (decode-encode s (end .cells) valid) (run-measured s (direct s) p budget (cellsOfFile s file))))
         (λ j l h. (h, refl))
 
-    -- and one marked 0 in the output was marked 0
-    pub output-unfilled : UnfilledBefore s file out
-    output-unfilled =
+    unfilled-before : UnfilledBefore s file out
+    unfilled-before =
         output-is (UnfilledBefore s file) s (end .cells) file (end .ending) out r (a .ended)
         (bytes-unfilled s (register file text e bytes) (encoded-register s (end .cells) valid)
         (rw (decode-encode s (end .cells) valid) (run-unfilled s (direct s) p budget (cellsOfFile s file))))
         (λ j l h. h)
+
+pub output-measured : OutputMeasured
+output-measured m file text p e bytes budget out values values′ marks marks′ r a = measured-before m file text e bytes budget a
+
+pub output-unfilled : OutputUnfilled
+output-unfilled m file text p e bytes budget out values values′ marks marks′ r a = unfilled-before m file text e bytes budget a

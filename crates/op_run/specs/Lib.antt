@@ -2,3 +2,4 @@
 pub mod Direct
 pub mod Answer
 pub mod Marks
+pub mod Claims

@@ -15,7 +15,7 @@ use Rattle.laws.specs.Bytes.{bytes}
 use Rattle.text_numerals.specs.Numeral.{isDigit, digits, decimal, allDigits, centimetres, wholeDigits, noLeadingZero, twoDecimals, isNumeral, withDecimals, numeral, printedNumeral, signedForm, numberValue, signedValue}
 use Rattle.text_numerals.specs.Span.{span}
 use Rattle.text_numerals.specs.Word.{opensWith}
-use Rattle.text_syntax.specs.Lexing.{spelled, words, signs, fixedToken, numberToken, firstToken, operandBehind, isSpace, unlessEmpty, skipped, followed, tokensFrom, tokensAt, tokens}
+use Rattle.text_syntax.specs.Lexing.{spelled, words, signs, fixedToken, numberToken, firstToken, operandBehind, isSpace, unlessEmpty, skipped, followed, tokensWithin, tokensAt, tokens}
 use Rattle.text_syntax.specs.Kind.{kind, fixedIn, letterIn, writeIn, operatorIn, comparisonIn, same, is}
 use Rattle.text_syntax.specs.Form.{held, oneOf, past, then, thenOr, or, whole}
 use Rattle.text_syntax.specs.Grammar.{linked, chainForm, numberIn, termForm, groupForm, operandForm, isSum, isSmaller, operatorForm, joinedTo, joined, expressionForm, expression, localForm, sentForm, remoteForm, ruleForm, comparedForm, testedForm, anyForm, lineForm}
@@ -30,7 +30,7 @@ use Rattle.program.specs.declared.setting.Setting.the-variants.{Single, Looped}
 
 -- the program of a text over a register of n records with the fields A and M
 unfoldable pub exampleProgram : ℕ → String → Outcome Program
-unfolding textProgram readFrom start closedText lineOutcome advance closeLoop lastOf settingIn withStep pieceForm lines onto after unless lineRefusal planFits sortsAgree oneSort someTarget isTotal isLeast hasRoom inPlace openRules isOpen isUsed isOutside isDigit digits decimal allDigits centimetres wholeDigits noLeadingZero twoDecimals isNumeral withDecimals numeral printedNumeral signedForm numberValue signedValue span opensWith spelled words signs fixedToken numberToken firstToken operandBehind isSpace unlessEmpty skipped followed tokensFrom tokensAt tokens kind fixedIn letterIn writeIn operatorIn comparisonIn same is held oneOf past then thenOr or whole linked chainForm numberIn termForm groupForm operandForm isSum isSmaller operatorForm joinedTo joined expressionForm expression localForm sentForm remoteForm ruleForm comparedForm testedForm anyForm lineForm conditionExpressions actionExpressions expressions everyExpression everyTerm termsPass target termNamed fieldNamed named termKinded isReferenceTerm isReference isMeasure oneKind sameKind conditionKinds actionKinds kindsAgree kinded termShort short termInRange numbersInRange depth shallow operators fewOperators termTree treeOf testOf targetOf sourceOf ruleOf inRange startsWith C.isCapital C.letterField C.isReferenceLetter C.names every C.innerReferences C.wordOf stepPlan readings ruleReadings targetReadings testReadings expressionReadings plan addReadings add planLines listed lineIndex sameFact sameWord tree treeWithin half doubled front rest
+unfolding textProgram readFrom start closedText lineOutcome advance closeLoop lastOf settingIn withStep pieceForm lines onto after unless lineRefusal planFits sortsAgree oneSort someTarget isTotal isLeast hasRoom inPlace openRules isOpen isUsed isOutside isDigit digits decimal allDigits centimetres wholeDigits noLeadingZero twoDecimals isNumeral withDecimals numeral printedNumeral signedForm numberValue signedValue span opensWith spelled words signs fixedToken numberToken firstToken operandBehind isSpace unlessEmpty skipped followed tokensWithin tokensAt tokens kind fixedIn letterIn writeIn operatorIn comparisonIn same is held oneOf past then thenOr or whole linked chainForm numberIn termForm groupForm operandForm isSum isSmaller operatorForm joinedTo joined expressionForm expression localForm sentForm remoteForm ruleForm comparedForm testedForm anyForm lineForm conditionExpressions actionExpressions expressions everyExpression everyTerm termsPass target termNamed fieldNamed named termKinded isReferenceTerm isReference isMeasure oneKind sameKind conditionKinds actionKinds kindsAgree kinded termShort short termInRange numbersInRange depth shallow operators fewOperators termTree treeOf testOf targetOf sourceOf ruleOf inRange startsWith C.isCapital C.letterField C.isReferenceLetter C.names every C.innerReferences C.wordOf stepPlan readings ruleReadings targetReadings testReadings expressionReadings plan addReadings add planLines listed lineIndex sameFact sameWord tree treeWithin half doubled front rest
 exampleProgram n t = textProgram (record { records = n; references = 1; measures = 1 }) (bytes t)
 
 -- a rule without a test, and a step outside loops

@@ -5,7 +5,8 @@ use Prim.Native.Nat.{ℕ, zero, suc, _+_, _*_, _^_, _≤_, _<_, max}
 use native.Mathlib.Omega.{arith}
 use native.Mathlib.Nat.{max-comm}
 use lib.ListN.{length}
-use Rattle.plan_theory.specs.Knows.{Knows, own-number, own-cell, told, LeastRounds}
+use Rattle.plan_theory.specs.Knows.{Knows, own-number, own-cell, told}
+use Rattle.plan_theory.specs.Least.{PlanLeast}
 use Rattle.plan_theory.proofs.Bound.{reading-bound}
 use Rattle.plan_theory.specs.Plan.{half, front, rest, Fact, back, read, word, hops, lineFrom, backNeed, readNeed, round}
 use Rattle.plan_theory.proofs.Half.{half-next, half-double, half-below}
@@ -72,7 +73,7 @@ pub plan-least : {c : List ℕ} {k : ℕ} → Knows [] c k → round (read c) �
 plan-least {c} {k} d = round-bound k (read c) (omega (arith, reading-bound d))
 
 -- so a reading's rounds in the plan are the least
-pub round-least : (c : List ℕ) → LeastRounds c (round (read c))
+pub round-least : PlanLeast
 round-least c = record { derived = plan-derives (read c); least = plan-least }
 
 round-le : (v w : List ℕ) → length v ≡ length w → round (read v) ≤ round (read w)

@@ -4,5 +4,6 @@ pub mod Refusals
 pub mod Parts
 pub mod Loading
 pub mod Arrays
+pub mod CellByCell
 pub mod Sound
 pub mod Roundtrip

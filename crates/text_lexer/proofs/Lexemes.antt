@@ -12,7 +12,7 @@ use Rattle.text_syntax.specs.Token as S
 use Rattle.program.specs.declared.rule.Operator.the-variants.{Plus, Minus, Smaller}
 use Rattle.text_syntax.specs.Token.{stepWord, endWord, doneWord, loopWord, ifWord, remoteWord, own, letter, number, becomes, colon, write, operator, comparison, openSquare, closeSquare, openRound, closeRound, unknown}
 use Rattle.text_syntax.specs.Lexing.{spelled, First, first, none, firstToken, operandBehind, skipped, tokensAt}
-use Rattle.text_syntax.specs.Spelling.{Known, spaces}
+use Rattle.text_syntax.specs.Spelling.{IsToken, spaces}
 use Rattle.text_syntax.proofs.Lexing.{first-began, first-known, skipped-text, tokens-first, tokens-none, tokens-empty}
 use Rattle.text_words.specs.Tokens.{tokenCode, sizedFirst}
 use Rattle.text_lexer.specs.Lexeme.{nextPlace, placed, lexeme, firstCode, Reads, Lexed}
@@ -116,7 +116,7 @@ pub byte-onward : (t : List ℕ) (at : ℕ) → at < length t → {end : ℕ} �
 byte-onward t at h place = (omega (arith, place-onward (at + 1) (drop (at + 1) t)), omega (arith, place-inside t (at + 1) (drop (at + 1) t) (omega arith) (length-drop (at + 1) t)))
 
 -- a token before others, as its code says it
-coded-reads : (k : S.Token) → Known k → (rest : Bool → List S.Token) → Reads (tokenCode k) (k ∷ rest (operandBehind k)) rest
+coded-reads : (k : S.Token) → IsToken k → (rest : Bool → List S.Token) → Reads (tokenCode k) (k ∷ rest (operandBehind k)) rest
 unfolding tokenCode operandBehind
 coded-reads stepWord h rest = refl
 coded-reads endWord h rest = refl

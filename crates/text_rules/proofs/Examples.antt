@@ -17,7 +17,7 @@ use Rattle.text_numerals.specs.Numeral.{isDigit, digits, decimal, whole, metres
 use Rattle.text_numerals.specs.Span.{span}
 use Rattle.text_numerals.specs.Word.{opensWith}
 use Rattle.text_syntax.specs.Written as W
-use Rattle.text_syntax.specs.Lexing.{spelled, words, signs, fixedToken, numberToken, firstToken, operandBehind, isSpace, unlessEmpty, skipped, followed, tokensFrom, tokensAt, tokens}
+use Rattle.text_syntax.specs.Lexing.{spelled, words, signs, fixedToken, numberToken, firstToken, operandBehind, isSpace, unlessEmpty, skipped, followed, tokensWithin, tokensAt, tokens}
 use Rattle.text_syntax.specs.Kind.{kind, fixedIn, letterIn, writeIn, operatorIn, comparisonIn, same, is}
 use Rattle.text_syntax.specs.Form as F
 use Rattle.text_syntax.specs.Grammar.{linked, chainForm, numberIn, termForm, groupForm, operandForm, isSum, isSmaller, operatorForm, joinedTo, joined, expressionForm, expression, localForm, sentForm, remoteForm, ruleForm, comparedForm, testedForm, anyForm, lineForm}
@@ -36,7 +36,7 @@ sizes = record { records = 3; references = 1; measures = 1 }
 
 -- the program or refusal of some bytes over a register of some sizes, and of a text over that register
 unfoldable pub answerOver : Sizes → List ℕ → Outcome Program
-unfolding textProgram readFrom start closedText lineOutcome advance closeLoop lastOf withStep settingIn ruleOf testOf targetOf sourceOf treeOf termTree pieceForm lines onto after unless lineRefusal planFits sortsAgree oneSort someTarget isTotal isLeast hasRoom fewOperators operators shallow depth numbersInRange termInRange short termShort kinded kindsAgree actionKinds conditionKinds sameKind oneKind isMeasure isReference isReferenceTerm termKinded named fieldNamed termNamed target termsPass everyTerm everyExpression expressions actionExpressions conditionExpressions inPlace openRules isOpen isUsed isOutside lineForm anyForm testedForm comparedForm ruleForm remoteForm sentForm localForm expression expressionForm joined joinedTo operatorForm isSmaller isSum operandForm groupForm termForm numberIn chainForm linked F.held F.oneOf F.past F.then F.thenOr F.or F.whole is same comparisonIn operatorIn writeIn letterIn fixedIn kind tokens tokensAt tokensFrom followed firstToken fixedToken words signs spelled opensWith span numberToken operandBehind skipped unlessEmpty isSpace isDigit digits decimal allDigits centimetres wholeDigits noLeadingZero twoDecimals isNumeral withDecimals numeral printedNumeral signedForm numberValue signedValue inRange startsWith C.isCapital C.letterField C.isReferenceLetter C.names every C.innerReferences C.wordOf stepPlan readings ruleReadings targetReadings testReadings expressionReadings plan addReadings add planLines listed lineIndex sameFact sameWord tree treeWithin half doubled front rest
+unfolding textProgram readFrom start closedText lineOutcome advance closeLoop lastOf withStep settingIn ruleOf testOf targetOf sourceOf treeOf termTree pieceForm lines onto after unless lineRefusal planFits sortsAgree oneSort someTarget isTotal isLeast hasRoom fewOperators operators shallow depth numbersInRange termInRange short termShort kinded kindsAgree actionKinds conditionKinds sameKind oneKind isMeasure isReference isReferenceTerm termKinded named fieldNamed termNamed target termsPass everyTerm everyExpression expressions actionExpressions conditionExpressions inPlace openRules isOpen isUsed isOutside lineForm anyForm testedForm comparedForm ruleForm remoteForm sentForm localForm expression expressionForm joined joinedTo operatorForm isSmaller isSum operandForm groupForm termForm numberIn chainForm linked F.held F.oneOf F.past F.then F.thenOr F.or F.whole is same comparisonIn operatorIn writeIn letterIn fixedIn kind tokens tokensAt tokensWithin followed firstToken fixedToken words signs spelled opensWith span numberToken operandBehind skipped unlessEmpty isSpace isDigit digits decimal allDigits centimetres wholeDigits noLeadingZero twoDecimals isNumeral withDecimals numeral printedNumeral signedForm numberValue signedValue inRange startsWith C.isCapital C.letterField C.isReferenceLetter C.names every C.innerReferences C.wordOf stepPlan readings ruleReadings targetReadings testReadings expressionReadings plan addReadings add planLines listed lineIndex sameFact sameWord tree treeWithin half doubled front rest
 answerOver s t = textProgram s t
 
 unfoldable pub answer : String → Outcome Program

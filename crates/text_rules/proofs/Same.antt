@@ -1,10 +1,10 @@
--- The program of a text that passes is made of its lines without their groups and with their numbers in centimetres: spaces, spare groups
--- and the way in which a number is written leave no trace in it.
+-- The program of a text that passes is made of what its lines are to the program: spaces, spare groups and the way in which a number is
+-- written leave no trace in it.
 use Prim.Native.Nat.{ℕ, zero, suc}
 use mathlib.Core.Path.{_≡_, refl, sym, ap, _∙_}
 use mathlib.Core.Bool.{Bool, true, false, cond, not, _&&_}
-use mathlib.Core.List.{List, [], _∷_, map}
-use mathlib.Core.Option.{Option, some}
+use mathlib.Core.List.{List, [], _∷_, _++_, map}
+use mathlib.Core.Option.{Option, none, some}
 use native.Mathlib.Omega.{arith}
 use lib.Dec.{ltb}
 use lib.ListN.{length}
@@ -13,30 +13,45 @@ use Rattle.laws.specs.Outcome as O
 use Rattle.register.specs.declared.Sizes.{Sizes}
 use Rattle.program.specs.Program.{Program}
 use Rattle.text_syntax.specs.Written.{Line, step, end, done, loop, rule}
-use Rattle.text_syntax.specs.Tree.{plainLine, ruleOf}
-use Rattle.text_syntax.proofs.Trees.{rule-plain}
-use Rattle.text_rules.specs.Check.{State, isOutside, isOpen, lineRefusal}
+use Rattle.text_syntax.specs.Tree as T
+use Rattle.text_syntax.specs.Tree.{LineTree, lineTree}
+use Rattle.text_rules.specs.declared.around.Around.the-variants.{Unused}
+use Rattle.text_rules.specs.Check.{State, isOutside, isOpen, openRules, lineRefusal}
 use Rattle.text_rules.specs.Text.{Piece, lines, pieceForm, advance, lineOutcome, closedText, readFrom, start, textProgram}
-use Rattle.text_rules.proofs.Texts.{SpellsText, spelled-text}
+use Rattle.text_rules.specs.Same.{SpellsText, SameProgram}
+use Rattle.text_rules.proofs.Texts.{spelled-text}
 
 -- what is read once all these lines have passed
 advanced : State → List Line → State
 advanced st [] = st
 advanced st (l ∷ ls) = advanced (advance st l) ls
 
-advance-plain : (st : State) (l : Line) → advance st (plainLine l) ≡ advance st l
-unfolding advance plainLine ruleOf
-advance-plain st step = refl
-advance-plain st end = refl
-advance-plain st done = refl
-advance-plain st (loop f) = refl
-advance-plain st (rule c a) = rw (rule-plain c a)
+-- the same by the lines that are the same to the program
+advancedBy : State → LineTree → State
+advancedBy st T.step = advance st step
+advancedBy st T.end = advance st end
+advancedBy st T.done = advance st done
+advancedBy st (T.loop f) = record { steps = st .steps; around = Unused f; open-rules = none }
+advancedBy st (T.rule r) = record { steps = st .steps; around = st .around; open-rules = some (openRules st ++ (r ∷ [])) }
 
-advanced-plain : (st : State) (ls : List Line) → advanced st (map plainLine ls) ≡ advanced st ls
+advanced-tree : (st : State) (l : Line) → advance st l ≡ advancedBy st (lineTree l)
+unfolding advance advancedBy lineTree
+advanced-tree st step = refl
+advanced-tree st end = refl
+advanced-tree st done = refl
+advanced-tree st (loop f) = refl
+advanced-tree st (rule c a) = refl
+
+advanced-same : (st : State) (ls ms : List Line) → map lineTree ls ≡ map lineTree ms → advanced st ls ≡ advanced st ms
 unfolding advanced
-advanced-plain st [] = refl
-advanced-plain st (l ∷ ls) =
-    ap (λ (x : State). advanced x (map plainLine ls)) (advance-plain st l) ∙ advanced-plain (advance st l) ls
+advanced-same st [] [] h = refl
+advanced-same st [] (m ∷ ms) h = absurd (let z : _≡_ {A = ℕ} 0 1 = cc in omega arith)
+advanced-same st (l ∷ ls) [] h = absurd (let z : _≡_ {A = ℕ} 0 1 = cc in omega arith)
+advanced-same st (l ∷ ls) (m ∷ ms) h =
+    let first : lineTree l ≡ lineTree m = cc in
+    let rest : map lineTree ls ≡ map lineTree ms = cc in
+    let next : advance st l ≡ advance st m = advanced-tree st l ∙ ap (advancedBy st) first ∙ sym (advanced-tree st m) in
+    advanced-same (advance st l) ls ms rest ∙ ap (λ (x : State). advanced x ms) next
 
 module _ (s : Sizes) where
   read-advanced : (st : State) (k : ℕ) (ps : List Piece) (ls : List Line) (p : Program) → map pieceForm ps ≡ map some ls
@@ -68,10 +83,6 @@ module _ (s : Sizes) where
       go true e = absurd (let z : _≡_ {A = ℕ} 0 1 = cc in omega arith)
       go false e = read-advanced start 1 (lines t) ls p (spelled-text w) e
 
-  -- two texts that pass, whose lines are the same without groups and in centimetres, have one program
-  pub text-same : {ls ms : List Line} {t u : List ℕ} → SpellsText ls t → SpellsText ms u → map plainLine ls ≡ map plainLine ms
-      → {p q : Program} → textProgram s t ≡ O.done p → textProgram s u ≡ O.done q → p ≡ q
-  text-same {ls} {ms} v w h e f =
-      sym (text-advanced v e)
-      ∙ ap (λ (st : State). st .steps) (sym (advanced-plain start ls) ∙ ap (advanced start) h ∙ advanced-plain start ms)
-      ∙ text-advanced w f
+pub text-same : SameProgram
+text-same s ls ms t u v w h p q e f =
+    sym (text-advanced s v e) ∙ ap (λ (st : State). st .steps) (advanced-same start ls ms h) ∙ text-advanced s w f

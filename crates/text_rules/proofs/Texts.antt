@@ -19,15 +19,10 @@ use Rattle.text_syntax.specs.Token.{Token, stepWord, endWord, doneWord, loopWor
 use Rattle.text_syntax.specs.Lexing.{spelled}
 use Rattle.text_syntax.specs.Spelling.{Stands, spaces, Spells, empty, last, spaced}
 use Rattle.text_syntax.specs.Written.{Line}
-use Rattle.text_syntax.specs.Printed.{printedLine, Proper}
 use Rattle.text_syntax.proofs.Texts.{text-exactly}
 use Rattle.text_rules.specs.Text.{isWithin, lines, pieceForm}
+use Rattle.text_rules.specs.Same.{SpellsText, no-line, one-more}
 use Rattle.text_rules.proofs.Pieces.{lines-ended}
-
--- the text of some lines: each spells the tokens of its form
-pub data SpellsText : List Line → List ℕ → Type 0 where
-  no-line : SpellsText [] []
-  one-more : {l : Line} {ls : List Line} {t u : List ℕ} → Spells false (printedLine l) t → Proper l → SpellsText ls u → SpellsText (l ∷ ls) (t ++ (10 ∷ u))
 
 -- no byte of a text is 10
 abbrev Within : List ℕ → Type 0

@@ -20,15 +20,15 @@ use Rattle.text_syntax.specs.Flat.{empty, summary, merged, withOperator, scanFr
 use Rattle.text_syntax.proofs.Scans.{scan-due, scan-term, scan-open, scan-operator, scan-close, scan-end, scan-expression}
 use Rattle.text_codes.specs.declared.code.TermParts.{TermParts}
 use Rattle.text_codes.specs.declared.summary.Summary.{Summary}
-use Rattle.text_scan.specs.declared.State.{State}
+use Rattle.text_scan.specs.declared.ScanState.{ScanState}
 use Rattle.text_places.specs.Place.{tokensFrom, Passing, Absent, NoOperator}
 use Rattle.text_terms.specs.Term.{TermFormed, NoTerm}
 use Rattle.text_codes.specs.Summary.{summaryOf, termSummary}
-use Rattle.text_scan.specs.Scan.{StateAt, scanOf, Turns, Ends, Fails, ScanFormed, NoExpression}
+use Rattle.text_scan.specs.Scan.{ScanStateAt, scanOf, Turns, ScanEnds, Fails, ScanFormed, NoExpression}
 use Rattle.text_codes.proofs.Summaries.{term-summary, term-few, operator-few}
 use Rattle.text_places.proofs.Places.{past-absent}
 
-module _ (s : Sizes) {line : List ℕ} (x : State) (w : StateAt line x) where
+module _ (s : Sizes) {line : List ℕ} (x : ScanState) (w : ScanStateAt line x) where
   abbrev d : ℕ
   d = x .deep
 
@@ -99,7 +99,7 @@ module _ (s : Sizes) {line : List ℕ} (x : State) (w : StateAt line x) where
   }
 
   module _ (e : x .due ≡ false) (n : NoOperator line (x .at)) where
-    pub turn-end : d ≡ 0 → Ends s line x (x .seen) (x .at)
+    pub turn-end : d ≡ 0 → ScanEnds s line x (x .seen) (x .at)
     turn-end z = record {
       answer = at-due false e ∙ ap (λ (k : ℕ). scanFrom s false k g (tokensFrom false line (x .at))) z ∙ scan-end s g _ (n .none);
       inside = w .inside;
@@ -128,10 +128,10 @@ module _ (s : Sizes) {line : List ℕ} (x : State) (w : StateAt line x) where
     turn-unclosed z p = record { none = at-due false e ∙ inner z ∙ past-absent closeRound _ _ (p .absent) }
 
 -- the turns so far
-pub record Scanning (s : Sizes) (line : List ℕ) (at : ℕ) (x : State) : Type 0 where
+pub record Scanning (s : Sizes) (line : List ℕ) (at : ℕ) (x : ScanState) : Type 0 where
   pub same : scanFrom s true 0 empty (tokensFrom true line at) ≡ scanOf s line x
   pub onward : at ≤ x .at
-  pub stands : StateAt line x
+  pub stands : ScanStateAt line x
 
 pub scanning-start : (s : Sizes) {line : List ℕ} {at : ℕ} {g : Summary} → at ≤ length line → summaryOf g ≡ empty
     → Scanning s line at (record { at = at; due = true; deep = 0; seen = g })
@@ -142,11 +142,11 @@ scanning-start s {line} {at} {g} h e = record {
   stands = record { inside = h; groups = omega arith; operators = omega (arith, ap (λ (f : F.Summary). f .operators) e) };
 }
 
-module _ {s : Sizes} {line : List ℕ} {at : ℕ} {x : State} (w : Scanning s line at x) where
-  pub scanning-more : {y : State} → Turns s line x y → Scanning s line at y
+module _ {s : Sizes} {line : List ℕ} {at : ℕ} {x : ScanState} (w : Scanning s line at x) where
+  pub scanning-more : {y : ScanState} → Turns s line x y → Scanning s line at y
   scanning-more t = record { same = w .same ∙ t .same; onward = omega (arith, w .onward, t .onward); stands = t .stands }
 
-  pub scanning-done : {g : Summary} {end : ℕ} → Ends s line x g end → ScanFormed s line at g end
+  pub scanning-done : {g : Summary} {end : ℕ} → ScanEnds s line x g end → ScanFormed s line at g end
   unfolding then
   scanning-done {g} {end} t = go (expression (tokensFrom true line at)) refl (sym (scan-expression s _) ∙ w .same ∙ t .answer)
     where

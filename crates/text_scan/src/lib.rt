@@ -6,7 +6,7 @@ ghost use lib.ListN.{length};
 ghost use Rattle.register.specs.Shape.{Limits};
 ghost use Rattle.text_places.specs.Place.{NoOperator};
 ghost use Rattle.text_terms.specs.Term.{NoTerm};
-ghost use Rattle.text_scan.specs.Scan.{StateAt, TurnAt, ScanAt};
+ghost use Rattle.text_scan.specs.Scan.{ScanStateAt, TurnAt, ScanAt};
 use register::Sizes;
 use text_codes::summary;
 use text_codes::summary::Summary;
@@ -17,7 +17,7 @@ use text_terms::term::TermRead;
 use text_words::token::Place;
 
 // Where a pass stands: whether an operand is due, in how many groups, and what has been gathered.
-pub struct State {
+pub struct ScanState {
     pub at: usize,
     pub due: bool,
     pub deep: usize,
@@ -26,20 +26,20 @@ pub struct State {
 
 // The next state of a pass; its end; or no expression stands there.
 pub enum Turn {
-    Next(State),
+    Next(ScanState),
     Done(Summary, usize),
     NoForm,
 }
 
 // One operand, or a group that opens.
-fn operand(line: &[u8], sizes: Sizes, state: State) -> Turn
-    requires { ⌜ Limits sizes × StateAt (now line) state × (state .due ≡ true) ⌝ }
+fn operand(line: &[u8], sizes: Sizes, state: ScanState) -> Turn
+    requires { ⌜ Limits sizes × ScanStateAt (now line) state × (state .due ≡ true) ⌝ }
     ensures { λ r. ⌜ TurnAt sizes (now (line .entry)) state r ⌝ }
 {
     let deep = state.deep;
     let seen = state.seen;
     match term::read_term(line, state.at, sizes) {
-        TermRead::Parts(parts, end) => Turn::Next(State {
+        TermRead::Parts(parts, end) => Turn::Next(ScanState {
             at: end,
             due: false,
             deep,
@@ -50,14 +50,14 @@ fn operand(line: &[u8], sizes: Sizes, state: State) -> Turn
 }
 
 // A group that opens, where no term stands.
-fn opened(line: &[u8], sizes: Sizes, state: State) -> Turn
-    requires { ⌜ StateAt (now line) state × (state .due ≡ true) × NoTerm (now line) (state .at) ⌝ }
+fn opened(line: &[u8], sizes: Sizes, state: ScanState) -> Turn
+    requires { ⌜ ScanStateAt (now line) state × (state .due ≡ true) × NoTerm (now line) (state .at) ⌝ }
     ensures { λ r. ⌜ TurnAt sizes (now (line .entry)) state r ⌝ }
 {
     let deep = state.deep;
     let seen = state.seen;
     match place::mark(line, state.at, true, place::OPEN_ROUND) {
-        Place::At(end) => Turn::Next(State {
+        Place::At(end) => Turn::Next(ScanState {
             at: end,
             due: true,
             deep: deep + 1,
@@ -68,14 +68,14 @@ fn opened(line: &[u8], sizes: Sizes, state: State) -> Turn
 }
 
 // Behind an operand: an operator, a group that closes, or the end.
-fn behind(line: &[u8], sizes: Sizes, state: State) -> Turn
-    requires { ⌜ StateAt (now line) state × (state .due ≡ false) ⌝ }
+fn behind(line: &[u8], sizes: Sizes, state: ScanState) -> Turn
+    requires { ⌜ ScanStateAt (now line) state × (state .due ≡ false) ⌝ }
     ensures { λ r. ⌜ TurnAt sizes (now (line .entry)) state r ⌝ }
 {
     let deep = state.deep;
     let seen = state.seen;
     match place::operator(line, state.at) {
-        OperatorRead::Operator(sign, end) => Turn::Next(State {
+        OperatorRead::Operator(sign, end) => Turn::Next(ScanState {
             at: end,
             due: true,
             deep,
@@ -86,8 +86,8 @@ fn behind(line: &[u8], sizes: Sizes, state: State) -> Turn
 }
 
 // A group that closes, or the end, where no operator stands.
-fn closed(line: &[u8], sizes: Sizes, state: State) -> Turn
-    requires { ⌜ StateAt (now line) state × (state .due ≡ false) × NoOperator (now line) (state .at) ⌝ }
+fn closed(line: &[u8], sizes: Sizes, state: ScanState) -> Turn
+    requires { ⌜ ScanStateAt (now line) state × (state .due ≡ false) × NoOperator (now line) (state .at) ⌝ }
     ensures { λ r. ⌜ TurnAt sizes (now (line .entry)) state r ⌝ }
 {
     let deep = state.deep;
@@ -97,7 +97,7 @@ fn closed(line: &[u8], sizes: Sizes, state: State) -> Turn
         return Turn::Done(seen, at);
     }
     match place::mark(line, at, false, place::CLOSE_ROUND) {
-        Place::At(end) => Turn::Next(State {
+        Place::At(end) => Turn::Next(ScanState {
             at: end,
             due: false,
             deep: deep - 1,
@@ -107,8 +107,8 @@ fn closed(line: &[u8], sizes: Sizes, state: State) -> Turn
     }
 }
 
-fn next_state(line: &[u8], sizes: Sizes, state: State) -> Turn
-    requires { ⌜ Limits sizes × StateAt (now line) state ⌝ }
+fn next_state(line: &[u8], sizes: Sizes, state: ScanState) -> Turn
+    requires { ⌜ Limits sizes × ScanStateAt (now line) state ⌝ }
     ensures { λ r. ⌜ TurnAt sizes (now (line .entry)) state r ⌝ }
 {
     if state.due {
@@ -128,7 +128,7 @@ pub fn scan(line: &[u8], at: usize, sizes: Sizes) -> ScanRead
     requires { ⌜ Limits sizes × (at ≤ length (now line)) ⌝ }
     ensures { λ r. ⌜ ScanAt sizes (now (line .entry)) at r ⌝ }
 {
-    let mut state = State {
+    let mut state = ScanState {
         at,
         due: true,
         deep: 0,

@@ -23,8 +23,8 @@ use Rattle.text_numerals.proofs.Spans.{span-text, span-every, span-behind}
 use Rattle.text_numerals.proofs.Numerals.{numeral-text, numeral-digits, whole-bound}
 use Rattle.program.specs.declared.rule.Operator.the-variants.{Plus, Smaller}
 use Rattle.text_syntax.specs.Token.{Token, stepWord, endWord, doneWord, loopWord, ifWord, remoteWord, own, letter, number, becomes, colon, write, operator, comparison, openSquare, closeSquare, openRound, closeRound, unknown}
-use Rattle.text_syntax.specs.Lexing.{spelled, words, signs, First, first, none, fixedToken, numberToken, firstToken, operandBehind, isSpace, unlessEmpty, skipped, followed, tokensFrom, tokensAt}
-use Rattle.text_syntax.specs.Spelling.{Stands, spaces, Known}
+use Rattle.text_syntax.specs.Lexing.{spelled, words, signs, First, first, none, fixedToken, numberToken, firstToken, operandBehind, isSpace, unlessEmpty, skipped, followed, tokensWithin, tokensAt}
+use Rattle.text_syntax.specs.Spelling.{Stands, spaces, IsToken}
 
 pub not-first : {A : Type 0} {k : Token} {r : List ℕ} → none ≡ first k r → A
 not-first e = absurd (let z : _≡_ {A = ℕ} 0 1 = cc in omega arith)
@@ -252,15 +252,15 @@ first-shorter operand t {k} {r} e =
     let w = first-began operand t e in
     omega (arith, w .some-byte, ap length (w .text), length-append (spelled k) r, skipped-bound r)
 
-pub first-known : (operand : Bool) (t : List ℕ) {k : Token} {r : List ℕ} → firstToken operand t ≡ first k r → Known k
+pub first-known : (operand : Bool) (t : List ℕ) {k : Token} {r : List ℕ} → firstToken operand t ≡ first k r → IsToken k
 unfolding spelled
 first-known operand t {k} {r} e same =
     let none-left : 0 < length (spelled unknown) = subst (λ (j : Token). 0 < length (spelled j)) same (first-began operand t e .some-byte) in
     omega arith
 
 -- more than the text's length changes nothing
-tokens-enough : (n m : ℕ) (operand : Bool) (t : List ℕ) → length t ≤ n → length t ≤ m → tokensFrom n operand t ≡ tokensFrom m operand t
-unfolding tokensFrom followed
+tokens-enough : (n m : ℕ) (operand : Bool) (t : List ℕ) → length t ≤ n → length t ≤ m → tokensWithin n operand t ≡ tokensWithin m operand t
+unfolding tokensWithin followed
 tokens-enough zero zero operand t h k = refl
 tokens-enough zero (suc m) operand [] h k = refl
 tokens-enough zero (suc m) operand (b ∷ t) h k = absurd (omega arith)
@@ -269,8 +269,8 @@ tokens-enough (suc n) zero operand (b ∷ t) h k = absurd (omega arith)
 tokens-enough (suc n) (suc m) operand [] h k = refl
 tokens-enough (suc n) (suc m) operand (b ∷ t) h k = go (tokens-enough n m) (firstToken operand (b ∷ t)) refl
   where
-    go : ((o : Bool) (s : List ℕ) → length s ≤ n → length s ≤ m → tokensFrom n o s ≡ tokensFrom m o s)
-        → (f : First) → firstToken operand (b ∷ t) ≡ f → followed f (tokensFrom n) ≡ followed f (tokensFrom m)
+    go : ((o : Bool) (s : List ℕ) → length s ≤ n → length s ≤ m → tokensWithin n o s ≡ tokensWithin m o s)
+        → (f : First) → firstToken operand (b ∷ t) ≡ f → followed f (tokensWithin n) ≡ followed f (tokensWithin m)
     go ih none e = refl
     go ih (first j r) e =
         let less = first-shorter operand (b ∷ t) e in
@@ -279,17 +279,17 @@ tokens-enough (suc n) (suc m) operand (b ∷ t) h k = go (tokens-enough n m) (fi
 -- the tokens of a text are its first token and the tokens behind it
 pub tokens-first : (operand : Bool) (t : List ℕ) {k : Token} {r : List ℕ} → firstToken operand t ≡ first k r
     → tokensAt operand t ≡ k ∷ tokensAt (operandBehind k) (skipped r)
-unfolding tokensAt tokensFrom followed firstToken
+unfolding tokensAt tokensWithin followed firstToken
 tokens-first operand [] e = not-first e
 tokens-first operand (b ∷ t) {k} {r} e =
     let less = first-shorter operand (b ∷ t) e in
-    ap (λ (f : First). followed f (tokensFrom (length t))) e
+    ap (λ (f : First). followed f (tokensWithin (length t))) e
     ∙ ap (λ (l : List Token). k ∷ l) (tokens-enough (length t) (length (skipped r)) (operandBehind k) (skipped r) (omega arith) (omega arith))
 
 pub tokens-none : (operand : Bool) (b : ℕ) (t : List ℕ) → firstToken operand (b ∷ t) ≡ none → tokensAt operand (b ∷ t) ≡ unknown ∷ []
-unfolding tokensAt tokensFrom followed
-tokens-none operand b t e = ap (λ (f : First). followed f (tokensFrom (length t))) e
+unfolding tokensAt tokensWithin followed
+tokens-none operand b t e = ap (λ (f : First). followed f (tokensWithin (length t))) e
 
 pub tokens-empty : (operand : Bool) → tokensAt operand [] ≡ []
-unfolding tokensAt tokensFrom
+unfolding tokensAt tokensWithin
 tokens-empty operand = refl

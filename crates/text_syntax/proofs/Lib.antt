@@ -1,5 +1,6 @@
 -- Laws of the definitions of `specs/`, for the crates above.
 pub mod Lexing
+pub mod Longest
 pub mod Spellings
 pub mod TokenKinds
 pub mod Readers

@@ -208,36 +208,36 @@ pub printed-one : (l m : Line) → Proper l → Proper m → printedLine l ≡ p
 printed-one l m p q e = let same : some l ≡ some m = sym (printed-line l p) ∙ ap lineForm e ∙ printed-line m q in cc
 
 -- every token of a form is one
-abbrev pub Known : Token → Type 0
-Known t = t ≢ unknown
+abbrev pub IsToken : Token → Type 0
+IsToken t = t ≢ unknown
 
-known : (t : Token) → is unknown t ≡ false → Known t
+known : (t : Token) → is unknown t ≡ false → IsToken t
 unfolding is same fixedIn kind
 known t h e = true-false (ap (is unknown) e) h
 
-known-around : (s : List Token) (t : Token) (r : List Token) → is unknown t ≡ false → Each Known s → Each Known r → Each Known (s ++ (t ∷ r))
-known-around s t r h k j = each-append Known s (t ∷ r) k (known t h, j)
+known-around : (s : List Token) (t : Token) (r : List Token) → is unknown t ≡ false → Each IsToken s → Each IsToken r → Each IsToken (s ++ (t ∷ r))
+known-around s t r h k j = each-append IsToken s (t ∷ r) k (known t h, j)
 
-chain-known : (ls : List ℕ) → Each Known (printedChain ls)
+chain-known : (ls : List ℕ) → Each IsToken (printedChain ls)
 unfolding printedChain is same fixedIn kind
 chain-known [] = (known own refl, tt)
 chain-known (l ∷ ls) = (known (letter l) refl, (known openSquare refl, known-around (printedChain ls) closeSquare [] refl (chain-known ls) tt))
 
-expression-known : (e : Expression) → Each Known (printedExpression e)
+expression-known : (e : Expression) → Each IsToken (printedExpression e)
 unfolding printedExpression printedTerm is same fixedIn kind
 expression-known (term (chain ls)) = chain-known ls
 expression-known (term (number negative x)) = (known (T.number negative x) refl, tt)
 expression-known (group e) = (known openRound refl, known-around (printedExpression e) closeRound [] refl (expression-known e) tt)
 expression-known (operation o x y) = known-around (printedExpression x) (operator o) (printedExpression y) refl (expression-known x) (expression-known y)
 
-action-known : (a : Action) → Each Known (printedAction a)
+action-known : (a : Action) → Each IsToken (printedAction a)
 unfolding printedAction is same fixedIn kind
 action-known (set f e) =
     (known (letter f) refl, (known openSquare refl, (known own refl, (known closeSquare refl, (known becomes refl, expression-known e)))))
 action-known (remote k f c e) =
     (known remoteWord refl, known-around (printedChain (f ∷ c)) (write k) (printedExpression e) refl (chain-known (f ∷ c)) (expression-known e))
 
-pub line-known : (l : Line) → Each Known (printedLine l)
+pub line-known : (l : Line) → Each IsToken (printedLine l)
 unfolding printedLine is same fixedIn kind
 line-known step = (known stepWord refl, tt)
 line-known end = (known endWord refl, tt)

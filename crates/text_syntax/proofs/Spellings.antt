@@ -26,7 +26,7 @@ use Rattle.text_numerals.proofs.Numerals.{numeral-read}
 use Rattle.program.specs.declared.rule.Operator.the-variants.{Plus, Minus, Smaller}
 use Rattle.text_syntax.specs.Token.{Token, stepWord, endWord, doneWord, loopWord, ifWord, remoteWord, own, letter, number, becomes, colon, write, operator, comparison, openSquare, closeSquare, openRound, closeRound, unknown}
 use Rattle.text_syntax.specs.Lexing.{spelled, words, signs, First, first, none, fixedToken, numberToken, firstToken, operandBehind, isSpace, unlessEmpty, skipped, tokensAt, tokens}
-use Rattle.text_syntax.specs.Spelling.{NumberStands, Stands, spaces, Spells, empty, last, spaced, Known}
+use Rattle.text_syntax.specs.Spelling.{NumberStands, Stands, spaces, Spells, empty, last, spaced, IsToken}
 use Rattle.text_syntax.proofs.Lexing.{not-first, first-began, first-shorter, skipped-text, tokens-first, tokens-none, tokens-empty}
 
 -- a number is read
@@ -138,7 +138,7 @@ spells-tokens (spaced {operand = operand} {k = k} {r = r} n h w) =
     ∙ ap (λ (s : List ℕ). k ∷ tokensAt (operandBehind k) s) (skipped-spaces n (operandBehind k) r (spells-first w .1))
     ∙ ap (λ (l : List Token). k ∷ l) (spells-tokens w)
 
-spells-known : {operand : Bool} {ks : List Token} {t : List ℕ} → Spells operand ks t → Each Known ks
+spells-known : {operand : Bool} {ks : List Token} {t : List ℕ} → Spells operand ks t → Each IsToken ks
 spells-known empty = tt
 spells-known (last {operand = operand} h) = ((λ e. subst (λ (j : Token). Stands operand j []) e h), tt)
 spells-known (spaced {operand = operand} {r = r} n h w) = ((λ e. subst (λ (j : Token). Stands operand j (spaces n ++ r)) e h), spells-known w)
@@ -148,7 +148,7 @@ unfolding skipped unlessEmpty span isSpace
 point-stays r = refl
 
 -- where all tokens behind are known, no point stands there
-no-point : (operand : Bool) (r : List ℕ) → Each Known (tokensAt operand (skipped r)) → startsWith 46 r ≡ false
+no-point : (operand : Bool) (r : List ℕ) → Each IsToken (tokensAt operand (skipped r)) → startsWith 46 r ≡ false
 unfolding startsWith
 no-point operand [] h = refl
 no-point operand (c ∷ r) h = go (eqb c 46) refl
@@ -182,28 +182,28 @@ spells-more {operand} k r (j ∷ ks) h w =
     let free = skipped-text r in
     subst (λ (l : List ℕ). Spells operand (k ∷ j ∷ ks) (spelled k ++ l)) (sym (free .1)) (spaced (free .0) (subst (Stands operand k) (free .1) h) w)
 
-known-spells : (n : ℕ) (operand : Bool) (t : List ℕ) → length t ≤ n → Each Known (tokensAt operand t) → Spells operand (tokensAt operand t) t
+known-spells : (n : ℕ) (operand : Bool) (t : List ℕ) → length t ≤ n → Each IsToken (tokensAt operand t) → Spells operand (tokensAt operand t) t
 known-spells zero operand [] l h = rw tokens-empty empty
 known-spells zero operand (b ∷ t) l h = absurd (omega arith)
 known-spells (suc n) operand [] l h = rw tokens-empty empty
 known-spells (suc n) operand (b ∷ t) l h = go (λ o s. known-spells n o s) (firstToken operand (b ∷ t)) refl
   where
-    go : ((o : Bool) (s : List ℕ) → length s ≤ n → Each Known (tokensAt o s) → Spells o (tokensAt o s) s)
+    go : ((o : Bool) (s : List ℕ) → length s ≤ n → Each IsToken (tokensAt o s) → Spells o (tokensAt o s) s)
         → (f : First) → firstToken operand (b ∷ t) ≡ f → Spells operand (tokensAt operand (b ∷ t)) (b ∷ t)
-    go ih none e = absurd ((subst (Each Known) (tokens-none operand b t e) h) .0 refl)
+    go ih none e = absurd ((subst (Each IsToken) (tokens-none operand b t e) h) .0 refl)
     go ih (first k r) e =
         let w = first-began operand (b ∷ t) e in
         let all = tokens-first operand (b ∷ t) e in
-        let known = (subst (Each Known) all h) .1 in
+        let known = (subst (Each IsToken) all h) .1 in
         let less = first-shorter operand (b ∷ t) e in
         let o = operandBehind k in
         let spelling = spells-more k r (tokensAt o (skipped r)) (w .stands (no-point o r known)) (ih o (skipped r) (omega arith) known) in
         subst (λ (ks : List Token). Spells operand ks (b ∷ t)) (sym all) (subst (Spells operand (k ∷ tokensAt o (skipped r))) (sym (w .text)) spelling)
 
 -- a text has these tokens and knows them all exactly when it spells them
-pub tokens-exactly : (operand : Bool) (ks : List Token) (t : List ℕ) → (tokensAt operand t ≡ ks) × Each Known ks ↔ Spells operand ks t
+pub tokens-exactly : (operand : Bool) (ks : List Token) (t : List ℕ) → (tokensAt operand t ≡ ks) × Each IsToken ks ↔ Spells operand ks t
 tokens-exactly operand ks t = (
-  (λ h. subst (λ (l : List Token). Spells operand l t) (h .0) (known-spells (length t) operand t (omega arith) (subst (Each Known) (sym (h .0)) (h .1)))),
+  (λ h. subst (λ (l : List Token). Spells operand l t) (h .0) (known-spells (length t) operand t (omega arith) (subst (Each IsToken) (sym (h .0)) (h .1)))),
   (λ w. (spells-tokens w, spells-known w)),
 )
 

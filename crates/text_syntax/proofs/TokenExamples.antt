@@ -11,11 +11,11 @@ use Rattle.text_numerals.specs.Span.{span}
 use Rattle.text_numerals.specs.Word.{opensWith}
 use Rattle.program.specs.declared.rule.Operator.the-variants.{Minus}
 use Rattle.text_syntax.specs.Token.{Token, stepWord, ifWord, own, letter, number, operator, openSquare, closeSquare, openRound, closeRound, unknown}
-use Rattle.text_syntax.specs.Lexing.{spelled, words, signs, fixedToken, numberToken, firstToken, operandBehind, isSpace, unlessEmpty, skipped, followed, tokensFrom, tokensAt}
+use Rattle.text_syntax.specs.Lexing.{spelled, words, signs, fixedToken, numberToken, firstToken, operandBehind, isSpace, unlessEmpty, skipped, followed, tokensWithin, tokensAt}
 
 -- the tokens of a text, where an operand must begin or not
 unfoldable tokensOf : Bool → String → List Token
-unfolding tokensAt tokensFrom followed firstToken fixedToken words signs spelled opensWith isDigit isCapital numberToken signedForm isNumeral numeral withDecimals digits span startsWith noLeadingZero twoDecimals wholeDigits centimetres allDigits decimal printedNumeral operandBehind skipped unlessEmpty isSpace
+unfolding tokensAt tokensWithin followed firstToken fixedToken words signs spelled opensWith isDigit isCapital numberToken signedForm isNumeral numeral withDecimals digits span startsWith noLeadingZero twoDecimals wholeDigits centimetres allDigits decimal printedNumeral operandBehind skipped unlessEmpty isSpace
 tokensOf operand t = tokensAt operand (bytes t)
 
 abbrev one : Token

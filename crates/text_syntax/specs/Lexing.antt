@@ -1,11 +1,13 @@
 -- The tokens of a line. Document 02: "In rules texts spaces between tokens are free, none stand at a line's ends, and `if`, `remote`, `loop` ..
 -- keep at least one after them; the longest token is taken first, and a minus where an operand must begin belongs to the digits straight after it."
-use Prim.Native.Nat.{ℕ, zero, suc}
+use Prim.Native.Nat.{ℕ, zero, suc, _≤_}
+use mathlib.Core.Path.{_≡_}
 use mathlib.Core.Bool.{Bool, true, false, cond, _&&_}
 use mathlib.Core.List.{List, [], _∷_, _++_}
 use lib.Dec.{eqb}
 use lib.ListN.{length, drop}
 use Rattle.laws.specs.Bytes.{bytes}
+use Rattle.laws.specs.Lists.{Each}
 use Rattle.chain_text.specs.Text.{isCapital}
 use Rattle.program.specs.declared.rule.Comparison.the-variants.{Less, Equal, Unequal}
 use Rattle.program.specs.declared.rule.Sort.the-variants.{Least, Total}
@@ -117,15 +119,21 @@ followed none f = unknown ∷ []
 followed (first k r) f = k ∷ f (operandBehind k) (skipped r)
 
 -- the tokens of a text, n at most
-unfoldable pub tokensFrom : ℕ → Bool → List ℕ → List Token
-tokensFrom zero operand t = []
-tokensFrom (suc n) operand [] = []
-tokensFrom (suc n) operand (b ∷ t) = followed (firstToken operand (b ∷ t)) (tokensFrom n)
+unfoldable pub tokensWithin : ℕ → Bool → List ℕ → List Token
+tokensWithin zero operand t = []
+tokensWithin (suc n) operand [] = []
+tokensWithin (suc n) operand (b ∷ t) = followed (firstToken operand (b ∷ t)) (tokensWithin n)
 
 -- the tokens of a text, where an operand must begin or not
 unfoldable pub tokensAt : Bool → List ℕ → List Token
-tokensAt operand t = tokensFrom (length t) operand t
+tokensAt operand t = tokensWithin (length t) operand t
 
 -- the tokens of a line
 unfoldable pub tokens : List ℕ → List Token
 tokens t = tokensAt false t
+
+-- "the longest token is taken first": no word and no sign that stands there is longer than the token that is taken
+abbrev pub LongestFirst : Type 0
+LongestFirst =
+    (operand : Bool) (t : List ℕ) (k : Token) (r : List ℕ) → firstToken operand t ≡ first k r
+    → Each (λ j. opensWith (spelled j) t ≡ true → length (spelled j) ≤ length (spelled k)) (words ++ signs)

@@ -61,5 +61,5 @@ pub data Spells : Bool → List Token → List ℕ → Type 0 where
       → Stands operand k (spaces n ++ r) → Spells (operandBehind k) (j ∷ ks) r → Spells operand (k ∷ j ∷ ks) (spelled k ++ (spaces n ++ r))
 
 -- what is a token
-abbrev pub Known : Token → Type 0
-Known k = k ≢ unknown
+abbrev pub IsToken : Token → Type 0
+IsToken k = k ≢ unknown

@@ -1,9 +1,14 @@
--- The rule of the program that a written rule describes: a tree without groups, its numbers in centimetres.
-use mathlib.Core.List.{_++_}
+-- What a written line is to the program: of a rule its trees, without groups and with numbers in centimetres.
+use Prim.Native.Nat.{ℕ}
+use mathlib.Core.Path.{_≡_}
+use mathlib.Core.Bool.{Bool}
+use mathlib.Core.List.{List}
 use Rattle.chain_text.specs.Text.{letterField, wordOf}
 use Rattle.program.specs.Program as P
-use Rattle.text_numerals.specs.Numeral.{Numeral, whole, metres, numberValue}
-use Rattle.text_syntax.specs.Written.{Term, chain, number, Expression, term, group, operation, Condition, always, when, Action, set, remote, Line, step, end, done, loop, rule}
+use Rattle.text_numerals.specs.Numeral.{Numeral, numberValue}
+use Rattle.text_syntax.specs.Written as W
+use Rattle.text_syntax.specs.Written.{Term, chain, number, Expression, term, group, operation, Condition, always, when, Action, set, remote}
+use Rattle.text_syntax.specs.Printed.{ProperExpression}
 
 -- a chain by its hop word, a number by its value: "`1.80` means 180 centimetres"
 unfoldable pub termTree : Term → P.Expression
@@ -15,6 +20,16 @@ unfoldable pub treeOf : Expression → P.Expression
 treeOf (term x) = termTree x
 treeOf (group e) = treeOf e
 treeOf (operation o x y) = P.operation o (treeOf x) (treeOf y)
+
+-- the words and the constants of a tree can be written
+abbrev pub TermsWritten : P.Expression → Type 0
+TermsWritten (P.reading w) = (ls : List ℕ) × (wordOf ls ≡ w)
+TermsWritten (P.constant z) = (negative : Bool) × (x : Numeral) × (numberValue negative x ≡ z)
+TermsWritten (P.operation o x y) = TermsWritten x × TermsWritten y
+
+-- every such tree is that of an expression, which holds its operands together by groups where they are needed
+abbrev pub TreesWritten : Type 0
+TreesWritten = (e : P.Expression) → TermsWritten e → (f : Expression) × ProperExpression f × (treeOf f ≡ e)
 
 -- "Before any of them may stand `if X < Y: `"
 unfoldable pub testOf : Condition → P.Test
@@ -34,31 +49,15 @@ sourceOf (remote k f c e) = treeOf e
 unfoldable pub ruleOf : Condition → Action → P.Rule
 ruleOf c a = record { test = testOf c; target = targetOf a; expression = sourceOf a }
 
--- a written line without its groups, and with its numbers in centimetres
-unfoldable pub inCentimetres : Numeral → Numeral
-inCentimetres (whole ds) = whole ds
-inCentimetres (metres ds cs) = whole (ds ++ cs)
+-- What a line is to the program: a loop by the number of its field, a rule by its trees.
+pub data LineTree : Type 0 where
+  step end done : LineTree
+  loop : ℕ → LineTree
+  rule : P.Rule → LineTree
 
-unfoldable pub plainTerm : Term → Term
-plainTerm (chain ls) = chain ls
-plainTerm (number negative x) = number negative (inCentimetres x)
-
-unfoldable pub plain : Expression → Expression
-plain (term x) = term (plainTerm x)
-plain (group e) = plain e
-plain (operation o x y) = operation o (plain x) (plain y)
-
-unfoldable pub plainCondition : Condition → Condition
-plainCondition always = always
-plainCondition (when x c y) = when (plain x) c (plain y)
-
-unfoldable pub plainAction : Action → Action
-plainAction (set f e) = set f (plain e)
-plainAction (remote k f c e) = remote k f c (plain e)
-
-unfoldable pub plainLine : Line → Line
-plainLine step = step
-plainLine end = end
-plainLine done = done
-plainLine (loop f) = loop f
-plainLine (rule c a) = rule (plainCondition c) (plainAction a)
+unfoldable pub lineTree : W.Line → LineTree
+lineTree W.step = step
+lineTree W.end = end
+lineTree W.done = done
+lineTree (W.loop f) = loop (letterField f)
+lineTree (W.rule c a) = rule (ruleOf c a)

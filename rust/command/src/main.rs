@@ -37,7 +37,7 @@ use std::process::ExitCode;
 use std::thread::{self, JoinHandle};
 
 /// The stack of the thread that works, whatever the shell allows the first one: a
-/// call of the library needs up to about 900 KB.
+/// call of the library needs up to about 750 KB.
 const STACK: usize = 8 << 20;
 
 fn main() -> ExitCode {

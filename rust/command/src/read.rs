@@ -105,6 +105,7 @@ fn path_json(path: &Path) -> String {
             ("record", hop.record.to_string()),
             ("field", json::string(&hop.field.to_string())),
             ("cell", json::option(hop.cell.value())),
+            ("worked_out", show::is_worked_out(hop.cell).to_string()),
         ])
     };
     let hops = ("hops", json::list(path.hops.iter().map(hop)));

@@ -69,7 +69,7 @@ pub fn summary(register: &Register) -> String {
 }
 
 /// Whether a rule has worked a cell's value out.
-fn is_worked_out(cell: Cell) -> bool {
+pub fn is_worked_out(cell: Cell) -> bool {
     matches!(cell, Cell::WorkedOut(_))
 }
 

@@ -1,7 +1,7 @@
 //! Paths as Rust values.
 
+use crate::Cell;
 use crate::lent::{self, PathBuffers};
-use crate::{Cell, Register};
 
 /// A hop of a path: the cell that it looks at.
 #[derive(Clone, Copy, Debug, PartialEq, Eq)]
@@ -15,8 +15,8 @@ pub struct Hop {
 }
 
 /// The path behind a reading. It is the whole reason: every register of the same
-/// sizes that agrees on its cells, values and whether filled, has the same path and
-/// the same reading.
+/// sizes that agrees on its cells, values and whether filled, has the same path, but
+/// for measured against worked out, and the same reading.
 #[derive(Clone, Debug, PartialEq, Eq)]
 pub struct Path {
     /// The hops from the inside out, up to the value or the first gap. There are
@@ -29,25 +29,17 @@ pub struct Path {
 impl Path {
     /// The path from a record that a call has left in the buffers. The reading is
     /// the last cell, for the chain `u` the record's own number.
-    pub(crate) fn taken_from(
-        register: &Register,
-        record: usize,
-        buffers: &PathBuffers,
-        answer: &lent::Answer,
-    ) -> Path {
+    pub(crate) fn taken_from(record: usize, buffers: &PathBuffers, answer: &lent::Answer) -> Path {
         let hop = |i: usize| {
-            let record = buffers.records[i] as usize;
-            let field = char::from(buffers.fields[i]);
-            // The call tells what is read; where the value comes from stands in the file.
-            let cell = match (buffers.marks[i], register.cell(record, field)) {
-                (0, _) => Cell::Unfilled,
-                (_, Some(Cell::WorkedOut(_))) => Cell::WorkedOut(buffers.values[i] as i32),
-                _ => Cell::Measured(buffers.values[i] as i32),
-            };
+            let value = buffers.values[i] as i32;
             Hop {
-                record,
-                field,
-                cell,
+                record: buffers.records[i] as usize,
+                field: char::from(buffers.fields[i]),
+                cell: match buffers.marks[i] {
+                    0 => Cell::Unfilled,
+                    1 => Cell::Measured(value),
+                    _ => Cell::WorkedOut(value),
+                },
             }
         };
         let hops: Vec<Hop> = (0..answer[lent::HOPS] as usize).map(hop).collect();

@@ -245,7 +245,7 @@ impl Register {
         let chain = chain.as_ref();
         let number = lent::path(&self.bytes, chain, record as u64, &mut buffers, &mut answer);
         passed(number, &answer)?;
-        Ok(Path::taken_from(self, record, &buffers, &answer))
+        Ok(Path::taken_from(record, &buffers, &answer))
     }
 
     /// Places enough for each working array of any text: n × (64 + r + m + 1).

@@ -18,6 +18,13 @@ const SMALL_REGISTERS: usize = 30_000;
 const LARGE_REGISTERS: usize = 200;
 const PATHS: usize = 4;
 
+/// One record with one measure.
+const SINGLE: Sizes = Sizes {
+    records: 1,
+    references: 0,
+    measures: 1,
+};
+
 /// The answer that the library must give, whole.
 #[derive(Debug, PartialEq, Eq)]
 struct Expected {
@@ -48,10 +55,12 @@ fn expected(before: PathBuffers, sizes: Sizes, answer: &Result<Vec<Hop>, Refusal
     for (i, hop) in hops.iter().enumerate() {
         expected.buffers.records[i] = hop.record as u64;
         expected.buffers.fields[i] = sizes.letter(hop.field);
-        if let Some(value) = hop.cell.value() {
-            expected.buffers.values[i] = i64::from(value);
-            expected.buffers.marks[i] = 1;
-        }
+        expected.buffers.values[i] = hop.cell.value().map_or(0, i64::from);
+        expected.buffers.marks[i] = match hop.cell {
+            Cell::Missing => 0,
+            Cell::Measured(_) => 1,
+            Cell::WorkedOut(_) => 2,
+        };
     }
     expected
 }
@@ -119,6 +128,9 @@ fn compare(
     );
     tally.count(&name(&from_paper));
     tally.add("paths", u64::from(from_paper.is_ok()));
+    let hops = from_paper.iter().flatten();
+    let worked_out = hops.filter(|hop| matches!(hop.cell, Cell::WorkedOut(_)));
+    tally.add("worked-out cells", worked_out.count() as u64);
     from_paper
 }
 
@@ -220,7 +232,7 @@ fn paths_agree_and_are_the_reason() {
         compare_register(&mut random, &mut tally, sizes);
     }
     tally.print("paths behind readings");
-    tally.require(50_000, &["paths"]);
+    tally.require(50_000, &["paths", "worked-out cells"]);
     tally.require(10_000, &["others that agree", "others with a gap"]);
     let lengths: Vec<String> = (0..=MAX_HOPS).map(length_name).collect();
     tally.require(100, &lengths);
@@ -248,6 +260,10 @@ fn bindings_answer_in_rust_values() {
     assert_eq!(path("M[A[A[u]]]", 1), Ok((gap, None)));
     let zero = vec![hop(1, 'M', Some(0))];
     assert_eq!(path("M[u]", 1), Ok((zero, Some(0))));
+    let worked_out = encode(SINGLE, &[Cell::WorkedOut(5)]);
+    let single = plot::Register::from_bytes(worked_out).expect("it loads");
+    let hops = single.path("M[u]", 0).expect("it is not refused").hops;
+    assert_eq!(hops[0].cell, plot::Cell::WorkedOut(5));
     let refusal = |kind, line| Err(plot::Refusal { kind, line });
     assert_eq!(path("A[M[u]]", 0), refusal(Kind::FieldKind, 1));
     assert_eq!(path("u", 3), refusal(Kind::Record, 0));

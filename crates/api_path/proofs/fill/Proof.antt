@@ -7,11 +7,11 @@ use borrow.Author.Needs.{needs}
 use lib.IntN.{pos}
 use mir.Syntax.{w64}
 use mir.Facts.{toZ-ofZ}
-use Rattle.register.specs.Cells.{valueOf}
+use Rattle.register.specs.Cells.{valueOf, markOf}
 use Rattle.chain_path.specs.Path.{hopsOf}
 use Rattle.api_plan.specs.PlanArrays.{letterOf}
 use Rattle.api_plan.proofs.Filling.{Progress, progress-none, progress-next, progress-all}
-use Rattle.api_path.specs.PathArrays.{filledMark, recordAt, fieldLetterAt, hopValueAt, hopMarkAt}
+use Rattle.api_path.specs.PathArrays.{recordAt, fieldLetterAt, hopValueAt, hopMarkAt}
 use Rattle.api_path.proofs.Hops.{hop-is, hop-lettered, hop-behind}
 use Rattle.api_path.proofs.fill.Statement.{statement}
 use Rattle.api_path.proofs.fill.Tie as tie
@@ -87,7 +87,7 @@ loop-again c =
       progress-next (inv .1) room (hop-is h _ (λ h. h .u) 0 i left),
       progress-next (inv .2) room (c .before .before .letter .ensures ∙ hop-is h _ (λ h. letterOf (h .field)) 0 i left),
       progress-next (inv .3) room (value ∙ hop-is h _ (λ h. valueOf (h .cell)) (pos 0) i left),
-      progress-next (inv .4) room (c .mark-of .ensures ∙ hop-is h _ (λ h. filledMark (h .cell)) 0 i left),
+      progress-next (inv .4) room (c .mark-of .ensures ∙ hop-is h _ (λ h. markOf (h .cell)) 0 i left),
     )
 
 returns : tie.Need-returns Inv-loop μ-loop
@@ -100,7 +100,7 @@ returns c =
       records-are = progress-all (inv .1) (λ k b. hop-behind (λ h. h .u) 0 h k (omega arith));
       fields-are = progress-all (inv .2) (λ k b. hop-behind (λ h. letterOf (h .field)) 0 h k (omega arith));
       values-are = progress-all (inv .3) (λ k b. hop-behind (λ h. valueOf (h .cell)) (pos 0) h k (omega arith));
-      marks-are = progress-all (inv .4) (λ k b. hop-behind (λ h. filledMark (h .cell)) 0 h k (omega arith));
+      marks-are = progress-all (inv .4) (λ k b. hop-behind (λ h. markOf (h .cell)) 0 h k (omega arith));
     }
 
 pub fill-spec : {M : Type 1} → statement M

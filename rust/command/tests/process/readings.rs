@@ -5,7 +5,7 @@ use generate::random::Random;
 use generate::{chains, registers};
 use reference::path::Hop;
 use reference::reading::reading;
-use reference::register::Sizes;
+use reference::register::{Cell, Sizes};
 
 #[test]
 fn a_reading_is_filled_or_not() {
@@ -97,10 +97,11 @@ fn shown(value: Option<i32>, unfilled: &str) -> String {
 fn path_json(sizes: Sizes, hops: &[Hop], reading: Option<i32>) -> String {
     let hop = |hop: &Hop| {
         format!(
-            "{{\"record\":{},\"field\":\"{}\",\"cell\":{}}}",
+            "{{\"record\":{},\"field\":\"{}\",\"cell\":{},\"worked_out\":{}}}",
             hop.record,
             char::from(sizes.letter(hop.field)),
-            shown(hop.cell.value(), "null")
+            shown(hop.cell.value(), "null"),
+            matches!(hop.cell, Cell::WorkedOut(_))
         )
     };
     let hops: Vec<String> = hops.iter().map(hop).collect();

@@ -15,7 +15,7 @@ pub struct PathBuffers {
     pub fields: [u8; MAX_HOPS],
     /// The value of its cell, 0 where that is unfilled.
     pub values: [i64; MAX_HOPS],
-    /// The mark of its cell as the file has it.
+    /// The mark of its cell as the file has it: 0 unfilled, 1 measured, 2 worked out.
     pub marks: [u8; MAX_HOPS],
 }
 
