@@ -260,7 +260,8 @@ module _ {s : Sizes} (lim : Limits s) {t : List ℕ} {a : Lines} {codes : List �
           (advanceOf x m (r .line)) (advance (q .state) (p .form))
       arm-rule at′ w =
           rw (e, written .line-is)
-          (at-rule s (q .reached) (q .stands) same m (written .clean) y at′ ch (written .rule-is) (written .formed) (written .behind) (written .inside) (p .more-codes) w)
+          (at-rule s (q .reached) (q .stands) same m (written .clean) y at′ ch (written .rule-is) (written .formed)
+          (written .behind) (written .inside) (p .more-codes) w)
 
     -- the count of the open step's plan, which its `end` asks for
     pub end-lines : p .form ≡ end → a .plan .count ≡ length (stepPlan (openRules (q .state)))
