@@ -15,7 +15,7 @@ use Rattle.plan_lines.specs.Held.{index, needIndex, lineAt, HoldsLines}
 use Rattle.plan_lines.specs.Promised.{factAt, Serves, LinePromise, HasLine, Promised}
 use Rattle.plan_lines.specs.declared.Plan.{Plan}
 use Rattle.plan_lines.proofs.Search.{facts-line}
-use Rattle.plan_lines.proofs.Settled.{index-old, index-new, no-line-new, found-old, need-index-one, need-index-both}
+use Rattle.plan_lines.proofs.Settled.{index-old, index-new, no-line-new, need-index-one, need-index-both}
 use Rattle.plan_lines.proofs.Appending.{holds-count}
 
 module _ {p : Plan} {l : List Fact} (h : HoldsLines p l) where
@@ -78,7 +78,6 @@ module _ {p : Plan} {l : List Fact} (h : HoldsLines p l) where
         index = lineIndex l f;
         index< = omega (arith, holds-count h);
         fact-is = sym (holds-line (lineIndex l f) (omega (arith, holds-count h))) ∙ place-line l f q;
-        found-is = rw (h .facts-are) (found-old l f q);
       }
 
   holds-promised : {ws : List (List ℕ)} → Promise ws l → Promised ws p

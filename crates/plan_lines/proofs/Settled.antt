@@ -13,8 +13,7 @@ use Rattle.laws.proofs.Cases.{lt-or-le}
 use Rattle.plan_theory.proofs.Places.{place-line}
 use Rattle.plan_theory.proofs.Lines.{listed-old, listed-new, add-none, add-listed}
 use Rattle.plan_theory.specs.Promise.{Ordered}
-use Rattle.plan_lines.specs.Held.{settled, index, found, needIndex}
-use Rattle.plan_lines.specs.declared.Found.the-variants.{At, Nothing}
+use Rattle.plan_lines.specs.Held.{settled, index, needIndex}
 
 module _ (l : List Fact) (f : Fact) where
   pub index-old : lineIndex l f < length l → index l f ≡ lineIndex l f
@@ -24,14 +23,6 @@ module _ (l : List Fact) (f : Fact) where
   pub index-new : length l ≤ lineIndex l f → index l f ≡ 64
   unfolding index
   index-new h = rw (listed-new l f h, index)
-
-  pub found-old : lineIndex l f < length l → found l f ≡ At (lineIndex l f)
-  unfolding found
-  found-old h = rw (listed-old l f h, found)
-
-  pub found-new : length l ≤ lineIndex l f → found l f ≡ Nothing
-  unfolding found
-  found-new h = rw (listed-new l f h, found)
 
   -- a fact of one hop needs no line, any other those of its needs
   pub need-index-one : (g : Fact) → hops f < 2 → needIndex l f g ≡ 64

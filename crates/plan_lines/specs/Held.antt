@@ -10,8 +10,6 @@ use Rattle.plan_theory.specs.Promise.{Next, Ordered}
 use Rattle.plan_keys.specs.Keys.{factOf, NeedsOf}
 use Rattle.plan_lines.specs.declared.Plan.{Plan}
 use Rattle.plan_lines.specs.declared.Line.{Line}
-use Rattle.plan_lines.specs.declared.Found.{Found}
-use Rattle.plan_lines.specs.declared.Found.the-variants.{At, Nothing}
 use Rattle.plan_keys.specs.declared.key.Needs.{Needs}
 
 -- the facts of the first n keys
@@ -37,10 +35,6 @@ settled l f = ltb (hops f) (lineFrom f) || listed l f
 -- the line of l that brings f about, counted from 0; 64 where none does
 unfoldable pub index : List Fact → Fact → ℕ
 index l f = elim (listed l f) [ true ↦ lineIndex l f | false ↦ 64 ]
-
--- the same as an answer
-unfoldable pub found : List Fact → Fact → Found
-found l f = elim (listed l f) [ true ↦ At (lineIndex l f) | false ↦ Nothing ]
 
 -- the line of l that f has for its need g; 64 where f needs no line
 unfoldable pub needIndex : List Fact → Fact → Fact → ℕ

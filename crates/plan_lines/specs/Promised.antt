@@ -6,9 +6,8 @@ use lib.ListN.{length}
 use Rattle.plan_theory.specs.Plan.{Fact, read, hops, lineFrom, backNeed, readNeed, round, lastRound}
 use Rattle.plan_theory.specs.Promise.{Wanted, longest}
 use Rattle.plan_keys.specs.Keys.{factOf}
-use Rattle.plan_lines.specs.Held.{facts, found, lineAt}
+use Rattle.plan_lines.specs.Held.{facts, lineAt}
 use Rattle.plan_lines.specs.declared.Plan.{Plan}
-use Rattle.plan_lines.specs.declared.Found.the-variants.{At}
 
 -- the fact of line i
 abbrev pub factAt : Plan → ℕ → Fact
@@ -31,12 +30,11 @@ pub record LinePromise (p : Plan) (i : ℕ) : Type 0 where
   pub no-back-line : hops (factAt p i) < 2 → lineAt p i .back ≡ 64
   pub no-read-line : hops (readNeed (factAt p i)) < 2 → lineAt p i .read ≡ 64
 
--- f has a line, and `find_read` finds it
+-- f has a line
 pub record HasLine (p : Plan) (f : Fact) : Type 0 where
   pub index : ℕ
   pub index< : index < p .count
   pub fact-is : factAt p index ≡ f
-  pub found-is : found (facts p) f ≡ At index
 
 -- some line has round t
 pub record HasRound (p : Plan) (t : ℕ) : Type 0 where

@@ -3,13 +3,9 @@ ghost use mathlib.Core.Path.{_≡_};
 ghost use mathlib.Core.List.{[]};
 ghost use Prim.Native.Nat.{_≤_};
 ghost use lib.ListN.{length};
-ghost use Rattle.chain.specs.Word.{unpack};
-ghost use Rattle.plan_theory.specs.Plan.{read};
-ghost use Rattle.plan_lines.specs.Held.{factsIn, found, Keyed, LastOf, HoldsLines};
+ghost use Rattle.plan_lines.specs.Held.{LastOf, HoldsLines};
 
 pub mod lines;
-
-use plan_keys::key;
 
 // At most 64 lines. Line i, from 0, has its key, its round, and the lines of its two needs, 64 where it needs none.
 pub struct Plan {
@@ -26,12 +22,6 @@ pub struct Line {
     pub round: u8,
     pub back: u8,
     pub read: u8,
-}
-
-// The index of a line, if there is one.
-pub enum Found {
-    At(usize),
-    Nothing,
 }
 
 impl Plan {
@@ -58,17 +48,4 @@ pub fn last_round(rounds: &[u8; 64], count: usize) -> u8
         latest = lines::later(latest, rounds[i]);
     }
     latest
-}
-
-// The line of a reading in a plan of these keys.
-pub fn find_read(keys: &[u64; 64], count: usize, chain: u64) -> Found
-    requires { ⌜ Keyed (now keys) count × (length (unpack chain) ≤ 16) ⌝ }
-    ensures { λ r. ⌜ r ≡ found (factsIn (now (keys .entry)) count) (read (unpack chain)) ⌝ }
-{
-    let at = lines::find(keys, count, key::read(chain));
-    if at < count {
-        Found::At(at)
-    } else {
-        Found::Nothing
-    }
 }

@@ -1,7 +1,7 @@
 -- The end of a turn: what the step's rules leave, where a sum or total stops it, and where the run stands behind it.
 use Prim.Native.Nat.{ℕ, suc, _+_, _≤_, _<_}
 use mathlib.Core.Path.{_≡_, refl, sym, ap, subst, _∙_}
-use mathlib.Core.Bool.{false}
+use mathlib.Core.Bool.{Bool, false}
 use mathlib.Core.List.{List}
 use native.Mathlib.Omega.{arith}
 use lib.IntN.{ℤ, pos}
@@ -13,6 +13,7 @@ use Rattle.register.specs.declared.cells.Cell.{Cell}
 use Rattle.register.specs.declared.cells.Cell.the-variants.{Missing}
 use Rattle.program.specs.declared.location.Located.{Located}
 use Rattle.program.specs.declared.frame.Frame.{Frame}
+use Rattle.program.specs.declared.setting.Setting.{Setting}
 use Rattle.program.specs.Kept.{programOf}
 use Rattle.program.specs.declared.Program as R
 use Rattle.machine.specs.Run.{direct}
@@ -37,7 +38,7 @@ use Rattle.step_commit.specs.Committed.{isWritten, AllCommitted, Committed}
 use Rattle.step_commit.proofs.Committing.{stop-first, committed-in-range, committed-file}
 use Rattle.run_turn.specs.declared.Progress.{Progress}
 use Rattle.run_turn.specs.declared.Begun.{Begun}
-use Rattle.run_turn.specs.Turned.{sendsBy, EndReady, StepCounted, FinishedBy}
+use Rattle.run_turn.specs.Turned.{sendsBy, EndReady, StepCounted, StepEnded, FinishedBy}
 use Rattle.run_turn.proofs.Turning.{not-both}
 use Rattle.run_steps.specs.Answer.{stoppedAt, Ends}
 use Rattle.run_steps.proofs.Bounds.{few-more, writes-few}
@@ -55,6 +56,13 @@ kept-below {base} {j} {values} {values′} {marks} {marks′} h a =
       value-is = sym (getD-take base values′ j (pos 0) h) ∙ ap (λ (l : List ℤ). getD l j (pos 0)) (a .values-same) ∙ getD-take base values j (pos 0) h;
       mark-is = sym (getD-take base marks′ j 0 h) ∙ ap (λ (l : List ℕ). getD l j 0) (a .marks-same) ∙ getD-take base marks j 0 h;
     }
+
+-- the end of a step with what its beginning carries
+ended-as : {m m′ : Machine} {s : Sizes} {at at′ : ℕ} {fields : List Bool} {g g′ : Setting} {begun : Begun} {remote remote′ : Bool} {sent : ℕ}
+    {values : List ℤ} {marks : List ℕ} {file file′ : List ℕ} {run r : Progress} → m ≡ m′ → at ≡ at′ → g ≡ g′ → remote ≡ remote′
+    → StepEnded m s at fields g begun remote sent values marks file file′ run r
+    → StepEnded m′ s at′ fields g′ begun remote′ sent values marks file file′ run r
+ended-as a b c d h = rw (a, b, c, d) at h
 
 module _ {m : Machine} {s : Sizes} {codes : List ℕ} {p : R.Program} {budget : ℕ} {file : List ℕ} {run : Progress}
     {out : List ℕ} {values : List ℤ} {marks : List ℕ} {f : Frame} {a : Turn m s codes p budget file run out values marks f}
@@ -148,10 +156,10 @@ module _ {m : Machine} {s : Sizes} {codes : List ℕ} {p : R.Program} {budget : 
     sent-few = writes-few (direct s (rs a) (cells a)) (rs a) (s .records) sent (step-passes a .rules .few) (limits a .records≤) (d .all e .sent-is)
 
     -- what the end of the step asks for
-    pub ready : budget < 65536 → EndReady s (at a) (frame a .setting) begun sent values₄ marks₄ out run
+    pub ready : budget < 65536 → EndReady s (begun .at) (begun .setting) begun sent values₄ marks₄ out run
     ready h =
         let few = a .stands .few in
-        record {
+        rw (b .begins .at-is, b .begins .setting-is) (record {
           limits = limits a;
           whole = out-whole a;
           setting-passes = setting-passes a;
@@ -167,7 +175,7 @@ module _ {m : Machine} {s : Sizes} {codes : List ℕ} {p : R.Program} {budget : 
             omega (arith, lines-few b),
             omega (arith, sent-few),
           );
-        }
+        })
 
     -- the step went through, and this is where the run stands then
     next-stands : {r : Progress} {out′ : List ℕ} → AllCommitted s (base a) (frame a .fields) values₄ marks₄ out out′ → length out′ ≡ length out
@@ -187,13 +195,13 @@ module _ {m : Machine} {s : Sizes} {codes : List ℕ} {p : R.Program} {budget : 
   -- where the run stands behind the turn, and that it comes to its end
   module _ {b : Prepared a places values₂ marks₂ begun} {stop : Stop} {values₃ values₄ : List ℤ} {marks₃ marks₄ : List ℕ} {sent : ℕ}
       (l : Applied b values₃ marks₃ stop) (d : Done b stop values₄ marks₄ sent) {r : Progress} {out′ : List ℕ}
-      (h : FinishedBy stop m s (at a) (frame a .fields) (frame a .setting) begun (frame a .remote) sent values₄ marks₄ out out′ run r) where
+      (h : FinishedBy stop s begun (frame a .fields) sent values₄ marks₄ out out′ run r) where
     pub turn-stands : length out′ ≡ length out → StandsBy m s (programOf codes p) (at a) budget file r out′ values₄ marks₄
     turn-stands n = go stop refl
       where
         go : (x : Stop) → stop ≡ x → StandsBy m s (programOf codes p) (at a) budget file r out′ values₄ marks₄
         go Nowhere e =
-            let end = h .ended e in
+            let end = ended-as (b .begins .machine-is) (b .begins .at-is) (b .begins .setting-is) (b .begins .remote-is) (h .ended e) in
             record {
               stands = λ w. next-stands d e (rw w at (end .committed)) n (end .counted w);
               stopped = λ u c w. rw (end .uncounted u c w) (ends-total d e (rw w at (end .committed)));

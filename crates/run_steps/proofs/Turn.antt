@@ -199,7 +199,7 @@ module _ {m : Machine} {s : Sizes} {codes : List ℕ} {p : R.Program} {budget : 
   -- the rules are all taken out, the pass is entered and the readings are gathered
   pub record Prepared (places : List Located) (values₂ : List ℤ) (marks₂ : List ℕ) (begun : Begun) : Type 0 where
     pub taken : Taken (p .slots) (run .step) (frame .rules) places (frame .rules)
-    pub begins : TurnBegun m s at (frame .setting) cells (facts (frame .plan)) (frame .wanted) values marks values₂ marks₂ run begun
+    pub begins : TurnBegun m s at (frame .setting) (frame .remote) cells (facts (frame .plan)) (frame .wanted) values marks values₂ marks₂ run begun
 
 -- then the step can be run
 module _ {m : Machine} {s : Sizes} {codes : List ℕ} {p : R.Program} {budget : ℕ} {file : List ℕ} {run : Progress}

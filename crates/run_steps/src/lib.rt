@@ -6,7 +6,6 @@ ghost use Rattle.step_cells.specs.Work.{HoldsCells};
 ghost use Rattle.program.specs.Passed.{ProgramPasses};
 ghost use Rattle.program.specs.Kept.{programOf, Complete};
 ghost use Rattle.run_steps.specs.Answer.{AnswerIs, inArrays, Scratch, Ends};
-use gather::counts;
 use gather::counts::Counts;
 use machine_messages::Machine;
 use program::Program;
@@ -91,13 +90,7 @@ fn run_steps(
     let mut frame = frames[0];
     let mut plain = true;
     let mut taken = steps;
-    let mut run = Progress {
-        stop: Stop::Nowhere,
-        step: 0,
-        first: steps,
-        finished: 0,
-        counts: counts::NONE,
-    };
+    let mut run = run_turn::start(steps);
     while run_turn::goes_on(run, steps, budget) {
         let step = run.step;
         if taken != step {
@@ -125,6 +118,7 @@ fn run_steps(
             &frame.plan.reads,
             &frame.wanted,
             frame.plan.count,
+            frame.remote,
             run,
         );
         let mut stop = Stop::Nowhere;
@@ -145,21 +139,7 @@ fn run_steps(
             sent = remote::apply(out, values, marks, sizes, base, codes, rules, used, plain);
         }
         let fields = frame.fields;
-        run = run_turn::finish(
-            out,
-            values,
-            marks,
-            sizes,
-            at,
-            fields,
-            setting,
-            machine,
-            begun,
-            frame.remote,
-            sent,
-            stop,
-            run,
-        );
+        run = run_turn::finish(out, values, marks, sizes, begun, fields, sent, stop, run);
     }
     answer(run, steps)
 }

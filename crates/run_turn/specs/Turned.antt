@@ -25,6 +25,10 @@ use Rattle.gather.specs.declared.counts.Counts.{Counts}
 use Rattle.run_turn.specs.declared.Progress.{Progress}
 use Rattle.run_turn.specs.declared.Begun.{Begun}
 
+-- a run of so many steps before the first: nothing is finished, and no pass is entered
+abbrev pub startOf : ℕ → Progress
+startOf steps = record { stop = Nowhere; step = 0; first = steps; finished = 0; counts = record { exchanges = 0; messages = 0 } }
+
 -- whether there is a turn: the run has not stopped, the budget is not spent, and a step is left
 pub record GoesOn (run : Progress) (steps budget : ℕ) (r : Bool) : Type 0 where
   pub nowhere : r ≡ true → run .stop ≡ Nowhere
@@ -32,14 +36,18 @@ pub record GoesOn (run : Progress) (steps budget : ℕ) (r : Bool) : Type 0 wher
   pub left : r ≡ true → run .step < steps
   pub ends : r ≡ false → run .stop ≡ Nowhere → run .step < steps → run .finished ≡ budget
 
--- the pass is entered, and then the readings are gathered
-pub record TurnBegun (m : Machine) (s : Sizes) (at : ℕ) (g : Setting) (cells : List Cell) (l : List Fact) (wanted : List Bool)
+-- the pass is entered, and then the readings are gathered; the answer carries what the end of the step asks for again
+pub record TurnBegun (m : Machine) (s : Sizes) (at : ℕ) (g : Setting) (remote : Bool) (cells : List Cell) (l : List Fact) (wanted : List Bool)
     (values : List ℤ) (marks : List ℕ) (values′ : List ℤ) (marks′ : List ℕ) (run : Progress) (r : Begun) : Type 0 where
   pub values₁ : List ℤ
   pub marks₁ : List ℕ
   pub first-is : r .first ≡ cond (begins g) (run .step) (run .first)
   pub entered : Entered s g cells at values marks values₁ marks₁
   pub gathered : GatheredBy m s cells l wanted values₁ marks₁ values′ marks′ (r .gathered)
+  pub at-is : r .at ≡ at
+  pub setting-is : r .setting ≡ g
+  pub machine-is : r .machine ≡ m
+  pub remote-is : r .remote ≡ remote
 
 -- whether the step sends its remote writes
 abbrev pub sendsBy : Stop → Bool → Bool
@@ -63,8 +71,8 @@ pub record EndReady (s : Sizes) (at : ℕ) (g : Setting) (begun : Begun) (sent :
   pub counts-small : (run .counts .exchanges ≤ 4611686018427387904) × (run .counts .messages ≤ 4611686018427387904)
       × (begun .gathered .exchanges ≤ 65536) × (begun .gathered .messages ≤ 1048576) × (sent ≤ 1048576)
 
-abbrev pub AtEnd : Stop → Sizes → ℕ → Setting → Begun → ℕ → List ℤ → List ℕ → List ℕ → Progress → Type 0
-AtEnd stop s at g begun sent values marks file run = stop ≡ Nowhere → EndReady s at g begun sent values marks file run
+abbrev pub AtEnd : Stop → Sizes → Begun → ℕ → List ℤ → List ℕ → List ℕ → Progress → Type 0
+AtEnd stop s begun sent values marks file run = stop ≡ Nowhere → EndReady s (begun .at) (begun .setting) begun sent values marks file run
 
 -- the step is counted, and the next one found
 pub record StepCounted (m : Machine) (s : Sizes) (at : ℕ) (g : Setting) (begun : Begun) (remote : Bool) (sent : ℕ)
@@ -82,7 +90,8 @@ pub record StepEnded (m : Machine) (s : Sizes) (at : ℕ) (fields : List Bool) (
   pub uncounted : (u c : ℕ) → r .stop ≡ At u c → r ≡ stoppedAs (At u c) run (run .counts)
 
 -- where the step has not stopped before
-pub record FinishedBy (stop : Stop) (m : Machine) (s : Sizes) (at : ℕ) (fields : List Bool) (g : Setting) (begun : Begun) (remote : Bool) (sent : ℕ)
+pub record FinishedBy (stop : Stop) (s : Sizes) (begun : Begun) (fields : List Bool) (sent : ℕ)
     (values : List ℤ) (marks : List ℕ) (file file′ : List ℕ) (run r : Progress) : Type 0 where
-  pub ended : stop ≡ Nowhere → StepEnded m s at fields g begun remote sent values marks file file′ run r
+  pub ended : stop ≡ Nowhere
+      → StepEnded (begun .machine) s (begun .at) fields (begun .setting) begun (begun .remote) sent values marks file file′ run r
   pub stays : (u c : ℕ) → stop ≡ At u c → (file′ ≡ file) × (r ≡ stoppedAs (At u c) run (run .counts))

@@ -9,7 +9,7 @@ ghost use Rattle.plan_lines.specs.Held.{factsIn, planOf};
 ghost use Rattle.program.specs.Passed.{SettingPasses};
 ghost use Rattle.gather_exchanges.specs.Lines.{StepPlanned};
 ghost use Rattle.run_loop.specs.Column.{Space};
-ghost use Rattle.run_turn.specs.Turned.{GoesOn, TurnBegun, sendsBy, stoppedAs, AtEnd, FinishedBy};
+ghost use Rattle.run_turn.specs.Turned.{startOf, GoesOn, TurnBegun, sendsBy, stoppedAs, AtEnd, FinishedBy};
 use gather;
 use gather::counts;
 use gather::counts::Counts;
@@ -30,10 +30,28 @@ pub struct Progress {
     pub counts: Counts,
 }
 
-// A step that is begun: the first of the pass that it stands in, and what gathering its readings took.
+// A step that is begun: the first of the pass that it stands in, and what gathering its readings took; with what its end asks for
+// again: the column of the pass, its setting, the machine, and whether it has remote writes.
 pub struct Begun {
     pub first: usize,
     pub gathered: Counts,
+    pub at: usize,
+    pub setting: Setting,
+    pub machine: Machine,
+    pub remote: bool,
+}
+
+// A run of a program of so many steps before the first: no pass is entered yet.
+pub fn start(steps: usize) -> Progress
+    ensures { λ r. ⌜ r ≡ startOf steps ⌝ }
+{
+    Progress {
+        stop: Stop::Nowhere,
+        step: 0,
+        first: steps,
+        finished: 0,
+        counts: counts::NONE,
+    }
 }
 
 // Whether a step is left and the budget allows it, where the run has not stopped.
@@ -65,12 +83,13 @@ pub fn begin<'a>(
     reads: &'a [u8; 64],
     wanted: &'a [bool; 64],
     count: usize,
+    remote: bool,
     run: Progress,
 ) -> Begun
     requires { ⌜ Register sizes (now out) × SettingPasses sizes setting × Space sizes at (now values) (now marks)
         × StepPlanned sizes (planOf (now keys) (now rounds) (now backs) (now reads) count) × (length (now wanted) ≡ 64)
         × (count * sizes .records ≤ length (now values)) × (count * sizes .records ≤ length (now marks)) ⌝ }
-    ensures { λ r. ⌜ TurnBegun machine sizes at setting (cellsOfFile sizes (now (out .entry))) (factsIn (now (keys .entry)) count) (now (wanted .entry))
+    ensures { λ r. ⌜ TurnBegun machine sizes at setting remote (cellsOfFile sizes (now (out .entry))) (factsIn (now (keys .entry)) count) (now (wanted .entry))
         (now (values .entry)) (now (marks .entry)) (now (values .exit)) (now (marks .exit)) run r ⌝ }
 {
     let first = run_loop::enter(out, values, marks, sizes, at, setting, run.step, run.first);
@@ -87,7 +106,14 @@ pub fn begin<'a>(
         wanted,
         count,
     );
-    Begun { first, gathered }
+    Begun {
+        first,
+        gathered,
+        at,
+        setting,
+        machine,
+        remote,
+    }
 }
 
 // Whether a step sends its remote writes: it has some, and no local sum is out of range.
@@ -113,28 +139,27 @@ fn stopped(stop: Stop, run: Progress, counts: Counts) -> Progress
     }
 }
 
-// Behind the rules of a step, which may have stopped; its cells stand behind the column at `at`.
+// Behind the rules of a step, which may have stopped; its cells stand behind the column of the pass.
 pub fn finish(
     out: &mut [u8],
     values: &[i64],
     marks: &[u8],
     sizes: Sizes,
-    at: usize,
-    fields: [bool; 16],
-    setting: Setting,
-    machine: Machine,
     begun: Begun,
-    remote: bool,
+    fields: [bool; 16],
     sent: usize,
     stop: Stop,
     run: Progress,
 ) -> Progress
-    requires { ⌜ AtEnd stop sizes at setting begun sent (now values) (now marks) (now out) run ⌝ }
-    ensures { λ r. ⌜ FinishedBy stop machine sizes at fields setting begun remote sent (now (values .entry)) (now (marks .entry))
+    requires { ⌜ AtEnd stop sizes begun sent (now values) (now marks) (now out) run ⌝ }
+    ensures { λ r. ⌜ FinishedBy stop sizes begun fields sent (now (values .entry)) (now (marks .entry))
         (now (out .entry)) (now (out .exit)) run r ⌝ }
 {
     let before = run.counts;
     let gathered = begun.gathered;
+    let at = begun.at;
+    let setting = begun.setting;
+    let machine = begun.machine;
     if let Stop::At(_, _) = stop {
         return stopped(stop, run, before);
     }
@@ -142,7 +167,7 @@ pub fn finish(
     if let Stop::At(_, _) = total {
         return stopped(total, run, before);
     }
-    let counts = counts::count(machine, before, gathered, remote, sent);
+    let counts = counts::count(machine, before, gathered, begun.remote, sent);
     let first = begun.first;
     let step = run_loop::next(out, values, marks, sizes, at, setting, run.step, first);
     Progress {

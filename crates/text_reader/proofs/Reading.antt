@@ -260,7 +260,8 @@ module _ {scope : Scope} (lim : Limits (scope .sizes)) {t : List ℕ} {a : Lines
           (advanceOf x m (r .line)) (advance (q .state) (p .form))
       arm-rule at′ w =
           rw (e, written .line-is)
-          (at-rule scope (q .reached) (q .stands) same m (written .clean) y at′ ch (written .rule-is) (written .formed) (written .behind) (written .inside) (p .more-codes) w)
+          (at-rule scope (q .reached) (q .stands) same m (written .clean) y at′ ch (written .rule-is) (written .formed)
+          (written .behind) (written .inside) (p .more-codes) w)
 
     -- the count of the open step's plan, which its `end` asks for
     pub end-lines : p .form ≡ end → a .plan .count ≡ length (stepPlan (openRules (q .state)))

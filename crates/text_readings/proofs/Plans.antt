@@ -135,7 +135,8 @@ module _ {p r : Plan} {wanted : List Bool} (w : List ℕ) (two : 2 ≤ length w)
     pub line-last : p .count < r .count → line ≡ r .count - 1
     line-last more = rw (held .facts-are)
         (⊎-elim (λ (b : lineIndex (facts p) (read w) < length (facts p)).
-        absurd (omega (arith, holds-count held, holds-count (g .holds n), ap length (add-listed (facts p) (read w) b)))) last (lt-or-le (lineIndex (facts p) (read w)) (length (facts p))))
+        absurd (omega (arith, holds-count held, holds-count (g .holds n), ap length (add-listed (facts p) (read w) b)))) last
+        (lt-or-le (lineIndex (facts p) (read w)) (length (facts p))))
       where
         last : length (facts p) ≤ lineIndex (facts p) (read w) → lineIndex (add (facts p) (read w)) (read w) ≡ r .count - 1
         last b =

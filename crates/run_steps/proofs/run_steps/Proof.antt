@@ -44,20 +44,20 @@ abbrev μ-loop2 : tie.MeasureT-loop2
 
 -- the first k rules are done at record u
 abbrev Inv-loop3 : tie.InvT-loop3
-Inv-loop3 out values₀ marks₀ sizes codes steps lines machine budget slots frames at base rules frame plain taken run step setting used begun stop₀ u k₀ u-end
+Inv-loop3 out values₀ marks₀ sizes codes steps lines machine budget slots frames at base rules frame plain taken run step used begun stop₀ u k₀ u-end
     values marks stop k = RulesDone sizes (cellsOfFile sizes out) base codes rules used u values₀ marks₀ values marks stop k
 
 abbrev μ-loop3 : tie.MeasureT-loop3
-μ-loop3 out values₀ marks₀ sizes codes steps lines machine budget slots frames at base rules frame plain taken run step setting used begun stop₀ u k₀ u-end
+μ-loop3 out values₀ marks₀ sizes codes steps lines machine budget slots frames at base rules frame plain taken run step used begun stop₀ u k₀ u-end
     values marks stop k = used - k
 
 -- all rules are done at the records below u
 abbrev Inv-records : tie.InvT-records
-Inv-records out values₀ marks₀ sizes codes steps lines machine budget slots frames at base rules frame plain taken run step setting used begun stop₀ u₀ u-end
+Inv-records out values₀ marks₀ sizes codes steps lines machine budget slots frames at base rules frame plain taken run step used begun stop₀ u₀ u-end
     values marks stop u = RecordsDone sizes (cellsOfFile sizes out) base codes rules used values₀ marks₀ values marks stop u
 
 abbrev μ-records : tie.MeasureT-records
-μ-records out values₀ marks₀ sizes codes steps lines machine budget slots frames at base rules frame plain taken run step setting used begun stop₀ u₀ u-end
+μ-records out values₀ marks₀ sizes codes steps lines machine budget slots frames at base rules frame plain taken run step used begun stop₀ u₀ u-end
     values marks stop u = sizes .records - u
 
 -- how far the run has come, the arrays have the lengths that they had, and the frame and rules of step `taken` are held, where that is
@@ -96,7 +96,7 @@ abbrev Top : Type 0
 Top = Of tie.At-loop
 
 abbrev entryOfTop : Top → Entry
-entryOfTop c = entry (c .before .before .before .before)
+entryOfTop c = entry (c .before .before .before .before .before)
 
 -- a turn of it
 abbrev Turning : Type 0
@@ -213,12 +213,15 @@ array-copy-out-rules c = omega arith
 array-copy-out-frame : Of tie.Need-array-copy-out-frame
 array-copy-out-frame c = omega arith
 
+start-requires : Of tie.Need-start-requires
+start-requires c κs = tt
+
 loop-holds : Of tie.Need-loop-holds
 unfolding programOf
 loop-holds c =
-    let e = entry (c .before .before .before) in
+    let e = entry (c .before .before .before .before) in
     let start = stands-start (e .pre .0) (e .pre .4) (scratch-behind (e .pre .1)) (e .pre .3) (e .pre .2 .steps-are) in
-    (record { stands = λ n. start; stopped = λ u k h. not-both refl h }, refl, refl, refl, refl, λ h. absurd (omega arith))
+    (rw (c .start .ensures) (record { stands = λ n. start; stopped = λ u k h. not-both refl h }), refl, refl, refl, refl, λ h. absurd (omega arith))
 
 goes-on-requires : Of tie.Need-goes-on-requires
 goes-on-requires c κs = tt
@@ -545,7 +548,7 @@ pub run-steps-spec : {M : Type 1} → statement M
 run-steps-spec =
     tie.close
     (tie.spec
-    Inv-loop2 μ-loop2 Inv-loop3 μ-loop3 Inv-records μ-records Inv-loop μ-loop mul-at add-base array-copy-out-rules array-copy-out-frame loop-holds
+    Inv-loop2 μ-loop2 Inv-loop3 μ-loop3 Inv-records μ-records Inv-loop μ-loop mul-at add-base array-copy-out-rules array-copy-out-frame start-requires loop-holds
     goes-on-requires mul-frame array-copy-out-frame-2 loop2-holds mul-rules add-rules mul-rules-2 array-copy-out-rules-2 mul-rules-3
     array-set-from-rules mul-stay-plain array-copy-out-stay-plain stay-plain-requires add-k loop2-less loop2-again begin-requires records-holds
     loop3-holds mul-apply-plain array-copy-out-apply-plain apply-plain-requires mul-apply-rule array-copy-out-apply-rule apply-rule-requires enum-told enum-told-2 add-k-2 loop3-less loop3-again add-u records-less records-again

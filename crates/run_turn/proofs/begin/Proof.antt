@@ -1,5 +1,6 @@
 -- `run_turn::begin` meets its contract: the pass is entered, and the readings are those of the step's plan.
 -- Assumes nothing.
+use mathlib.Core.Path.{refl}
 use native.Mathlib.Omega.{arith}
 use borrow.Author.Needs.{needs}
 use Rattle.gather.proofs.Gathering.{planned-ready, gathered-by}
@@ -31,6 +32,10 @@ returns c =
       first-is = e .enter .ensures .0;
       entered = e .enter .ensures .1;
       gathered = gathered-by (b .pre .3) (b .pre .0 .valid) (b .args .machine) (g .gather .ensures);
+      at-is = refl;
+      setting-is = refl;
+      machine-is = refl;
+      remote-is = refl;
     }
 
 pub begin-spec : {M : Type 1} → statement M

@@ -17,7 +17,7 @@ abbrev entry : Local → tie.Start
 entry c = c .before .before .before .before .before .before
 
 at-end : (c : Local) → let a = entry c .args in
-    EndReady (a .sizes) (a .at) (a .setting) (a .begun) (a .sent) (now (a .values)) (now (a .marks)) (now (a .out)) (a .run)
+    EndReady (a .sizes) (a .begun .at) (a .begun .setting) (a .begun) (a .sent) (now (a .values)) (now (a .marks)) (now (a .out)) (a .run)
 at-end c = entry c .pre (c .enum-told2 .given .1)
 
 -- the cells are committed
@@ -49,8 +49,8 @@ next-requires c κs =
       r .few-steps,
     )
 
-add-t25 : tie.Need-add-t25
-add-t25 c =
+add-t24 : tie.Need-add-t24
+add-t24 c =
     let r = at-end (local (committedOf (c .before .before .before .before))) in
     record { fits = omega (arith, r .few-finished) }
 
@@ -79,6 +79,6 @@ finish-spec =
     (λ c. search needs)
     (λ c κs. at-end (local (committedOf c)) .counts-small)
     next-requires
-    add-t25
+    add-t24
     (λ c. search needs)
     returns-3)

@@ -21,7 +21,8 @@ walk-term-requires c κs =
     let t = c .before .before .before .before .before .before .before .before in
     let s = begun (t .before .before) in
     let e = t .rule .given .1 in
-    (s .pre .0, subst (λ (x : Rule). Short (ruleWords (now (s .args .codes)) x)) e (s .pre .1), subst (RuleTerms (TermInside (length (now (s .args .codes))))) e (s .pre .2))
+    let k = now (s .args .codes) in
+    (s .pre .0, subst (λ (x : Rule). Short (ruleWords k x)) e (s .pre .1), subst (RuleTerms (TermInside (length k))) e (s .pre .2))
 
 walk-terms-requires : tie.Need-walk-terms-requires
 unfolding ruleWords
@@ -38,7 +39,8 @@ walk-terms-requires-2 c κs =
     let t = c .before .before .before .before .before .before .before .before in
     let s = begun (t .before .before) in
     let e = t .rule3 .given .1 in
-    (s .pre .0, subst (λ (x : Rule). Short (ruleWords (now (s .args .codes)) x)) e (s .pre .1), tt, subst (RuleTerms (TermInside (length (now (s .args .codes))))) e (s .pre .2))
+    let k = now (s .args .codes) in
+    (s .pre .0, subst (λ (x : Rule). Short (ruleWords k x)) e (s .pre .1), tt, subst (RuleTerms (TermInside (length k))) e (s .pre .2))
 
 returns : tie.Need-returns
 unfolding ruleWords

@@ -160,7 +160,8 @@ loop-again c =
     let m = s .before in
     let a = plan-at (m .before) in
     let d = line-of a in
-    (again (limits d) (passed d) (s .advance .ensures) (read-at d .next-line .ensures .end-is) (a .plan-line .kept .1 .1 .1 .1 .1 .1 .0 ∙ lent (read-at d)) (joined m), d .if1 .left)
+    let long = a .plan-line .kept .1 .1 .1 .1 .1 .1 .0 ∙ lent (read-at d) in
+    (again (limits d) (passed d) (s .advance .ensures) (read-at d .next-line .ensures .end-is) long (joined m), d .if1 .left)
 
 abbrev begins : (c : tie.After-refusal-or-last Inv-loop μ-loop) → tie.Start Inv-loop μ-loop
 begins c = c .before .before .before .before .before .before .before .before

@@ -28,8 +28,11 @@ add-code-requires c κs =
     let l = i .before in
     let s = l .before .before in
     let w = l .loop .inv .0 in
-    let short = rw (← words-same (now (s .args .codes)) (l .loop .codes) (w .same) (s .args .from) (s .args .to)) at (s .pre .1) in
-    (w .grown .growing, short-chain (l .loop .codes) (s .args .from) (s .args .to) _ (l .loop .inv .1) (i .loop-test .taken) short, omega (arith, w .sized, i .loop-test .taken, s .pre .2))
+    let short = rw (← words-same (now (s .args .codes)) (l .loop .codes) (w .same) (s .args .from) (s .args .to)) at (s .pre .1) in (
+      w .grown .growing,
+      short-chain (l .loop .codes) (s .args .from) (s .args .to) _ (l .loop .inv .1) (i .loop-test .taken) short,
+      omega (arith, w .sized, i .loop-test .taken, s .pre .2),
+    )
 
 loop-again : tie.Need-loop-again Inv-loop μ-loop
 loop-again c =
