@@ -1,9 +1,17 @@
 //! The arguments of a command.
 
-use crate::explain;
 use crate::failure::Failure;
 use crate::files::{self, STANDARD};
+use crate::names_file::{NAMES, NO_NAMES};
+use crate::oneline::escaped;
+use crate::{explain, faulty};
 use plot::Register;
+
+/// The most bytes of a rules text; the library refuses one that is longer.
+const RULES_BYTES: usize = 8192;
+
+/// The mark of the last operand where it may stand several times.
+const SEVERAL: &str = "..]";
 
 /// What a command takes.
 pub struct Form {
@@ -51,8 +59,15 @@ impl Arguments {
 
     fn counted(self, form: &Form) -> Result<Arguments, Failure> {
         let given = self.operands.len();
-        if let Some(extra) = self.operands.get(form.operands.len()) {
-            return Err(Failure::Usage(format!("there is no place for {extra:?}")));
+        let several = form
+            .operands
+            .last()
+            .is_some_and(|name| name.ends_with(SEVERAL));
+        match self.operands.get(form.operands.len()) {
+            Some(extra) if !several => {
+                return Err(Failure::Usage(format!("there is no place for {extra:?}")));
+            }
+            _ => {}
         }
         let missing = form.operands.iter().skip(given);
         match missing.clone().find(|name| !name.starts_with('[')) {
@@ -85,13 +100,24 @@ impl Arguments {
         let Some(name) = self.value(option) else {
             return Ok(None);
         };
-        let is_read = |operand: &&String| *operand != STANDARD && files::same(operand, name);
-        match self.operands.iter().find(is_read) {
-            Some(_) if name != STANDARD => Err(Failure::Usage(format!(
-                "{name} is read here, and {option} does not write over it"
+        match name != STANDARD && self.reads(name) {
+            true => Err(Failure::Usage(format!(
+                "{} is read here, and {option} does not write over it",
+                escaped(name)
             ))),
-            _ => Ok(Some(name)),
+            false => Ok(Some(name)),
         }
+    }
+
+    /// Whether an operand is this file.
+    pub fn reads(&self, name: &str) -> bool {
+        let is_read = |operand: &String| operand != STANDARD && files::same(operand, name);
+        self.operands.iter().any(is_read)
+    }
+
+    /// The operands from this place on.
+    pub fn rest(&self, place: usize) -> &[String] {
+        self.operands.get(place..).unwrap_or_default()
     }
 
     /// An operand, counted from 0, that has to be there.
@@ -112,15 +138,15 @@ impl Arguments {
     /// The register that the first operand names.
     pub fn register(&self) -> Result<Register, Failure> {
         let name = self.operand(0);
-        let bytes = files::read(name)?;
+        let bytes = files::read(name, faulty::MOST_BYTES)?;
         Register::from_bytes(bytes.as_slice())
-            .map_err(|refusal| explain::register(files::shown(name), &bytes, refusal))
+            .map_err(|refusal| explain::register(&files::shown(name), &bytes, refusal))
     }
 
     /// The name of the rules text, and the text.
-    pub fn rules(&self) -> Result<(&str, Vec<u8>), Failure> {
+    pub fn rules(&self) -> Result<(String, Vec<u8>), Failure> {
         let name = self.operand(1);
-        Ok((files::shown(name), files::read(name)?))
+        Ok((files::shown(name), files::read(name, RULES_BYTES)?))
     }
 }
 
@@ -137,14 +163,15 @@ fn option(
     word: &str,
     next: impl FnOnce() -> Option<String>,
 ) -> Result<(String, String), Failure> {
-    if form.flags.contains(&word) {
+    if form.flags.contains(&word) || word == NO_NAMES {
         return Ok((word.to_owned(), String::new()));
     }
     let (name, joined) = match word.split_once('=') {
         Some((name, value)) => (name, Some(value.to_owned())),
         None => (word, None),
     };
-    if !form.valued.contains(&name) {
+    if !form.valued.contains(&name) && name != NAMES {
+        let word = escaped(word);
         return Err(Failure::Usage(format!("there is no option {word}")));
     }
     match joined.or_else(next) {

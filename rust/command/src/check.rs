@@ -34,11 +34,11 @@ not: the number of the refusal, its meaning, and the line with a caret.
 fn check(arguments: &Arguments) -> Result<Outcome, Failure> {
     let register = arguments.register()?;
     let (name, text) = arguments.rules()?;
-    let text = checked(&register, name, &text)?;
+    let text = checked(&register, &name, &text)?;
     let plans = plans(&text);
     let shown = match arguments.has("--json") {
         true => json(&plans),
-        false => told(name, &plans, Style::of(&io::stdout())),
+        false => told(&name, &plans, Style::of(&io::stdout())),
     };
     Ok(shown.into())
 }

@@ -2,7 +2,7 @@
 
 use crate::arguments::{Arguments, Form};
 use crate::failure::Failure;
-use crate::{check, inspect, pack, plan, read, run, show};
+use crate::{check, inspect, pack, plan, read, run, show, why};
 
 /// What a command has to say.
 #[derive(Debug, Default)]
@@ -36,10 +36,11 @@ pub struct Command {
     pub run: fn(&Arguments) -> Result<Outcome, Failure>,
 }
 
-const COMMANDS: [Command; 9] = [
+const COMMANDS: [Command; 10] = [
     show::COMMAND,
     read::READ,
     read::PATH,
+    why::COMMAND,
     check::COMMAND,
     plan::COMMAND,
     inspect::COMMAND,

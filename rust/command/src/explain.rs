@@ -106,7 +106,7 @@ pub fn reading(register: &Register, chain: &str, record: usize, refusal: Refusal
         line,
         at,
     };
-    // A chain has no lines to count.
+    // A chain has one line, and people need not be told so.
     let refusal = Refusal { line: 0, ..refusal };
     refused("the chain", refusal, Some(place), advice)
 }
@@ -158,9 +158,10 @@ fn records(sizes: Sizes) -> String {
 /// The failure, for people and for programs.
 fn refused(name: &str, refusal: Refusal, place: Option<Place<'_>>, advice: &str) -> Failure {
     let column = place.map(|place| place.at + 1);
+    let line = place.map_or(refusal.line, |place| place.number);
     let json = json::object(&[
         ("refused", refusal.number().to_string()),
-        ("line", refusal.line.to_string()),
+        ("line", line.to_string()),
         ("column", json::option(column)),
         ("meaning", json::string(refusal.kind.meaning())),
     ]);

@@ -2,6 +2,7 @@
 
 use crate::commands::Outcome;
 use crate::failure::Failure;
+use crate::oneline::escaped;
 use std::fs::{self, File, Metadata, Permissions};
 use std::io::{self, ErrorKind, Read, Write};
 use std::os::unix::fs::MetadataExt;
@@ -11,24 +12,32 @@ use std::process;
 /// The name that stands for standard input or standard output.
 pub const STANDARD: &str = "-";
 
-/// All bytes of a file, or of standard input for `-`.
-pub fn read(name: &str) -> Result<Vec<u8>, Failure> {
+/// The bytes of a file, or of standard input for `-`. Of one that has more than `most`
+/// only one more is read.
+pub fn read(name: &str, most: usize) -> Result<Vec<u8>, Failure> {
+    let most = most as u64 + 1;
     let mut bytes = Vec::new();
     let ended = match name {
-        STANDARD => io::stdin().lock().read_to_end(&mut bytes),
-        name => File::open(name).and_then(|mut file| file.read_to_end(&mut bytes)),
+        STANDARD => io::stdin().lock().take(most).read_to_end(&mut bytes),
+        name => File::open(name).and_then(|file| file.take(most).read_to_end(&mut bytes)),
     };
     match ended {
         Ok(_) => Ok(bytes),
-        Err(error) => Err(Failure::file("read", Path::new(shown(name)), &error)),
+        Err(error) => Err(Failure::file("read", Path::new(&shown(name)), &error)),
     }
 }
 
+/// The size of a plain file.
+pub fn size(name: &str) -> Option<u64> {
+    let there = fs::metadata(name).ok().filter(Metadata::is_file);
+    there.map(|there| there.len())
+}
+
 /// How a name is told to people.
-pub fn shown(name: &str) -> &str {
+pub fn shown(name: &str) -> String {
     match name {
-        STANDARD => "standard input",
-        name => name,
+        STANDARD => "standard input".to_owned(),
+        name => escaped(name),
     }
 }
 

@@ -4,11 +4,12 @@ use crate::arguments::{Arguments, Form};
 use crate::check::checked;
 use crate::commands::{Command, Outcome};
 use crate::failure::Failure;
+use crate::names::{Names, is_reference};
 use crate::show::counted;
 use crate::style::Style;
 use crate::table::Table;
-use crate::{explain, json};
-use plot::{LineKind, Messages, Plan};
+use crate::{explain, json, names_file};
+use plot::{Line, LineKind, Messages, Plan};
 use std::io;
 
 /// The command.
@@ -20,7 +21,7 @@ pub const COMMAND: Command = Command {
         valued: &[],
     },
     help: "\
-plot inspect REGISTER RULES STEP ROUND [--json]
+plot inspect REGISTER RULES STEP ROUND [--names FILE | --no-names] [--json]
 
 Shows the messages that a step has sent in its rounds 1 to ROUND, each with the
 record it is for (origin), the one that writes it, the one that gets it, and what
@@ -28,7 +29,9 @@ it carries: a record number, or the value of the chain at the origin. The step i
 taken by itself, over the register as it is; remote writes are not shown. ROUND is
 0 to 65535.
 
-  --json  for programs: the messages
+  --names FILE  the names of records and fields; without it REGISTER.names
+  --no-names    record numbers only
+  --json        for programs: the messages
 ",
     run: inspect,
 };
@@ -37,15 +40,16 @@ fn inspect(arguments: &Arguments) -> Result<Outcome, Failure> {
     let step = arguments.number(2, "STEP")?.expect("it is there");
     let round = arguments.number(3, "ROUND")?.expect("it is there");
     let register = arguments.register()?;
+    let names = names_file::of(arguments, &register)?;
     let (name, text) = arguments.rules()?;
-    let text = checked(&register, name, &text)?;
+    let text = checked(&register, &name, &text)?;
     let refused = |refusal| explain::step(step, text.steps(), refusal);
     let plan = text.plan(step).map_err(refused)?;
     let sent = text.inspect(step, round).map_err(refused)?;
     let messages = messages(&plan, &sent);
     let shown = match arguments.has("--json") {
         true => json(step, round, &messages),
-        false => told(step, round, &plan, &messages),
+        false => told(step, round, &plan, &names, &messages),
     };
     Ok(shown.into())
 }
@@ -93,12 +97,12 @@ fn writer(plan: &Plan, sent: &[Messages], line: usize, origin: usize) -> Option<
     if letters.is_empty() {
         return Some(origin as i32);
     }
-    let told = |line: &plot::Line| line.kind == LineKind::Back && line.letters == letters;
+    let told = |line: &Line| line.kind == LineKind::Back && line.letters == letters;
     let place = plan.lines.iter().position(told)?;
     sent[place][origin]
 }
 
-fn told(step: usize, round: u16, plan: &Plan, messages: &[Message]) -> String {
+fn told(step: usize, round: u16, plan: &Plan, names: &Names, messages: &[Message]) -> String {
     let count = counted(messages.len(), "message");
     let rounds = plan.rounds();
     let told = format!("step {step} after round {round} of {rounds}: {count}\n");
@@ -115,13 +119,26 @@ fn told(step: usize, round: u16, plan: &Plan, messages: &[Message]) -> String {
             line.kind.to_string(),
             line.chain(),
             line.round.to_string(),
-            message.origin.to_string(),
-            message.from.to_string(),
-            message.to.to_string(),
-            message.carried.to_string(),
+            names.reference(message.origin as usize),
+            names.reference(message.from as usize),
+            names.reference(message.to as usize),
+            carried(line, names, message),
         ]);
     }
     told + &table.print(Style::of(&io::stdout()))
+}
+
+/// What a message carries: a record, or the value of the chain.
+fn carried(line: &Line, names: &Names, message: &Message) -> String {
+    let letter = line
+        .letters
+        .chars()
+        .last()
+        .filter(|_| line.kind == LineKind::Read);
+    match letter.is_none_or(is_reference) {
+        true => names.reference(message.carried as usize),
+        false => message.carried.to_string(),
+    }
 }
 
 fn json(step: usize, round: u16, messages: &[Message]) -> String {

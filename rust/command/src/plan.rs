@@ -41,7 +41,7 @@ fn plan(arguments: &Arguments) -> Result<Outcome, Failure> {
     let step = arguments.number(2, "STEP")?;
     let register = arguments.register()?;
     let (name, text) = arguments.rules()?;
-    let text = checked(&register, name, &text)?;
+    let text = checked(&register, &name, &text)?;
     let plans = wanted(&text, step)?;
     if let Some(name) = svg {
         return files::outcome(name, plan_svg::picture(&plans).into_bytes());

@@ -4,6 +4,8 @@ use crate::arguments::{self, Arguments, Form};
 use crate::commands::{Command, Outcome};
 use crate::failure::Failure;
 use crate::files::{self, STANDARD};
+use crate::names::{Names, is_worked_out};
+use crate::names_file::{self, Destination};
 use crate::show::{self, counted};
 use crate::style::{Look, Style};
 use crate::table::Table;
@@ -26,12 +28,16 @@ Runs a rules text over a register by messages between the records, and tells the
 finished steps, the exchanges, the messages, and which cells have changed. The
 register itself stays as it is unless --in-place is given.
 
-  -o OUT      writes the register at the end to OUT, which is not REGISTER itself;
-              - is standard output, and the report then goes to standard error
-  --in-place  writes it over REGISTER; the old one stays until the new is complete
-  --direct    follows references instead: the same register, no messages to count
-  --budget N  at most N steps, 0 to 65535; without it 1000
-  --json      for programs: the counts and the changed cells
+  -o OUT        writes the register at the end to OUT, which is not REGISTER itself,
+                and its names to OUT.names; - is standard output, and the report then
+                goes to standard error
+  --in-place    writes it over REGISTER; the old one stays until the new is complete
+  --direct      follows references instead: the same register, no messages to count
+  --budget N    at most N steps, 0 to 65535; without it 1000
+  --names FILE  the names of records and fields; without it REGISTER.names
+  --no-names    record numbers and field letters only
+  --json        for programs: the counts, and the changed cells before and after, each
+                with whether it is worked out
 
 A run that is stopped, with its budget spent (20) or at a sum out of range (21),
 writes no register and has exit status 1.
@@ -44,24 +50,39 @@ const BUDGET: u16 = 1000;
 
 fn run(arguments: &Arguments) -> Result<Outcome, Failure> {
     let output = output(arguments)?;
-    let budget = arguments.value("--budget");
-    let budget = budget.map_or(Ok(BUDGET), |word| arguments::number("--budget", word))?;
+    let budget = budget(arguments)?;
     let machine = match arguments.has("--direct") {
         true => Machine::Direct,
         false => Machine::Messages,
     };
     let register = arguments.register()?;
+    let names = names_file::of(arguments, &register)?;
+    let destination = match arguments.value("-o") {
+        Some(output) => Some(Destination::beside(arguments, output)?),
+        None => None,
+    };
     let (name, text) = arguments.rules()?;
     let run = register.run(&text, machine, budget);
-    let run = run.map_err(|refusal| explain::rules(name, register.sizes(), &text, refusal))?;
+    let run = run.map_err(|refusal| explain::rules(&name, register.sizes(), &text, refusal))?;
     if run.end != End::Whole {
-        return Err(stopped(name, machine, budget, &run));
+        return Err(stopped(&name, machine, budget, &names, &run));
     }
     let report = match arguments.has("--json") {
-        true => json(&register, machine, &run),
-        false => told(&register, machine, &run, output),
+        true => json(&register, machine, &names, &run),
+        false => told(&register, machine, &names, &run, output),
     };
-    written(output, report, run)
+    let outcome = written(output, report, run)?;
+    // The names go with the register.
+    destination.map_or(Ok(()), |destination| {
+        destination.write(&names, register.sizes()).map(drop)
+    })?;
+    Ok(outcome)
+}
+
+/// The most steps of a run.
+pub fn budget(arguments: &Arguments) -> Result<u16, Failure> {
+    let budget = arguments.value("--budget");
+    budget.map_or(Ok(BUDGET), |word| arguments::number("--budget", word))
 }
 
 /// The file to write, if one is asked for.
@@ -108,10 +129,14 @@ fn counts(machine: Machine, run: &Run) -> String {
     }
 }
 
-fn stopped(name: &str, machine: Machine, budget: u16, run: &Run) -> Failure {
+/// The refusal of a run that was stopped.
+pub fn stopped(name: &str, machine: Machine, budget: u16, names: &Names, run: &Run) -> Failure {
     let kind = run.end.refusal().expect("the run is stopped");
     let place = match run.end {
-        End::OutOfRange { record, field } => format!("Field {field} of record {record}. "),
+        End::OutOfRange { record, field } => {
+            let (field, record) = (names.field(field), names.record(record));
+            format!("Field {field} of {record}. ")
+        }
         _ => format!("The budget is {budget}. "),
     };
     let counts = counts(machine, run);
@@ -142,7 +167,13 @@ fn changes(before: &Register, after: &Register) -> Vec<Change> {
     changes.collect()
 }
 
-fn told(register: &Register, machine: Machine, run: &Run, output: Option<&str>) -> String {
+fn told(
+    register: &Register,
+    machine: Machine,
+    names: &Names,
+    run: &Run,
+    output: Option<&str>,
+) -> String {
     let style = match output {
         Some(STANDARD) => Style::of(&io::stderr()),
         _ => Style::of(&io::stdout()),
@@ -153,35 +184,37 @@ fn told(register: &Register, machine: Machine, run: &Run, output: Option<&str>) 
     if changes.is_empty() {
         return told;
     }
-    let mut table = Table::new([">record", "field", ">before", ">after"]);
+    let headings = ["field", ">before", ">after"].map(str::to_owned);
+    let mut table = Table::new(names.record_headings().into_iter().chain(headings));
     for (record, field, before, after) in changes {
         let after_look = match after {
             Cell::Unfilled => Look::Gap,
             _ => Look::New,
         };
-        table.row([
-            (record.to_string(), Look::Plain),
-            (field.to_string(), Look::Plain),
-            (before.to_string(), show::look(before)),
-            (after.to_string(), after_look),
-        ]);
+        let place = names.record_cells(record).into_iter();
+        let place = place.chain([names.field(field)]);
+        table.row(place.map(|cell| (cell, Look::Plain)).chain([
+            (names.cell(field, before), show::look(before)),
+            (names.cell(field, after), after_look),
+        ]));
     }
     told + &table.print(style)
 }
 
-fn json(register: &Register, machine: Machine, run: &Run) -> String {
+fn json(register: &Register, machine: Machine, names: &Names, run: &Run) -> String {
     let counted = |number: u64| match machine {
         Machine::Direct => json::option(None::<u64>),
         Machine::Messages => number.to_string(),
     };
     let changes = changes(register, &run.register);
     let changes = changes.iter().map(|(record, field, before, after)| {
-        json::object(&[
-            ("record", record.to_string()),
-            ("field", json::string(&field.to_string())),
+        let cells = [
             ("before", json::option(before.value())),
+            ("before_worked_out", is_worked_out(*before).to_string()),
             ("after", json::option(after.value())),
-        ])
+            ("after_worked_out", is_worked_out(*after).to_string()),
+        ];
+        json::object(&[names.cell_members(*record, *field), cells.to_vec()].concat())
     });
     json::object(&[
         ("finished", run.finished.to_string()),

@@ -8,8 +8,10 @@ pub mod colour {
     pub const INK: &str = "#222222";
     /// Text of less weight, and guiding lines.
     pub const GREY: &str = "#767676";
-    /// A filled cell.
+    /// A filled cell, where cells are told apart a measured one.
     pub const FILLED: &str = "#cfe3f2";
+    /// A worked-out cell.
+    pub const WORKED_OUT: &str = "#5b9bd5";
     /// A gap.
     pub const GAP: &str = "#d55e00";
     /// Guiding lines.

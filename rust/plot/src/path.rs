@@ -38,10 +38,9 @@ impl Path {
         let hop = |i: usize| {
             let record = buffers.records[i] as usize;
             let field = char::from(buffers.fields[i]);
-            // The call tells what is read; where the value comes from stands in the file.
-            let cell = match (buffers.marks[i], register.cell(record, field)) {
+            let cell = match (buffers.marks[i], mark(register, record, field)) {
                 (0, _) => Cell::Unfilled,
-                (_, Some(Cell::WorkedOut(_))) => Cell::WorkedOut(buffers.values[i] as i32),
+                (_, 2) => Cell::WorkedOut(buffers.values[i] as i32),
                 _ => Cell::Measured(buffers.values[i] as i32),
             };
             Hop {
@@ -55,4 +54,16 @@ impl Path {
         let value = last.map_or(Some(record as i32), |hop| hop.cell.value());
         Path { hops, value }
     }
+
+    /// What the reading comes to, and where that comes from: the last cell. The
+    /// number that `u` reads is given with the register, as a measured value is.
+    pub fn cell(&self) -> Cell {
+        self.hops.last().map_or(self.value.into(), |hop| hop.cell)
+    }
+}
+
+/// The mark of a cell as the file has it: the call tells what is read, and not where
+/// the value comes from.
+fn mark(register: &Register, record: usize, field: char) -> u8 {
+    register.cell(record, field).map_or(0, Cell::mark)
 }

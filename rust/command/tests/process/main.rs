@@ -13,3 +13,4 @@ mod sessions;
 mod sheets;
 mod shown;
 mod usage;
+mod whys;

@@ -2,8 +2,8 @@
 
 use crate::folder::Folder;
 
-const COMMANDS: [&str; 9] = [
-    "show", "read", "path", "check", "plan", "inspect", "run", "pack", "unpack",
+const COMMANDS: [&str; 10] = [
+    "show", "read", "path", "why", "check", "plan", "inspect", "run", "pack", "unpack",
 ];
 
 #[test]
