@@ -45,34 +45,35 @@ fn short(name: &str) -> String {
 }
 
 /// The height of a cell of the table, its least width, the room for a character, and
-/// the least room for the records.
+/// for the record numbers.
 const HEIGHT: usize = 24;
 const LEAST_WIDTH: usize = 64;
 const CHARACTER: usize = 9;
-const LEAST_RECORD: usize = 60;
+const NUMBERS: usize = 44;
 
 fn table(picture: &mut Picture, register: &Register, names: &Names) {
     let records = 0..register.sizes().records;
-    let heads: Vec<String> = records.map(|record| head(names, record)).collect();
-    let mut x = EDGE + room(LEAST_RECORD, heads.iter());
-    for (record, head) in heads.iter().enumerate() {
-        let point = (x - 10, row(record) + 16);
-        picture.text(point, Anchor::End, (12, colour::GREY), head);
+    let labels = records.map(|record| short(names.label(record).unwrap_or("")));
+    let labels: Vec<String> = labels.collect();
+    let numbers = EDGE
+        + if names.has_labels() {
+            room(0, labels.iter())
+        } else {
+            0
+        };
+    let mut x = numbers + NUMBERS;
+    for (record, label) in labels.iter().enumerate() {
+        let y = row(record) + 16;
+        picture.text((numbers, y), Anchor::End, (12, colour::INK), label);
+        let number = record.to_string();
+        picture.text((x - 10, y), Anchor::End, (12, colour::GREY), &number);
     }
     for field in register.sizes().fields() {
         x += column(picture, register, names, (field, x));
     }
-    let bottom = row(heads.len());
+    let bottom = row(labels.len());
     legend(picture, bottom + 20);
     picture.reach(x + EDGE, bottom + 20 + EDGE);
-}
-
-/// What stands left of a record's cells.
-fn head(names: &Names, record: usize) -> String {
-    match names.label(record) {
-        Some(label) => format!("{} {record}", short(label)),
-        None => record.to_string(),
-    }
 }
 
 /// The top of a record's row.
@@ -130,7 +131,7 @@ fn legend(picture: &mut Picture, y: usize) {
 /// field's title and its record numbers.
 const ACROSS: usize = 64;
 const FIELDS_ACROSS: usize = 4;
-const HEAD: usize = 44;
+const HEAD: usize = 60;
 const SIDE: usize = 48;
 
 fn squares(picture: &mut Picture, register: &Register, names: &Names) {
@@ -172,10 +173,11 @@ fn field_squares(
     };
     let (worked_out, unfilled) = (of_colour(colour::WORKED_OUT), of_colour(colour::GAP));
     let counts = match worked_out.len() {
-        0 => format!("{title}: {} unfilled", unfilled.len()),
-        some => format!("{title}: {} unfilled, {some} worked out", unfilled.len()),
+        0 => format!("{} unfilled", unfilled.len()),
+        some => format!("{} unfilled, {some} worked out", unfilled.len()),
     };
-    picture.text((x, y - 22), Anchor::Start, (14, colour::INK), &counts);
+    picture.text((x, y - 40), Anchor::Start, (14, colour::INK), title);
+    picture.text((x, y - 22), Anchor::Start, (12, colour::INK), &counts);
     axes(picture, records, (x, y, square));
     for (records, fill) in [(worked_out, colour::WORKED_OUT), (unfilled, colour::GAP)] {
         let squares = records.into_iter().map(|record| {

@@ -4,6 +4,7 @@ mod any_bytes;
 mod carets;
 mod files;
 mod folder;
+mod names;
 mod pictures;
 mod readings;
 mod rules;
