@@ -64,7 +64,9 @@ fn table(picture: &mut Picture, register: &Register, names: &Names) {
     let mut x = numbers + NUMBERS;
     for (record, label) in labels.iter().enumerate() {
         let y = row(record) + 16;
-        picture.text((numbers, y), Anchor::End, (12, colour::INK), label);
+        if !label.is_empty() {
+            picture.text((numbers, y), Anchor::End, (12, colour::INK), label);
+        }
         let number = record.to_string();
         picture.text((x - 10, y), Anchor::End, (12, colour::GREY), &number);
     }

@@ -105,6 +105,13 @@ impl Names {
         }
     }
 
+    /// The fields that have names, in a line; none where none has one.
+    pub fn legend(&self) -> Option<String> {
+        let fields = self.fields.keys().map(|field| self.field(*field));
+        let fields: Vec<String> = fields.collect();
+        (!fields.is_empty()).then(|| format!("fields: {}", fields.join(", ")))
+    }
+
     /// A record in a sentence: `record 9`, `Mark A (record 9)`.
     pub fn record(&self, record: usize) -> String {
         match self.label(record) {

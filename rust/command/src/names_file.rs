@@ -167,7 +167,12 @@ impl Destination {
     /// those that are read.
     pub fn told(arguments: &Arguments, output: &str) -> Result<Destination, Failure> {
         let place = place(arguments, output)?;
-        Destination::checked(arguments, place)
+        match place.as_deref() == Some(output) {
+            true => Err(Failure::Usage(
+                "-o and --names are of one file, and need two".to_owned(),
+            )),
+            false => Destination::checked(arguments, place),
+        }
     }
 
     /// The file beside the output, whatever names were read from.
@@ -183,6 +188,15 @@ impl Destination {
                 files::shown(name)
             ))),
             _ => Ok(Destination(place)),
+        }
+    }
+
+    /// What is told where there are names and no place for them.
+    pub fn lack(&self, arguments: &Arguments, names: &Names) -> String {
+        let lost = self.0.is_none() && !arguments.has(NO_NAMES);
+        match lost && (names.has_labels() || names.has_fields()) {
+            true => "the names are left out: --names FILE tells where they go\n".to_owned(),
+            false => String::new(),
         }
     }
 

@@ -75,6 +75,7 @@ fn pack(arguments: &Arguments) -> Result<Outcome, Failure> {
     let register = Register::from_cells(sheet.sizes, &sheet.cells)
         .map_err(|refusal| explain::register(&name, &[], refusal))?;
     let mut outcome = files::outcome(output, register.as_bytes().to_vec())?;
+    outcome.note += &destination.lack(arguments, &sheet.names);
     let named = destination.write(&sheet.names, sheet.sizes)?;
     if output != STANDARD && !arguments.has("--json") {
         let (output, summary) = (files::shown(output), show::summary(&register));

@@ -7,7 +7,7 @@ use crate::failure::Failure;
 use crate::show::counted;
 use crate::style::Style;
 use crate::table::Table;
-use crate::{explain, files, json, plan_svg};
+use crate::{explain, files, json, names_file, plan_svg};
 use plot::{Line, LineKind, Plan, Text};
 use std::io;
 
@@ -26,9 +26,11 @@ Shows how the records get what a step reads: the lines of its plan, each with th
 round in which its messages are sent, who writes, who gets them, and what they
 carry. Without STEP it shows all steps; they count from 1.
 
-  --svg FILE  a picture: the records of each chain in a row, and the messages as
-              arrows, round by round
-  --json      for programs: the steps with their lines
+  --svg FILE    a picture: the records of each chain in a row, and the messages as
+                arrows, round by round
+  --names FILE  the names of records and fields; without it REGISTER.names
+  --no-names    field letters only
+  --json        for programs: the steps with their lines
 ",
     run: plan,
 };
@@ -40,18 +42,22 @@ fn plan(arguments: &Arguments) -> Result<Outcome, Failure> {
     let svg = arguments.output("--svg")?;
     let step = arguments.number(2, "STEP")?;
     let register = arguments.register()?;
+    let legend = names_file::of(arguments, &register)?.legend();
     let (name, text) = arguments.rules()?;
     let text = checked(&register, &name, &text)?;
     let plans = wanted(&text, step)?;
     if let Some(name) = svg {
-        return files::outcome(name, plan_svg::picture(&plans).into_bytes());
+        let picture = plan_svg::picture(&plans, legend.as_deref());
+        return files::outcome(name, picture.into_bytes());
     }
     let style = Style::of(&io::stdout());
+    let legend = legend.map(|legend| legend + "\n");
     let shown = match arguments.has("--json") {
         true => json(&plans),
         false => plans
             .iter()
             .map(|(step, plan)| told(*step, plan, style))
+            .chain(legend)
             .collect(),
     };
     Ok(shown.into())

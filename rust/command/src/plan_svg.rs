@@ -16,12 +16,15 @@ const TITLE: usize = 30;
 const RECORDS: usize = 32;
 const MESSAGE: usize = 28;
 
-/// A picture of the plans of some steps.
-pub fn picture(plans: &[Numbered]) -> String {
+/// A picture of the plans of some steps, with a line about the fields if there is one.
+pub fn picture(plans: &[Numbered], legend: Option<&str>) -> String {
     let mut picture = Picture::default();
     let mut y = EDGE;
     for (step, plan) in plans {
         y = step_picture(&mut picture, y, *step, plan) + EDGE;
+    }
+    if let Some(legend) = legend {
+        y = note(&mut picture, y, legend);
     }
     picture.reach(360, y);
     picture.print("plan")

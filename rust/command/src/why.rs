@@ -12,7 +12,7 @@ use crate::stops::{self, Place, Stop};
 use crate::style::Style;
 use crate::table::Table;
 use crate::{explain, gaps, json, names_file, read, run};
-use plot::{End, Machine, Register};
+use plot::{End, Kind, Machine, Register};
 use std::io;
 use std::path::Path;
 
@@ -113,12 +113,16 @@ impl Answer {
 /// The gaps behind the readings of a chain.
 fn of_chain(arguments: &Arguments, register: &Register, names: &Names) -> Result<Answer, Failure> {
     let chain = arguments.operand(1);
-    if Path::new(chain).is_file() {
-        return Err(Failure::Usage("FIELD is missing behind RULES".to_owned()));
+    if arguments.has("--budget") {
+        return Err(Failure::Usage("--budget goes with RULES only".to_owned()));
     }
     let records: Vec<usize> = (0..register.sizes().records).collect();
-    let paths = read::paths(register, chain, &records)
-        .map_err(|(record, refusal)| explain::reading(register, chain, record, refusal))?;
+    let paths = read::paths(register, chain, &records).map_err(|(record, refusal)| {
+        match refusal.kind == Kind::Form && Path::new(chain).is_file() {
+            true => Failure::Usage("FIELD is missing behind RULES".to_owned()),
+            false => explain::reading(register, chain, record, refusal),
+        }
+    })?;
     let ends = paths
         .iter()
         .filter_map(|(u, path)| Some((read::gap(path)?, *u)));

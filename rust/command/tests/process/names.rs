@@ -38,6 +38,9 @@ fn every_command_shows_them() {
     plot(&["why", "clerk", "depths.rules", "below datum"])
         .has("       8  Chapel      3  N of Mark C");
     plot(&["unpack", "depths"]).has("East 1;Mark B;2.10;2.75~\n");
+    plot(&["plan", "clerk", "depths.rules"]).has("\nfields: A mark, M below mark, N below datum\n");
+    let plan = plot(&["plan", "clerk", "depths.rules", "--svg", "-"]);
+    plan.has(">fields: A mark, M below mark, N below datum<");
     let range = b"step\nN[u] := N[u] + 2147483647\nend\n";
     let stopped = folder.plot_with(&["run", "clerk", "-"], range);
     stopped.fails(1, "Field N below datum of Mark A (record 9).");
@@ -142,6 +145,13 @@ fn names_go_with_the_register() {
         .plot(&["run", "y", "depths.rules", "--in-place"])
         .has("North 1");
     folder.plot(&["show", "y"]).has("North 1");
+    let lost = folder.plot(&["pack", "clerk.csv", "-o", "-"]);
+    assert_eq!(
+        lost.err,
+        "the names are left out: --names FILE tells where they go\n"
+    );
+    let one = ["pack", "clerk.csv", "-o", "w", "--names", "w"];
+    folder.plot(&one).fails(2, "-o and --names are of one file");
     folder.write("z.names", "A\n");
     let over = ["pack", "z.names", "-o", "z"];
     folder.plot(&over).fails(

@@ -162,6 +162,9 @@ fn what_cannot_be_asked() {
     why(&["nothing.rules", "N"]).fails(2, "cannot read nothing.rules");
     why(&["full.csv", "N"]).fails(1, "refused 7");
     why(&["depths.rules", "N", "--budget", "1"]).fails(1, "refused 20");
+    why(&["u", "--budget", "1"]).fails(2, "--budget goes with RULES only");
+    folder.write("u", "");
+    why(&["u"]).has("every reading of u is filled");
     why(&["u", "--csv", "--json"]).fails(2, "--csv and --json exclude each other");
     let empty = folder.plot_with(&["why", "-", "A[u]"], &[0; 12]);
     empty.fails(1, "refused 9");
