@@ -4,7 +4,7 @@
 use crate::scan::{Part, PartSort, Scan};
 use crate::stops::Place;
 use crate::{gaps, read};
-use plot::{Machine, Register};
+use plot::{End, Machine, Register};
 use std::cell::OnceCell;
 use std::collections::hash_map::Entry;
 use std::collections::{BTreeSet, HashMap, HashSet};
@@ -59,6 +59,9 @@ pub enum Cause {
     /// All that it reads is filled, and it does not fill the cell: its test does not
     /// hold.
     Test,
+    /// All that it reads is filled, and it cannot be done by itself: a sum or total
+    /// leaves the range.
+    Range,
     /// It is a remote rule, and no record writes to this one.
     Unreached,
 }
@@ -79,7 +82,7 @@ pub struct Causes<'a> {
     register: &'a Register,
     rules: &'a [Rule],
     writers: Vec<OnceCell<Writers>>,
-    alone: Vec<OnceCell<Vec<bool>>>,
+    alone: Vec<OnceCell<Option<Vec<bool>>>>,
 }
 
 /// For a rule that writes to others: for each record those that write to it.
@@ -119,9 +122,10 @@ impl<'a> Causes<'a> {
             return Cause::Gaps(gaps.into_iter().collect());
         }
         let alone = self.alone[place].get_or_init(|| filled_alone(self.register, rule));
-        match alone[record] {
-            true => Cause::Early,
-            false => Cause::Test,
+        match alone.as_ref().map(|filled| filled[record]) {
+            Some(true) => Cause::Early,
+            Some(false) => Cause::Test,
+            None => Cause::Range,
         }
     }
 
@@ -146,16 +150,14 @@ fn writers(register: &Register, rule: &Rule) -> Writers {
     Some(writers)
 }
 
-/// For each record whether its cell is filled after the rule by itself.
-fn filled_alone(register: &Register, rule: &Rule) -> Vec<bool> {
+/// For each record whether its cell is filled after the rule by itself; none where that
+/// is stopped.
+fn filled_alone(register: &Register, rule: &Rule) -> Option<Vec<bool>> {
     let text = format!("step\n{}\nend\n", rule.text);
-    let run = register.run(text, Machine::Direct, 1);
-    // A run that is stopped leaves the register as it was.
-    let after = run.map_or(register.clone(), |run| run.register);
+    let run = register.run(text, Machine::Direct, 1).ok()?;
     let records = 0..register.sizes().records;
-    records
-        .map(|u| !gaps::is_gap(&after, u, rule.field))
-        .collect()
+    let filled = records.map(|u| !gaps::is_gap(&run.register, u, rule.field));
+    (run.end == End::Whole).then(|| filled.collect())
 }
 
 /// What is behind gaps: the gaps that no rule would have filled had it not been

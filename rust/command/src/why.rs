@@ -294,6 +294,7 @@ impl Report<'_> {
             Cause::Gaps(gaps) => self.places(gaps.iter().copied()),
             Cause::Early => "nothing any more: run the rules again".to_owned(),
             Cause::Test => "its test, which does not hold".to_owned(),
+            Cause::Range => "a number out of range, were it done now".to_owned(),
             Cause::Unreached => "no record writes to this one".to_owned(),
         }
     }
@@ -332,6 +333,7 @@ impl Report<'_> {
                 Cause::Gaps(_) => "gaps",
                 Cause::Early => "early",
                 Cause::Test => "test",
+                Cause::Range => "range",
                 Cause::Unreached => "unreached",
             };
             let members = [

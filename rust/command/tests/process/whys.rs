@@ -131,6 +131,9 @@ fn rules_that_are_stopped_by_no_gap() {
         .has("       0     2  nothing any more: run the rules again\n");
     let test = "step\nif M[u] < 0: N[u] := 1\nend\n";
     why_text(&folder, "M,N\n5,\n", test).has("       0     2  its test, which does not hold\n");
+    let range = early.replace("+ 1", "+ 2147483647");
+    why_text(&folder, "M,N\n,\n", &range)
+        .has("       0     2  a number out of range, were it done now\n");
     let remote = "step\nremote N[A[u]] <?= M [ A[u] ]\nend\n";
     why_text(&folder, "A,M,N\n1,5,\n,,\n", remote)
         .has("       0     2  no record writes to this one\n")
