@@ -5,7 +5,7 @@ use crate::commands::{Command, Outcome};
 use crate::failure::Failure;
 use crate::files::{self, STANDARD};
 use crate::names_file::{self, Destination};
-use crate::sheet::{self, Places};
+use crate::sheet::{self, Places, Sheet};
 use crate::{explain, faults, json, show};
 use plot::Register;
 
@@ -79,7 +79,8 @@ fn pack(arguments: &Arguments) -> Result<Outcome, Failure> {
     let named = destination.write(&sheet.names, sheet.sizes)?;
     if output != STANDARD && !arguments.has("--json") {
         let (output, summary) = (files::shown(output), show::summary(&register));
-        outcome.out = format!("wrote {output}: {summary}\n{named}").into_bytes();
+        let units = units_told(&sheet);
+        outcome.out = format!("wrote {output}: {summary}\n{named}{units}").into_bytes();
     }
     Ok(outcome)
 }
@@ -92,6 +93,16 @@ fn unpack(arguments: &Arguments) -> Result<Outcome, Failure> {
     names.delimiter = delimiter.or(names.delimiter);
     let sheet = sheet::written(&register, &names, &Places::new());
     files::outcome(output, sheet.into_bytes())
+}
+
+/// A line for each field in which some measures are metres and some are centimetres,
+/// for a spreadsheet may have cut 2.00 to 2.
+fn units_told(sheet: &Sheet) -> String {
+    let line = |(field, row): &(char, usize)| {
+        let field = sheet.names.field(*field);
+        format!("{field} has metres, and centimetres in row {row}: is that meant?\n")
+    };
+    sheet.mixed.iter().map(line).collect()
 }
 
 /// The delimiter that is asked for.

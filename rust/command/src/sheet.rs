@@ -8,7 +8,7 @@ use crate::oneline::{clipped, quoted};
 use crate::show;
 use plot::{Cell, Register, Sizes};
 use std::cmp::Reverse;
-use std::collections::BTreeSet;
+use std::collections::{BTreeMap, BTreeSet};
 
 /// No sheet that a register can have is longer, in bytes.
 pub const MOST_BYTES: usize = 16 << 20;
@@ -31,6 +31,8 @@ pub struct Sheet {
     pub cells: Vec<Cell>,
     /// The names of its records and fields.
     pub names: Names,
+    /// For each field that has both units: the first row with centimetres.
+    pub mixed: Vec<(char, usize)>,
 }
 
 /// The cells of a register: record and field.
@@ -197,8 +199,8 @@ struct Reading {
     header: Header,
     sheet: Sheet,
     faults: Vec<Fault>,
-    /// The fields with a measure that is written as centimetres.
-    centimetres: BTreeSet<char>,
+    /// The fields with a measure in centimetres other than 0, and its first row.
+    centimetres: BTreeMap<char, usize>,
 }
 
 impl Reading {
@@ -219,9 +221,10 @@ impl Reading {
                 sizes,
                 cells,
                 names,
+                mixed: Vec::new(),
             },
             faults: Vec::new(),
-            centimetres: BTreeSet::new(),
+            centimetres: BTreeMap::new(),
         }
     }
 
@@ -236,7 +239,12 @@ impl Reading {
             self.row(record + 2, row);
         }
         let metres = &mut self.sheet.names.metres;
-        metres.retain(|field| !self.centimetres.contains(field));
+        let mixed = self
+            .centimetres
+            .iter()
+            .filter(|(field, _)| metres.contains(field));
+        self.sheet.mixed = mixed.map(|(field, row)| (*field, *row)).collect();
+        metres.retain(|field| !self.centimetres.contains_key(field));
         self.faults.sort_by_key(|fault| (fault.row, fault.column));
         match self.faults.is_empty() {
             true => Ok(self.sheet),
@@ -288,7 +296,7 @@ impl Reading {
             let read = match (cell, field) {
                 (Err(wrong), _) => Err((*wrong).to_owned()),
                 (Ok(_), None) => continue,
-                (Ok(cell), Some(field)) => self.cell(self.header.fields[field].0, cell),
+                (Ok(cell), Some(field)) => self.cell(row, self.header.fields[field].0, cell),
             };
             match read {
                 Ok(cell) => self.sheet.cells.push(cell),
@@ -298,7 +306,7 @@ impl Reading {
     }
 
     /// A cell as it is written, unfilled where it is empty or asked for.
-    fn cell(&mut self, field: char, cell: &str) -> Result<Cell, String> {
+    fn cell(&mut self, row: usize, field: char, cell: &str) -> Result<Cell, String> {
         if cell.is_empty() || cell == ASKED {
             return Ok(Cell::Unfilled);
         }
@@ -308,9 +316,21 @@ impl Reading {
         };
         let value = match is_reference(field) {
             true => self.reference(bare, cell),
-            false => self.measure(field, bare, cell),
+            false => measure(bare, cell).map(|(value, unit)| {
+                self.count(row, field, value, unit);
+                value
+            }),
         };
         value.map(filled)
+    }
+
+    /// Keeps which unit a field has.
+    fn count(&mut self, row: usize, field: char, value: i32, unit: Unit) {
+        match unit {
+            Unit::Metres => drop(self.sheet.names.metres.insert(field)),
+            Unit::Centimetres if value != 0 => drop(self.centimetres.entry(field).or_insert(row)),
+            Unit::Centimetres => {}
+        }
     }
 
     /// The record that a cell names by its label or its number.
@@ -337,28 +357,33 @@ impl Reading {
             }
         }
     }
+}
 
-    /// A measure in centimetres, or in metres with two decimals.
-    fn measure(&mut self, field: char, bare: &str, cell: &str) -> Result<i32, String> {
-        let (value, in_metres) = match (whole(bare), in_metres(bare)) {
-            (Some(value), _) => (value, false),
-            (None, Some(value)) => (value, true),
-            (None, None) => {
-                return Err(not_written(cell, meant(bare)).unwrap_or_else(|| {
-                    let cell = quoted(cell);
-                    format!("{cell} is no whole number of centimetres, and no metres as 1.80")
-                }));
-            }
-        };
-        match in_metres {
-            true => drop(self.sheet.names.metres.insert(field)),
-            false => drop(self.centimetres.insert(field)),
+/// What a measure is written in.
+enum Unit {
+    Centimetres,
+    Metres,
+}
+
+/// A measure in centimetres, or in metres with two decimals.
+fn measure(bare: &str, cell: &str) -> Result<(i32, Unit), String> {
+    let (value, unit) = match (whole(bare), in_metres(bare)) {
+        (Some(value), _) => (value, Unit::Centimetres),
+        (None, Some(value)) => (value, Unit::Metres),
+        (None, None) => {
+            let none = || {
+                let cell = quoted(cell);
+                format!("{cell} is no whole number of centimetres, and no metres as 1.80")
+            };
+            return Err(not_written(cell, meant(bare)).unwrap_or_else(none));
         }
-        i32::try_from(value).map_err(|_| {
-            let range = "-2147483648 to 2147483647 centimetres";
-            format!("{} is out of range: {range}", clipped(bare))
-        })
-    }
+    };
+    let out_of_range = |_| {
+        let range = "-2147483648 to 2147483647 centimetres";
+        format!("{} is out of range: {range}", clipped(bare))
+    };
+    let value = i32::try_from(value).map_err(out_of_range)?;
+    Ok((value, unit))
 }
 
 fn no_label(bare: &str) -> String {

@@ -135,12 +135,21 @@ fn the_pictures_of_the_manual() {
     let folder = Folder::with_cemetery("picture-manual");
     let chain = format!("M[{}u{}", "A[".repeat(7), "]".repeat(8));
     folder.write("eight.rules", format!("step\nM[u] := {chain}\nend\n"));
+    folder.plot(&["pack", "clerk.csv", "-o", "clerk.register"]);
+    let run = [
+        "run",
+        "clerk.register",
+        "depths.rules",
+        "-o",
+        "clerk-depths.register",
+    ];
+    folder.plot(&run).has("6 cells changed");
     for (name, words) in [
         (
             "docs/plan.svg",
             &["plan", "full.register", "eight.rules"][..],
         ),
-        ("docs/sparse.svg", &["show", "sparse.register"]),
+        ("docs/clerk.svg", &["show", "clerk-depths.register"]),
     ] {
         let picture = picture(&folder, words, b"");
         let path = root().join(name);

@@ -313,6 +313,23 @@ fn labels_and_names_that_are_none() {
     assert!(!folder.at("out").exists() && !folder.at("out.names").exists());
 }
 
+/// A spreadsheet may cut 2.00 to 2, so a field with both units is told.
+#[test]
+fn metres_beside_centimetres() {
+    let folder = Folder::new("sheet-units");
+    let pack = |sheet: &str| folder.plot_with(&["pack", "-", "-o", "r"], sheet.as_bytes());
+    pack("M depth,N\n1.80,5\n0,6\n2,7\n3,\n")
+        .has("M depth has metres, and centimetres in row 4: is that meant?\n");
+    folder
+        .plot(&["unpack", "r"])
+        .is("M depth,N\n180,5\n0,6\n2,7\n3,\n");
+    let said = pack("M depth\n1.80\n0\n2.00\n");
+    assert!(!said.out.contains("is that meant"), "{}", said.out);
+    folder
+        .plot(&["unpack", "r"])
+        .is("M depth\n1.80\n0.00\n2.00\n");
+}
+
 /// What is longer than any sheet is refused, and not read.
 #[test]
 fn a_file_that_is_too_long_for_a_sheet() {
