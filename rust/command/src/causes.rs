@@ -104,11 +104,11 @@ impl<'a> Causes<'a> {
         let rules = self.rules.iter().enumerate();
         let rules = rules.filter(|(_, rule)| rule.field == field);
         rules
-            .map(|(place, _)| (place, self.cause(place, (record, field))))
+            .map(|(place, _)| (place, self.cause(place, record)))
             .collect()
     }
 
-    fn cause(&self, place: usize, (record, _): Place) -> Cause {
+    fn cause(&self, place: usize, record: usize) -> Cause {
         let rule = &self.rules[place];
         let writers = self.writers[place].get_or_init(|| writers(self.register, rule));
         let readers = match writers {

@@ -36,6 +36,7 @@ mod style;
 mod svg;
 mod table;
 mod why;
+mod why_rules;
 
 use commands::Outcome;
 use failure::Failure;
