@@ -2,7 +2,7 @@
 //! them. Each gap is the end of a path that the library gives.
 
 use crate::scan::{Part, PartSort, Scan};
-use crate::stops::Place;
+use crate::stopping::Place;
 use crate::{gaps, read};
 use plot::{End, Machine, Register};
 use std::cell::OnceCell;

@@ -31,7 +31,7 @@ mod run;
 mod scan;
 mod sheet;
 mod show;
-mod stops;
+mod stopping;
 mod style;
 mod svg;
 mod table;

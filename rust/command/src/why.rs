@@ -7,7 +7,7 @@ use crate::files::{self, STANDARD};
 use crate::names::Names;
 use crate::sheet::{self, Places};
 use crate::show::counted;
-use crate::stops::{self, Stop};
+use crate::stopping::{self, Stop};
 use crate::{explain, json, names_file, read, why_rules};
 use plot::{Kind, Register};
 use std::path::Path;
@@ -70,7 +70,7 @@ fn why(arguments: &Arguments) -> Result<Outcome, Failure> {
     };
     let asked: Places = answer.stops.iter().map(|stop| stop.gap).collect();
     let told = match (arguments.has("--csv"), arguments.has("--json")) {
-        (true, _) => stops::csv(&answer.stops, &names),
+        (true, _) => stopping::csv(&answer.stops, &names),
         (_, true) => answer.json(&names),
         _ => answer.told(&names) + &diary_told(output, asked.len()),
     };
@@ -100,12 +100,12 @@ fn diary_told(output: Option<&str>, asked: usize) -> String {
 
 impl Answer {
     fn told(&self, names: &Names) -> String {
-        let stops = stops::told(&self.stops, names, self.thing);
+        let stops = stopping::told(&self.stops, names, self.thing);
         format!("{}\n{stops}{}", self.summary, self.behind)
     }
 
     fn json(&self, names: &Names) -> String {
-        let gaps = ("gaps", stops::json(&self.stops, names));
+        let gaps = ("gaps", stopping::json(&self.stops, names));
         json::object(&[self.members.clone(), vec![gaps]].concat()) + "\n"
     }
 }
@@ -126,7 +126,7 @@ fn of_chain(arguments: &Arguments, register: &Register, names: &Names) -> Result
     let ends = paths
         .iter()
         .filter_map(|(u, path)| Some((read::gap(path)?, *u)));
-    let stops = stops::grouped(ends);
+    let stops = stopping::grouped(ends);
     let unfilled = paths
         .iter()
         .filter(|(_, path)| path.value.is_none())

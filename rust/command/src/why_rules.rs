@@ -7,7 +7,7 @@ use crate::failure::Failure;
 use crate::names::Names;
 use crate::sheet::Places;
 use crate::show::counted;
-use crate::stops::{self, Place};
+use crate::stopping::{self, Place};
 use crate::style::Style;
 use crate::table::Table;
 use crate::why::{Answer, behind};
@@ -72,7 +72,7 @@ impl Report<'_> {
             let roots = self.roots.of(gap);
             roots.map(move |root| (root, gap.0))
         });
-        let stops = stops::grouped(ends);
+        let stops = stopping::grouped(ends);
         let field = self.names.field(self.field);
         let unfilled = self.unfilled.len();
         let of = counted(records, "record");
