@@ -1,8 +1,8 @@
 //! The arguments of a command.
 
-use crate::explain;
 use crate::failure::Failure;
 use crate::files::{self, STANDARD};
+use crate::{explain, nearest};
 use plot::Register;
 
 /// What a command takes.
@@ -15,21 +15,28 @@ pub struct Form {
     pub valued: &'static [&'static str],
 }
 
+/// The operands that are names of files.
+const FILES: [&str; 6] = ["REGISTER", "RULES", "[RULES]", "SHEET.csv", "OLD", "NEW"];
+
 /// The arguments of a command, taken apart.
 #[derive(Debug, Default)]
 pub struct Arguments {
     operands: Vec<String>,
     options: Vec<(String, String)>,
+    names: &'static [&'static str],
 }
 
 impl Arguments {
     /// The arguments as the form has them.
     pub fn parse(form: &Form, given: &[String]) -> Result<Arguments, Failure> {
-        let mut arguments = Arguments::default();
+        let mut arguments = Arguments {
+            names: form.operands,
+            ..Arguments::default()
+        };
         let mut given = given.iter();
         let mut only_operands = false;
         while let Some(word) = given.next() {
-            if only_operands || !word.starts_with('-') || word == STANDARD {
+            if only_operands || !is_option(word) {
                 arguments.operands.push(word.clone());
             } else if word == "--" {
                 only_operands = true;
@@ -62,11 +69,17 @@ impl Arguments {
     }
 
     fn one_standard_input(self) -> Result<Arguments, Failure> {
-        let standard = self.operands.iter().filter(|&name| name == STANDARD);
+        let standard = self.files().filter(|name| *name == STANDARD);
         match standard.count() {
             0 | 1 => Ok(self),
             _ => Err(Failure::Usage("standard input can be read once".to_owned())),
         }
+    }
+
+    /// The operands that are names of files.
+    fn files(&self) -> impl Iterator<Item = &str> {
+        let operands = self.operands.iter().zip(self.names);
+        operands.filter_map(|(operand, name)| FILES.contains(name).then_some(operand.as_str()))
     }
 
     /// Whether an option is given.
@@ -85,12 +98,12 @@ impl Arguments {
         let Some(name) = self.value(option) else {
             return Ok(None);
         };
-        let is_read = |operand: &&String| *operand != STANDARD && files::same(operand, name);
-        match self.operands.iter().find(is_read) {
-            Some(_) if name != STANDARD => Err(Failure::Usage(format!(
+        let is_read = |operand: &str| operand != STANDARD && files::same(operand, name);
+        match !files::is_standard_output(name) && self.files().any(is_read) {
+            true => Err(Failure::Usage(format!(
                 "{name} is read here, and {option} does not write over it"
             ))),
-            _ => Ok(Some(name)),
+            false => Ok(Some(name)),
         }
     }
 
@@ -100,18 +113,24 @@ impl Arguments {
     }
 
     /// An operand that is a number; none where it is left out.
-    pub fn number<N: std::str::FromStr>(
-        &self,
-        place: usize,
-        what: &str,
-    ) -> Result<Option<N>, Failure> {
+    pub fn number<N: Number>(&self, place: usize, what: &str) -> Result<Option<N>, Failure> {
         let given = self.operands.get(place);
         given.map(|word| number(what, word)).transpose()
     }
 
+    /// An operand that may be left out.
+    pub fn given(&self, place: usize) -> Option<&str> {
+        self.operands.get(place).map(String::as_str)
+    }
+
     /// The register that the first operand names.
     pub fn register(&self) -> Result<Register, Failure> {
-        let name = self.operand(0);
+        self.register_at(0)
+    }
+
+    /// The register that an operand names.
+    pub fn register_at(&self, place: usize) -> Result<Register, Failure> {
+        let name = self.operand(place);
         let bytes = files::read(name)?;
         Register::from_bytes(bytes.as_slice())
             .map_err(|refusal| explain::register(files::shown(name), &bytes, refusal))
@@ -124,11 +143,33 @@ impl Arguments {
     }
 }
 
-/// A number that is written in digits, of a size that can be asked for.
-pub fn number<N: std::str::FromStr>(what: &str, word: &str) -> Result<N, Failure> {
+/// A number that can be asked for.
+pub trait Number: std::str::FromStr {
+    /// Its range, in words.
+    const RANGE: &str;
+}
+
+impl Number for usize {
+    const RANGE: &str = "from 0 on";
+}
+
+impl Number for u16 {
+    const RANGE: &str = "from 0 to 65535";
+}
+
+/// A number that is written in digits.
+pub fn number<N: Number>(what: &str, word: &str) -> Result<N, Failure> {
     let digits = !word.is_empty() && word.bytes().all(|byte| byte.is_ascii_digit());
     let number = if digits { word.parse().ok() } else { None };
-    number.ok_or_else(|| Failure::Usage(format!("{what} is a number from 0 on, not {word:?}")))
+    let range = N::RANGE;
+    number.ok_or_else(|| Failure::Usage(format!("{what} is a number {range}, not {word:?}")))
+}
+
+/// Whether a word is an option: it begins with a dash, and is neither a dash alone nor
+/// a number.
+fn is_option(word: &str) -> bool {
+    word.strip_prefix('-')
+        .is_some_and(|rest| !rest.is_empty() && !rest.starts_with(|c: char| c.is_ascii_digit()))
 }
 
 /// An option and its value, which is empty for one that stands alone.
@@ -145,7 +186,9 @@ fn option(
         None => (word, None),
     };
     if !form.valued.contains(&name) {
-        return Err(Failure::Usage(format!("there is no option {word}")));
+        let known = [form.flags, form.valued, &["--help"]].concat();
+        let meant = nearest::asked(name, &known);
+        return Err(Failure::Usage(format!("there is no option {word}{meant}")));
     }
     match joined.or_else(next) {
         Some(value) => Ok((name.to_owned(), value)),

@@ -19,15 +19,7 @@ pub const COMMAND: Command = Command {
         flags: &["--json"],
         valued: &[],
     },
-    help: "\
-plot check REGISTER RULES [--json]
-
-Checks a rules text for a register. Where it passes: its steps, with the lines of
-each step's plan and the exchanges that the step takes by messages. Where it does
-not: the number of the refusal, its meaning, and the line with a caret.
-
-  --json  for programs: the steps, or the refusal with its line and column
-",
+    help: include_str!("../help/check.txt"),
     run: check,
 };
 

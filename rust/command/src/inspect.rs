@@ -19,17 +19,7 @@ pub const COMMAND: Command = Command {
         flags: &["--json"],
         valued: &[],
     },
-    help: "\
-plot inspect REGISTER RULES STEP ROUND [--json]
-
-Shows the messages that a step has sent in its rounds 1 to ROUND, each with the
-record it is for (origin), the one that writes it, the one that gets it, and what
-it carries: a record number, or the value of the chain at the origin. The step is
-taken by itself, over the register as it is; remote writes are not shown. ROUND is
-0 to 65535.
-
-  --json  for programs: the messages
-",
+    help: include_str!("../help/inspect.txt"),
     run: inspect,
 };
 

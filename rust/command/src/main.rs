@@ -6,15 +6,22 @@ mod arrows;
 mod caret;
 mod check;
 mod commands;
+mod completion;
+mod diff;
 mod explain;
 mod failure;
 mod faulty;
 mod files;
 mod gaps;
 mod gaps_svg;
+mod help;
 mod inspect;
 mod json;
+mod leftovers;
+mod man;
+mod meaning;
 mod misfit;
+mod nearest;
 mod pack;
 mod plan;
 mod plan_svg;
@@ -22,6 +29,8 @@ mod pointer;
 mod read;
 mod run;
 mod scan;
+mod selection;
+mod set;
 mod sheet;
 mod show;
 mod style;
@@ -60,7 +69,7 @@ fn work() -> ExitCode {
         Err(word) => Err(Failure::Usage(format!("{word:?} is not valid UTF-8"))),
     };
     match done.and_then(told) {
-        Ok(()) => ExitCode::SUCCESS,
+        Ok(status) => ExitCode::from(status),
         Err(failure) => {
             let _ = writeln!(io::stderr(), "plot: {failure}");
             ExitCode::from(failure.status())
@@ -68,14 +77,14 @@ fn work() -> ExitCode {
     }
 }
 
-/// Writes what a command has to say.
-fn told(outcome: Outcome) -> Result<(), Failure> {
+/// Writes what a command has to say: the exit status.
+fn told(outcome: Outcome) -> Result<u8, Failure> {
     let _ = io::stderr().write_all(outcome.note.as_bytes());
     let mut out = io::stdout().lock();
     match out.write_all(&outcome.out).and_then(|()| out.flush()) {
         // Who reads has had enough.
-        Err(error) if error.kind() == ErrorKind::BrokenPipe => Ok(()),
+        Err(error) if error.kind() == ErrorKind::BrokenPipe => Ok(outcome.status),
         Err(error) => Err(Failure::file("write", Path::new("standard output"), &error)),
-        Ok(()) => outcome.failure.map_or(Ok(()), Err),
+        Ok(()) => outcome.failure.map_or(Ok(outcome.status), Err),
     }
 }

@@ -16,19 +16,7 @@ pub const PACK: Command = Command {
         flags: &["--json"],
         valued: &["-o"],
     },
-    help: "\
-plot pack SHEET.csv -o REGISTER [--json]
-
-Makes a register of a sheet of comma-separated values. The first row has the letters
-of the fields: A, B, .. for references, then M, N, .. for measures. Each further row
-is a record, the first one record 0. A reference is the number of a record, a measure
-a whole number of centimetres; ~ stands behind a value that a rule has worked out, and
-an empty cell is unfilled. Every cell that is wrong is told with its row and column,
-and then nothing is written.
-
-  -o REGISTER  the file to write, - for standard output
-  --json       for programs: what is wrong, by row and column
-",
+    help: include_str!("../help/pack.txt"),
     run: pack,
 };
 
@@ -37,18 +25,10 @@ pub const UNPACK: Command = Command {
     name: "unpack",
     form: Form {
         operands: &["REGISTER"],
-        flags: &[],
+        flags: &["--json"],
         valued: &["-o"],
     },
-    help: "\
-plot unpack REGISTER [-o SHEET.csv]
-
-Writes a register as a sheet of comma-separated values, as `plot pack` takes it: a
-header row of field letters, then a row for each record, ~ behind a value that a rule
-has worked out, and an empty cell where a cell is unfilled.
-
-  -o SHEET.csv  the file to write; without it, or for -, standard output
-",
+    help: include_str!("../help/unpack.txt"),
     run: unpack,
 };
 
@@ -61,18 +41,24 @@ fn pack(arguments: &Arguments) -> Result<Outcome, Failure> {
     let (sizes, cells) = sheet.map_err(|faults| refused(name, &faults))?;
     let register = Register::from_cells(sizes, &cells)
         .map_err(|refusal| explain::register(name, &[], refusal))?;
-    let mut outcome = files::outcome(output, register.as_bytes().to_vec())?;
-    if output != STANDARD && !arguments.has("--json") {
-        let told = format!("wrote {output}: {}\n", show::summary(&register));
-        outcome.out = told.into_bytes();
-    }
-    Ok(outcome)
+    let report = match arguments.has("--json") {
+        true => packed_json(output, &register),
+        false => format!("wrote {output}: {}\n", show::summary(&register)),
+    };
+    files::delivered(output, register.as_bytes().to_vec(), report)
 }
 
 fn unpack(arguments: &Arguments) -> Result<Outcome, Failure> {
     let output = arguments.output("-o")?.unwrap_or(STANDARD);
     let register = arguments.register()?;
-    files::outcome(output, sheet::written(&register).into_bytes())
+    let sheet = sheet::written(&register).into_bytes();
+    files::delivered_plainly(output, sheet, arguments.has("--json"))
+}
+
+/// The register that is written, for programs.
+fn packed_json(output: &str, register: &Register) -> String {
+    let wrote = files::wrote(output, register.as_bytes());
+    json::object(&[&wrote[..], &show::summary_members(register)].concat()) + "\n"
 }
 
 /// A sheet that is no register: a line for each thing that is wrong.

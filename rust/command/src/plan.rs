@@ -19,17 +19,7 @@ pub const COMMAND: Command = Command {
         flags: &["--json"],
         valued: &["--svg"],
     },
-    help: "\
-plot plan REGISTER RULES [STEP] [--svg FILE] [--json]
-
-Shows how the records get what a step reads: the lines of its plan, each with the
-round in which its messages are sent, who writes, who gets them, and what they
-carry. Without STEP it shows all steps; they count from 1.
-
-  --svg FILE  a picture: the records of each chain in a row, and the messages as
-              arrows, round by round
-  --json      for programs: the steps with their lines
-",
+    help: include_str!("../help/plan.txt"),
     run: plan,
 };
 
@@ -44,7 +34,8 @@ fn plan(arguments: &Arguments) -> Result<Outcome, Failure> {
     let text = checked(&register, name, &text)?;
     let plans = wanted(&text, step)?;
     if let Some(name) = svg {
-        return files::outcome(name, plan_svg::picture(&plans).into_bytes());
+        let picture = plan_svg::picture(&plans).into_bytes();
+        return files::delivered_plainly(name, picture, arguments.has("--json"));
     }
     let style = Style::of(&io::stdout());
     let shown = match arguments.has("--json") {

@@ -19,15 +19,7 @@ const FORM: Form = Form {
 pub const READ: Command = Command {
     name: "read",
     form: FORM,
-    help: "\
-plot read REGISTER CHAIN RECORD [--json]
-
-Reads a chain, as 'M[A[A[u]]]', at a record, counted from 0: the value that is
-found by following the references hop by hop, or - where a cell on the way is
-unfilled. Put the chain in quotes, for the shell knows brackets too.
-
-  --json  for programs: whether the reading is filled, and its value
-",
+    help: include_str!("../help/read.txt"),
     run: read,
 };
 
@@ -35,16 +27,7 @@ unfilled. Put the chain in quotes, for the shell knows brackets too.
 pub const PATH: Command = Command {
     name: "path",
     form: FORM,
-    help: "\
-plot path REGISTER CHAIN RECORD [--json]
-
-Shows why a chain, as 'M[A[A[u]]]', reads as it does at a record: each hop with its
-record, its field and what the cell holds, up to the value or the first gap. These
-cells are the whole reason: a register of the same sizes that agrees on them reads
-the same.
-
-  --json  for programs: the hops, whether the reading is filled, and its value
-",
+    help: include_str!("../help/path.txt"),
     run: path,
 };
 

@@ -19,23 +19,7 @@ pub const COMMAND: Command = Command {
         flags: &["--direct", "--in-place", "--json"],
         valued: &["-o", "--budget"],
     },
-    help: "\
-plot run REGISTER RULES [-o OUT | --in-place] [--direct] [--budget N] [--json]
-
-Runs a rules text over a register by messages between the records, and tells the
-finished steps, the exchanges, the messages, and which cells have changed. The
-register itself stays as it is unless --in-place is given.
-
-  -o OUT      writes the register at the end to OUT, which is not REGISTER itself;
-              - is standard output, and the report then goes to standard error
-  --in-place  writes it over REGISTER; the old one stays until the new is complete
-  --direct    follows references instead: the same register, no messages to count
-  --budget N  at most N steps, 0 to 65535; without it 1000
-  --json      for programs: the counts and the changed cells
-
-A run that is stopped, with its budget spent (20) or at a sum out of range (21),
-writes no register and has exit status 1.
-",
+    help: include_str!("../help/run.txt"),
     run,
 };
 
@@ -61,11 +45,14 @@ fn run(arguments: &Arguments) -> Result<Outcome, Failure> {
         true => json(&register, machine, &run),
         false => told(&register, machine, &run, output),
     };
-    written(output, report, run)
+    match output {
+        Some(name) => files::delivered(name, run.register.as_bytes().to_vec(), report),
+        None => Ok(report.into()),
+    }
 }
 
 /// The file to write, if one is asked for.
-fn output(arguments: &Arguments) -> Result<Option<&str>, Failure> {
+pub fn output(arguments: &Arguments) -> Result<Option<&str>, Failure> {
     let output = arguments.output("-o")?;
     match (arguments.has("--in-place"), output, arguments.operand(0)) {
         (false, output, _) => Ok(output),
@@ -76,22 +63,6 @@ fn output(arguments: &Arguments) -> Result<Option<&str>, Failure> {
             "--in-place needs a file, and the register is standard input".to_owned(),
         )),
         (true, None, register) => Ok(Some(register)),
-    }
-}
-
-/// Writes the register, and then the report.
-fn written(output: Option<&str>, report: String, run: Run) -> Result<Outcome, Failure> {
-    match output {
-        None => Ok(report.into()),
-        Some(STANDARD) => Ok(Outcome {
-            out: run.register.as_bytes().to_vec(),
-            note: report,
-            failure: None,
-        }),
-        Some(name) => {
-            files::write(name, run.register.as_bytes())?;
-            Ok(report.into())
-        }
     }
 }
 
@@ -115,7 +86,13 @@ fn stopped(name: &str, machine: Machine, budget: u16, run: &Run) -> Failure {
         _ => format!("The budget is {budget}. "),
     };
     let counts = counts(machine, run);
-    let advice = format!("{place}{counts}. Nothing is written.\n  {}", kind.advice());
+    let advice = match (run.end, budget) {
+        (End::BudgetExhausted, u16::MAX) => {
+            "No budget is larger. Does a loop write its field anew in each pass? Then it does not end."
+        }
+        _ => kind.advice(),
+    };
+    let advice = format!("{place}{counts}. Nothing is written.\n  {advice}");
     let (record, field) = match run.end {
         End::OutOfRange { record, field } => (Some(record), Some(json::string(&field.to_string()))),
         _ => (None, None),
@@ -129,7 +106,7 @@ fn stopped(name: &str, machine: Machine, budget: u16, run: &Run) -> Failure {
 }
 
 /// A cell that is not as it was.
-type Change = (usize, char, Cell, Cell);
+pub type Change = (usize, char, Cell, Cell);
 
 fn changes(before: &Register, after: &Register) -> Vec<Change> {
     let rows = show::records(before).zip(show::records(after));
@@ -144,14 +121,20 @@ fn changes(before: &Register, after: &Register) -> Vec<Change> {
 
 fn told(register: &Register, machine: Machine, run: &Run, output: Option<&str>) -> String {
     let style = match output {
-        Some(STANDARD) => Style::of(&io::stderr()),
+        Some(name) if files::is_standard_output(name) => Style::of(&io::stderr()),
         _ => Style::of(&io::stdout()),
     };
     let changes = changes(register, &run.register);
     let counts = counts(machine, run);
-    let told = format!("{counts}\n{} changed\n", counted(changes.len(), "cell"));
+    let changed = counted(changes.len(), "cell");
+    let table = change_table(&changes, style);
+    format!("{counts}\n{changed} changed\n{table}")
+}
+
+/// Changes as a table; nothing where there are none.
+pub fn change_table(changes: &[Change], style: Style) -> String {
     if changes.is_empty() {
-        return told;
+        return String::new();
     }
     let mut table = Table::new([">record", "field", ">before", ">after"]);
     for (record, field, before, after) in changes {
@@ -162,11 +145,23 @@ fn told(register: &Register, machine: Machine, run: &Run, output: Option<&str>) 
         table.row([
             (record.to_string(), Look::Plain),
             (field.to_string(), Look::Plain),
-            (before.to_string(), show::look(before)),
+            (before.to_string(), show::look(*before)),
             (after.to_string(), after_look),
         ]);
     }
-    told + &table.print(style)
+    table.print(style)
+}
+
+/// Changes for programs.
+pub fn change_list(changes: &[Change]) -> String {
+    json::list(changes.iter().map(|(record, field, before, after)| {
+        json::object(&[
+            ("record", record.to_string()),
+            ("field", json::string(&field.to_string())),
+            ("before", json::option(before.value())),
+            ("after", json::option(after.value())),
+        ])
+    }))
 }
 
 fn json(register: &Register, machine: Machine, run: &Run) -> String {
@@ -174,19 +169,10 @@ fn json(register: &Register, machine: Machine, run: &Run) -> String {
         Machine::Direct => json::option(None::<u64>),
         Machine::Messages => number.to_string(),
     };
-    let changes = changes(register, &run.register);
-    let changes = changes.iter().map(|(record, field, before, after)| {
-        json::object(&[
-            ("record", record.to_string()),
-            ("field", json::string(&field.to_string())),
-            ("before", json::option(before.value())),
-            ("after", json::option(after.value())),
-        ])
-    });
     json::object(&[
         ("finished", run.finished.to_string()),
         ("exchanges", counted(run.exchanges)),
         ("messages", counted(run.messages)),
-        ("changed", json::list(changes)),
+        ("changed", change_list(&changes(register, &run.register))),
     ]) + "\n"
 }

@@ -163,7 +163,7 @@ fn row_cells(sizes: Sizes, header: &[String], row: &[String]) -> Result<Vec<Cell
 
 /// A cell as it is written, unfilled where it is empty; a reference has a number of
 /// records that it is below.
-fn cell_value(cell: &str, records: Option<usize>) -> Result<Cell, String> {
+pub fn cell_value(cell: &str, records: Option<usize>) -> Result<Cell, String> {
     if cell.is_empty() {
         return Ok(Cell::Unfilled);
     }

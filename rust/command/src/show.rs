@@ -3,6 +3,7 @@
 use crate::arguments::{Arguments, Form};
 use crate::commands::{Command, Outcome};
 use crate::failure::Failure;
+use crate::selection::Selection;
 use crate::style::{Look, Style};
 use crate::table::Table;
 use crate::{files, gaps, gaps_svg, json};
@@ -15,35 +16,28 @@ pub const COMMAND: Command = Command {
     form: Form {
         operands: &["REGISTER"],
         flags: &["--gaps", "--json"],
-        valued: &["--svg"],
+        valued: &["--svg", "--records", "--fields"],
     },
-    help: "\
-plot show REGISTER [--gaps] [--svg FILE] [--json]
-
-Shows a register as a table: a row for each record, a column for each field, ~ behind
-a value that a rule has worked out, and - where a cell is unfilled.
-
-  --gaps      a grid that shows only which cells are filled (.) and which are not
-              (#), with the number of gaps behind each line; where 60 records in a
-              row have no gap it says so in one line
-  --svg FILE  the same as a picture
-  --json      for programs: the fields, the cells record by record, null where a
-              cell is unfilled, and which of them are worked out; with --gaps the
-              unfilled cells
-",
+    help: include_str!("../help/show.txt"),
     run: show,
 };
 
 fn show(arguments: &Arguments) -> Result<Outcome, Failure> {
     let svg = arguments.output("--svg")?;
+    if Selection::is_asked_for(arguments) && (svg.is_some() || arguments.has("--gaps")) {
+        let told = "--records and --fields go with the table and with --json only";
+        return Err(Failure::Usage(told.to_owned()));
+    }
     let register = arguments.register()?;
     if let Some(name) = svg {
-        return files::outcome(name, gaps_svg::picture(&register).into_bytes());
+        let picture = gaps_svg::picture(&register).into_bytes();
+        return files::delivered_plainly(name, picture, arguments.has("--json"));
     }
     let style = Style::of(&io::stdout());
+    let selection = Selection::of(arguments, &register)?;
     let shown = match (arguments.has("--gaps"), arguments.has("--json")) {
-        (false, false) => format!("{}\n{}", summary(&register), table(&register, style)),
-        (false, true) => json(&register),
+        (false, false) => format!("{}\n{}", summary(&register), table(&selection, style)),
+        (false, true) => json(&selection, Selection::is_asked_for(arguments)),
         (true, false) => format!("{}\n{}", summary(&register), gaps::grid(&register, style)),
         (true, true) => gaps::json(&register),
     };
@@ -52,7 +46,6 @@ fn show(arguments: &Arguments) -> Result<Outcome, Failure> {
 
 /// A register in a sentence.
 pub fn summary(register: &Register) -> String {
-    let sizes = register.sizes();
     let unfilled = gaps::all(register).count();
     let worked_out = records(register).flat_map(|(_, cells)| cells);
     let worked_out = match worked_out.filter(|&cell| is_worked_out(cell)).count() {
@@ -60,12 +53,37 @@ pub fn summary(register: &Register) -> String {
         worked_out => format!(", {worked_out} worked out"),
     };
     format!(
-        "{}, {}, {}, {unfilled} of {} unfilled{worked_out}",
+        "{}, {unfilled} of {} unfilled{worked_out}",
+        sizes(register.sizes()),
+        counted(register.sizes().cells(), "cell"),
+    )
+}
+
+/// Sizes in words.
+pub fn sizes(sizes: Sizes) -> String {
+    format!(
+        "{}, {}, {}",
         counted(sizes.records, "record"),
         counted(sizes.references, "reference field"),
         counted(sizes.measures, "measure field"),
-        counted(sizes.cells(), "cell"),
     )
+}
+
+/// The same for programs.
+pub fn summary_members(register: &Register) -> [(&'static str, String); 4] {
+    let cells = records(register).flat_map(|(_, cells)| cells);
+    [
+        ("records", register.sizes().records.to_string()),
+        ("fields", field_list(register.sizes().fields())),
+        ("unfilled", gaps::all(register).count().to_string()),
+        (
+            "worked_out",
+            cells
+                .filter(|&cell| is_worked_out(cell))
+                .count()
+                .to_string(),
+        ),
+    ]
 }
 
 /// Whether a rule has worked a cell's value out.
@@ -89,10 +107,10 @@ pub fn look(cell: Cell) -> Look {
     }
 }
 
-fn table(register: &Register, style: Style) -> String {
-    let fields = register.sizes().fields().map(|field| format!(">{field}"));
+fn table(selection: &Selection<'_>, style: Style) -> String {
+    let fields = selection.fields.iter().map(|field| format!(">{field}"));
     let mut table = Table::new([">record".to_owned()].into_iter().chain(fields));
-    for (record, cells) in records(register) {
+    for (record, cells) in selection.rows() {
         let number = (record.to_string(), Look::Plain);
         let cells = cells.into_iter().map(|cell| (cell.to_string(), look(cell)));
         table.row([number].into_iter().chain(cells));
@@ -106,18 +124,28 @@ pub fn records(register: &Register) -> impl Iterator<Item = (usize, Vec<Cell>)> 
     records.filter_map(|record| Some((record, register.record(record)?)))
 }
 
-fn json(register: &Register) -> String {
+/// The cells that are selected, with the numbers of their records where some are
+/// asked for.
+fn json(selection: &Selection<'_>, asked_for: bool) -> String {
     let rows = |member: fn(Cell) -> String| {
-        json::list(records(register).map(|(_, cells)| json::list(cells.into_iter().map(member))))
+        json::list(
+            selection
+                .rows()
+                .map(|(_, cells)| json::list(cells.into_iter().map(member))),
+        )
     };
-    json::object(&[
-        ("records", register.sizes().records.to_string()),
-        ("fields", field_list(register.sizes())),
+    let mut members = vec![
+        ("records", selection.records.len().to_string()),
+        ("fields", field_list(selection.fields.iter().copied())),
         ("cells", rows(|cell| json::option(cell.value()))),
         ("worked_out", rows(|cell| is_worked_out(cell).to_string())),
-    ]) + "\n"
+    ];
+    if asked_for {
+        members.insert(1, ("shown", json::list(&selection.records)));
+    }
+    json::object(&members) + "\n"
 }
 
-fn field_list(sizes: Sizes) -> String {
-    json::list(sizes.fields().map(|field| json::string(&field.to_string())))
+fn field_list(fields: impl Iterator<Item = char>) -> String {
+    json::list(fields.map(|field| json::string(&field.to_string())))
 }

@@ -2,6 +2,7 @@
 
 mod any_bytes;
 mod carets;
+mod delivered;
 mod files;
 mod folder;
 mod pictures;
@@ -12,4 +13,5 @@ mod scripts;
 mod sessions;
 mod sheets;
 mod shown;
+mod small;
 mod usage;

@@ -2,8 +2,9 @@
 
 use crate::folder::Folder;
 
-const COMMANDS: [&str; 9] = [
-    "show", "read", "path", "check", "plan", "inspect", "run", "pack", "unpack",
+const COMMANDS: [&str; 12] = [
+    "show", "read", "path", "check", "plan", "inspect", "run", "diff", "set", "pack", "unpack",
+    "explain",
 ];
 
 #[test]
