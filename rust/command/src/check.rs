@@ -2,12 +2,11 @@
 
 use crate::arguments::{Arguments, Form};
 use crate::commands::{Command, Outcome};
-use crate::explain;
 use crate::failure::Failure;
-use crate::json;
 use crate::show::counted;
 use crate::style::{Look, Style};
 use crate::table::Table;
+use crate::{explain, further, json};
 use plot::{Plan, Register, Text};
 use std::io;
 
@@ -26,7 +25,8 @@ pub const COMMAND: Command = Command {
 fn check(arguments: &Arguments) -> Result<Outcome, Failure> {
     let register = arguments.register()?;
     let (name, text) = arguments.rules()?;
-    let text = checked(&register, name, &text)?;
+    let text = Text::check(&register, text.as_slice())
+        .map_err(|refusal| further::all(&register, name, &text, refusal))?;
     let plans = plans(&text);
     let shown = match arguments.has("--json") {
         true => json(&plans),

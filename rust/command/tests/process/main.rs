@@ -5,6 +5,7 @@ mod carets;
 mod delivered;
 mod files;
 mod folder;
+mod further;
 mod pictures;
 mod readings;
 mod rules;
