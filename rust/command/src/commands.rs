@@ -94,9 +94,11 @@ impl Command {
         let done = arguments.and_then(|arguments| {
             let done = (self.run)(&arguments);
             match done {
-                Err(Failure::Refused { told, json }) if arguments.has("--json") => {
-                    Ok(Outcome::refused(told, json))
-                }
+                Err(Failure::Refused { told, json })
+                | Ok(Outcome {
+                    failure: Some(Failure::Refused { told, json }),
+                    ..
+                }) if arguments.has("--json") => Ok(Outcome::refused(told, json)),
                 done => done,
             }
         });

@@ -80,6 +80,11 @@ impl Draft {
             .collect()
     }
 
+    /// The lines in their order.
+    pub fn lines(&self) -> &[Line] {
+        &self.lines
+    }
+
     /// The line at a place; none behind the last.
     pub fn line(&self, place: u64) -> Option<&Line> {
         self.lines.get(place.checked_sub(1)? as usize)

@@ -7,8 +7,9 @@ use crate::files::{self, STANDARD};
 use crate::show::{self, counted};
 use crate::style::{Look, Style};
 use crate::table::Table;
-use crate::{explain, json};
-use plot::{Cell, End, Machine, Register, Run};
+use crate::walk::Row;
+use crate::{explain, json, trace};
+use plot::{Cell, End, Kind, Machine, Register, Run};
 use std::io;
 
 /// The command.
@@ -16,7 +17,7 @@ pub const COMMAND: Command = Command {
     name: "run",
     form: Form {
         operands: &["REGISTER", "RULES"],
-        flags: &["--direct", "--in-place", "--json"],
+        flags: &["--direct", "--in-place", "--trace", "--json"],
         valued: &["-o", "--budget"],
     },
     help: include_str!("../help/run.txt"),
@@ -38,12 +39,15 @@ fn run(arguments: &Arguments) -> Result<Outcome, Failure> {
     let (name, text) = arguments.rules()?;
     let run = register.run(&text, machine, budget);
     let run = run.map_err(|refusal| explain::rules(name, register.sizes(), &text, refusal))?;
+    let rows = arguments
+        .has("--trace")
+        .then(|| trace::rows(&register, &text, machine, budget, &run));
     if run.end != End::Whole {
-        return Err(stopped(name, machine, budget, &run));
+        return stopped(name, machine, budget, &run, rows.as_deref());
     }
     let report = match arguments.has("--json") {
-        true => json(&register, machine, &run),
-        false => told(&register, machine, &run, output),
+        true => json(&register, machine, &run, rows.as_deref()),
+        false => told(&register, machine, &run, rows.as_deref(), output),
     };
     match output {
         Some(name) => files::delivered(name, run.register.as_bytes().to_vec(), report),
@@ -79,36 +83,65 @@ fn counts(machine: Machine, run: &Run) -> String {
     }
 }
 
-fn stopped(name: &str, machine: Machine, budget: u16, run: &Run) -> Failure {
-    let kind = run.end.refusal().expect("the run is stopped");
+/// A run that is stopped, with the steps that it has finished where they are asked for.
+fn stopped(
+    name: &str,
+    machine: Machine,
+    budget: u16,
+    run: &Run,
+    rows: Option<&[Row]>,
+) -> Result<Outcome, Failure> {
+    let advice = match (run.end, budget) {
+        (End::BudgetExhausted, u16::MAX) => {
+            "No budget is larger. Does a loop write its field anew in each pass? Then it does not end."
+        }
+        (end, _) => end.refusal().map_or("", Kind::advice),
+    };
     let place = match run.end {
         End::OutOfRange { record, field } => format!("Field {field} of record {record}. "),
         _ => format!("The budget is {budget}. "),
     };
     let counts = counts(machine, run);
-    let advice = match (run.end, budget) {
-        (End::BudgetExhausted, u16::MAX) => {
-            "No budget is larger. Does a loop write its field anew in each pass? Then it does not end."
-        }
-        _ => kind.advice(),
-    };
     let advice = format!("{place}{counts}. Nothing is written.\n  {advice}");
-    let (record, field) = match run.end {
+    let trace = rows.map(|rows| ("trace", trace::json(rows, machine)));
+    let failure = refused(name, run.end, run.finished, &advice, trace);
+    let Some(rows) = rows else {
+        return Err(failure);
+    };
+    let table = trace::table(rows, machine, Style::of(&io::stdout()));
+    Ok(Outcome {
+        failure: Some(failure),
+        ..table.into()
+    })
+}
+
+/// The refusal of a run that was stopped, with what more programs are told.
+pub fn refused(
+    name: &str,
+    end: End,
+    finished: u64,
+    advice: &str,
+    further: Option<(&'static str, String)>,
+) -> Failure {
+    let (record, field) = match end {
         End::OutOfRange { record, field } => (Some(record), Some(json::string(&field.to_string()))),
         _ => (None, None),
     };
-    let members = [
-        ("finished", run.finished.to_string()),
+    let mut members = vec![
+        ("finished", finished.to_string()),
         ("record", json::option(record)),
         ("field", json::option(field)),
     ];
-    explain::stopped(name, kind, &advice, &members)
+    members.extend(further);
+    let kind = end.refusal().expect("the run is stopped");
+    explain::stopped(name, kind, advice, &members)
 }
 
 /// A cell that is not as it was.
 pub type Change = (usize, char, Cell, Cell);
 
-fn changes(before: &Register, after: &Register) -> Vec<Change> {
+/// The cells that are not as they were.
+pub fn changes(before: &Register, after: &Register) -> Vec<Change> {
     let rows = show::records(before).zip(show::records(after));
     let changes = rows.flat_map(|((record, old), (_, new))| {
         let cells = before.sizes().fields().zip(old.into_iter().zip(new));
@@ -119,7 +152,13 @@ fn changes(before: &Register, after: &Register) -> Vec<Change> {
     changes.collect()
 }
 
-fn told(register: &Register, machine: Machine, run: &Run, output: Option<&str>) -> String {
+fn told(
+    register: &Register,
+    machine: Machine,
+    run: &Run,
+    rows: Option<&[Row]>,
+    output: Option<&str>,
+) -> String {
     let style = match output {
         Some(name) if files::is_standard_output(name) => Style::of(&io::stderr()),
         _ => Style::of(&io::stdout()),
@@ -128,7 +167,8 @@ fn told(register: &Register, machine: Machine, run: &Run, output: Option<&str>) 
     let counts = counts(machine, run);
     let changed = counted(changes.len(), "cell");
     let table = change_table(&changes, style);
-    format!("{counts}\n{changed} changed\n{table}")
+    let rows = rows.map_or(String::new(), |rows| trace::table(rows, machine, style));
+    format!("{counts}\n{rows}{changed} changed\n{table}")
 }
 
 /// Changes as a table; nothing where there are none.
@@ -164,15 +204,17 @@ pub fn change_list(changes: &[Change]) -> String {
     }))
 }
 
-fn json(register: &Register, machine: Machine, run: &Run) -> String {
+fn json(register: &Register, machine: Machine, run: &Run, rows: Option<&[Row]>) -> String {
     let counted = |number: u64| match machine {
         Machine::Direct => json::option(None::<u64>),
         Machine::Messages => number.to_string(),
     };
-    json::object(&[
+    let mut members = vec![
         ("finished", run.finished.to_string()),
         ("exchanges", counted(run.exchanges)),
         ("messages", counted(run.messages)),
         ("changed", change_list(&changes(register, &run.register))),
-    ]) + "\n"
+    ];
+    members.extend(rows.map(|rows| ("trace", trace::json(rows, machine))));
+    json::object(&members) + "\n"
 }

@@ -232,8 +232,10 @@ fn messages_after_a_round() {
     folder
         .plot(&["inspect", "three", "two.rules", "1", "1", "--json"])
         .is(
-            "{\"step\":1,\"round\":1,\"messages\":[{\"line\":0,\"origin\":0,\"from\":0,\"to\":1,\
-         \"carries\":0},{\"line\":0,\"origin\":1,\"from\":1,\"to\":2,\"carries\":1}]}\n",
+            "{\"step\":1,\"round\":1,\"exchanges\":3,\"after\":0,\"messages\":[\
+         {\"line\":0,\"kind\":\"Back\",\"chain\":\"A[u]\",\"round\":1,\"origin\":0,\"from\":0,\"to\":1,\
+         \"carries\":0},{\"line\":0,\"kind\":\"Back\",\"chain\":\"A[u]\",\"round\":1,\"origin\":1,\
+         \"from\":1,\"to\":2,\"carries\":1}]}\n",
         );
 }
 

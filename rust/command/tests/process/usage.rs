@@ -32,7 +32,7 @@ fn each_command_has_help() {
         let said = folder.plot(&[command, "--help"]);
         assert!(said.out.starts_with(&usage), "{}", said.out);
         let widest = said.out.lines().map(|line| line.chars().count()).max();
-        assert!(widest <= Some(86), "{command}: {widest:?}");
+        assert!(widest <= Some(90), "{command}: {widest:?}");
         assert_eq!(folder.plot(&[command, "x", "-h"]), said);
     }
 }
