@@ -58,7 +58,7 @@ pub const COMMANDS: [Command; 13] = [
 /// Does what the words say.
 pub fn done(given: &[String]) -> Result<Outcome, Failure> {
     let Some((name, rest)) = given.split_first() else {
-        let told = format!("a command is missing\n{}", help::usages());
+        let told = format!("a command is missing\n{}", help::usages().trim_end());
         return Err(Failure::Usage(told));
     };
     match name.as_str() {
@@ -79,6 +79,7 @@ pub fn named(name: &str) -> Result<&'static Command, Failure> {
     command.ok_or_else(|| {
         let meant = nearest::asked(name, &COMMANDS.map(|command| command.name));
         let usages = help::usages();
+        let usages = usages.trim_end();
         Failure::Usage(format!("there is no command {name:?}{meant}\n{usages}"))
     })
 }

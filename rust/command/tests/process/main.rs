@@ -6,6 +6,7 @@ mod delivered;
 mod files;
 mod folder;
 mod further;
+mod installed;
 mod operator;
 mod pictures;
 mod readings;

@@ -55,7 +55,7 @@ fn proving(folder: &Folder, says: &str) -> Said {
     let path = format!("{}:{path}", folder.at("bin").display());
     let mut bash = Command::new("bash");
     let bash = bash.args(["scripts/proving", "two", "rt", "check", "two"]);
-    folder.run(bash.env("PATH", path), b"")
+    folder.run(bash.env("PATH", path).env("PROVING_EVERY", "1"), b"")
 }
 
 #[test]
@@ -73,6 +73,26 @@ fn a_line_counts_the_crates() {
     );
     assert!(said.err.ends_with(" s, two done\n"), "{}", said.err);
     assert_eq!(said.err.lines().count(), 2);
+}
+
+#[test]
+fn where_there_is_no_terminal_a_line_comes_now_and_then() {
+    let folder = Folder::new("proving-slowly");
+    let said = proving(
+        &folder,
+        "echo \"rt: one proved ($RT_JOBS jobs)\"; sleep 3; echo 'rt: two proved (3 s)'",
+    );
+    assert_eq!((said.status, said.out.as_str()), (0, ""));
+    let lines = said.err.lines().count();
+    assert!((4..=6).contains(&lines), "{}", said.err);
+    assert!(
+        said.err.contains("proving: 1 of 2 crates, 1 s, one done\n"),
+        "{}",
+        said.err
+    );
+    assert!(said.err.ends_with(" s, two done\n"), "{}", said.err);
+    let log = String::from_utf8(folder.read("target/proving.log")).expect("it is text");
+    assert!(log.starts_with("rt: one proved (4 jobs)\n"), "{log}");
 }
 
 #[test]
