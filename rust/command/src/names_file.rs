@@ -9,7 +9,7 @@ use crate::arguments::Arguments;
 use crate::csv::{self, DELIMITERS};
 use crate::failure::Failure;
 use crate::faults::{self, Fault};
-use crate::files::{self, STANDARD};
+use crate::files;
 use crate::names::{Names, is_reference};
 use crate::oneline::quoted;
 use plot::{Register, Sizes};
@@ -46,7 +46,7 @@ fn place(arguments: &Arguments, register: &str) -> Result<Option<String>, Failur
         )),
         (Some(name), false) => Ok(Some(name.to_owned())),
         (None, true) => Ok(None),
-        (None, false) => Ok((register != STANDARD).then(|| beside(register))),
+        (None, false) => Ok((!files::is_standard_output(register)).then(|| beside(register))),
     }
 }
 
@@ -175,10 +175,12 @@ impl Destination {
         }
     }
 
-    /// The file beside the output, whatever names were read from.
-    pub fn beside(arguments: &Arguments, output: &str) -> Result<Destination, Failure> {
-        let place = (output != STANDARD && !arguments.has(NO_NAMES)).then(|| beside(output));
-        Destination::checked(arguments, place)
+    /// The file beside what `-o` tells, wherever the names were read; none where the
+    /// register is written over itself and keeps its names.
+    pub fn of_copy(arguments: &Arguments) -> Result<Destination, Failure> {
+        let output = arguments.value("-o").filter(|_| !arguments.has(NO_NAMES));
+        let output = output.filter(|output| !files::is_standard_output(output));
+        Destination::checked(arguments, output.map(beside))
     }
 
     fn checked(arguments: &Arguments, place: Option<String>) -> Result<Destination, Failure> {

@@ -4,7 +4,8 @@ use crate::arguments::{Arguments, Form};
 use crate::commands::{Command, Outcome};
 use crate::failure::Failure;
 use crate::files::{self, STANDARD};
-use crate::names_file::{self, Destination};
+use crate::names_file::{self, Destination, NAMES, NO_NAMES};
+use crate::oneline::escaped;
 use crate::sheet::{self, Places, Sheet};
 use crate::{explain, faults, json, show};
 use plot::Register;
@@ -14,27 +15,10 @@ pub const PACK: Command = Command {
     name: "pack",
     form: Form {
         operands: &["SHEET.csv"],
-        flags: &["--json"],
-        valued: &["-o", "--delimiter"],
+        flags: &["--json", NO_NAMES],
+        valued: &["-o", "--delimiter", NAMES],
     },
-    help: "\
-plot pack SHEET.csv -o REGISTER [--delimiter D] [--names FILE | --no-names] [--json]
-
-Makes a register of a sheet, as spreadsheets write it. The first row has the letters
-of the fields, each by itself or with a name (M depth): A, B, .. for references, then
-M, N, .. for measures; a column plot may stand before them, with a label for each
-record. Each further row is a record, the first one record 0. A reference is the
-number of a record or its label, a measure is centimetres (180) or metres (1.80); ~
-stands behind a value that a rule has worked out, and an empty cell is unfilled, as
-one with ? is. Where labels are numbers, #3 is record 3. Every cell that is wrong is
-told with its row and column, and then nothing is written.
-
-  -o REGISTER    the file to write, - for standard output
-  --delimiter D  comma, semicolon or tab; without it the header row tells
-  --names FILE   writes the labels and names there, and not to REGISTER.names
-  --no-names     leaves them out
-  --json         for programs: what is wrong, by row and column
-",
+    help: include_str!("../help/pack.txt"),
     run: pack,
 };
 
@@ -43,22 +27,10 @@ pub const UNPACK: Command = Command {
     name: "unpack",
     form: Form {
         operands: &["REGISTER"],
-        flags: &[],
-        valued: &["-o", "--delimiter"],
+        flags: &["--json", NO_NAMES],
+        valued: &["-o", "--delimiter", NAMES],
     },
-    help: "\
-plot unpack REGISTER [-o SHEET.csv] [--delimiter D] [--names FILE | --no-names]
-
-Writes a register as a sheet, as `plot pack` takes it: a header row of fields, then a
-row for each record, ~ behind a value that a rule has worked out, and an empty cell
-where a cell is unfilled. Where the register has names the sheet has them too, with
-the delimiter and the metres of the sheet that they came from.
-
-  -o SHEET.csv   the file to write; without it, or for -, standard output
-  --delimiter D  comma, semicolon or tab
-  --names FILE   the names of records and fields; without it REGISTER.names
-  --no-names     record numbers and field letters only
-",
+    help: include_str!("../help/unpack.txt"),
     run: unpack,
 };
 
@@ -74,13 +46,17 @@ fn pack(arguments: &Arguments) -> Result<Outcome, Failure> {
         .map_err(|faults| faults::refused(&name, &faults, "and nothing is written"))?;
     let register = Register::from_cells(sheet.sizes, &sheet.cells)
         .map_err(|refusal| explain::register(&name, &[], refusal))?;
-    let mut outcome = files::outcome(output, register.as_bytes().to_vec())?;
+    let report = match arguments.has("--json") {
+        true => packed_json(output, &register),
+        false => format!("wrote {}: {}\n", escaped(output), show::summary(&register)),
+    };
+    let mut outcome = files::delivered(output, register.as_bytes().to_vec(), report)?;
     outcome.note += &destination.lack(arguments, &sheet.names);
     let named = destination.write(&sheet.names, sheet.sizes)?;
-    if output != STANDARD && !arguments.has("--json") {
-        let (output, summary) = (files::shown(output), show::summary(&register));
-        let units = units_told(&sheet);
-        outcome.out = format!("wrote {output}: {summary}\n{named}{units}").into_bytes();
+    if !files::is_standard_output(output) && !arguments.has("--json") {
+        outcome
+            .out
+            .extend((named + &units_told(&sheet)).into_bytes());
     }
     Ok(outcome)
 }
@@ -92,7 +68,13 @@ fn unpack(arguments: &Arguments) -> Result<Outcome, Failure> {
     let mut names = names_file::of(arguments, &register)?;
     names.delimiter = delimiter.or(names.delimiter);
     let sheet = sheet::written(&register, &names, &Places::new());
-    files::outcome(output, sheet.into_bytes())
+    files::delivered_plainly(output, sheet.into_bytes(), arguments.has("--json"))
+}
+
+/// The register that is written, for programs.
+fn packed_json(output: &str, register: &Register) -> String {
+    let wrote = files::wrote(output, register.as_bytes());
+    json::object(&[&wrote[..], &show::summary_members(register)].concat()) + "\n"
 }
 
 /// A line for each field in which some measures are metres and some are centimetres,

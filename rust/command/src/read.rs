@@ -4,37 +4,25 @@ use crate::arguments::{Arguments, Form};
 use crate::commands::{Command, Outcome};
 use crate::failure::Failure;
 use crate::names::{Names, is_worked_out};
+use crate::names_file::{self, NAMES, NO_NAMES};
 use crate::records::{self, ALL, Wanted};
 use crate::style::{Look, Style};
 use crate::table::Table;
-use crate::{explain, json, names_file, show};
+use crate::{explain, json, show};
 use plot::{Cell, Hop, Kind, Path, Refusal, Register};
 use std::io;
 
 const FORM: Form = Form {
     operands: &["REGISTER", "CHAIN", "[RECORD..]"],
-    flags: &["--json", ALL],
-    valued: &[],
+    flags: &["--json", ALL, NO_NAMES],
+    valued: &[NAMES],
 };
 
 /// The command `plot read`.
 pub const READ: Command = Command {
     name: "read",
     form: FORM,
-    help: "\
-plot read REGISTER CHAIN (RECORD.. | --all) [--names FILE | --no-names] [--json]
-
-Reads a chain, as 'M[A[A[u]]]', at records, counted from 0: the value that is found
-by following the references hop by hop, with ~ behind it where a rule has worked it
-out, or - where a cell on the way is unfilled. Put the chain in quotes, for the shell
-knows brackets too. RECORD is a number, a range as 10-20, or a label.
-
-  --all         every record
-  --names FILE  the names of records and fields; without it REGISTER.names
-  --no-names    record numbers and field letters only
-  --json        for programs: whether the reading is filled, its value, and whether a
-                rule has worked it out; of several records a list of readings
-",
+    help: include_str!("../help/read.txt"),
     run: read,
 };
 
@@ -42,21 +30,7 @@ knows brackets too. RECORD is a number, a range as 10-20, or a label.
 pub const PATH: Command = Command {
     name: "path",
     form: FORM,
-    help: "\
-plot path REGISTER CHAIN (RECORD.. | --all) [--names FILE | --no-names] [--json]
-
-Shows why a chain, as 'M[A[A[u]]]', reads as it does at records: each hop with its
-record, its field and what the cell holds, ~ behind what a rule has worked out, up to
-the value or the first gap. These cells are the whole reason: a register of the same
-sizes that agrees on them reads the same. RECORD is a number, a range as 10-20, or a
-label.
-
-  --all         every record
-  --names FILE  the names of records and fields; without it REGISTER.names
-  --no-names    record numbers and field letters only
-  --json        for programs: the hops, whether the reading is filled, its value, and
-                whether a rule has worked it out; of several records a list of paths
-",
+    help: include_str!("../help/path.txt"),
     run: path,
 };
 

@@ -89,6 +89,16 @@ fn range(word: &str, names: &Names) -> Result<RangeInclusive<usize>, Failure> {
     }
 }
 
+/// The one record that a word asks for.
+pub fn single(word: &str, names: &Names) -> Result<usize, Failure> {
+    one(word, names).ok_or_else(|| {
+        let word = quoted(word);
+        Failure::Usage(format!(
+            "RECORD is a number from 0 on or a label, not {word}"
+        ))
+    })
+}
+
 /// The record of a label or a number.
 fn one(word: &str, names: &Names) -> Option<usize> {
     match names.meant(word) {

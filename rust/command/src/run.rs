@@ -5,12 +5,13 @@ use crate::commands::{Command, Outcome};
 use crate::failure::Failure;
 use crate::files::{self, STANDARD};
 use crate::names::{Names, is_worked_out};
-use crate::names_file::{self, Destination};
+use crate::names_file::{self, Destination, NAMES, NO_NAMES};
 use crate::show::{self, counted};
 use crate::style::{Look, Style};
 use crate::table::Table;
-use crate::{explain, json};
-use plot::{Cell, End, Machine, Register, Run};
+use crate::walk::Row;
+use crate::{explain, json, trace};
+use plot::{Cell, End, Kind, Machine, Register, Run};
 use std::io;
 
 /// The command.
@@ -18,30 +19,10 @@ pub const COMMAND: Command = Command {
     name: "run",
     form: Form {
         operands: &["REGISTER", "RULES"],
-        flags: &["--direct", "--in-place", "--json"],
-        valued: &["-o", "--budget"],
+        flags: &["--direct", "--in-place", "--trace", "--json", NO_NAMES],
+        valued: &["-o", "--budget", NAMES],
     },
-    help: "\
-plot run REGISTER RULES [-o OUT | --in-place] [--direct] [--budget N] [--json]
-
-Runs a rules text over a register by messages between the records, and tells the
-finished steps, the exchanges, the messages, and which cells have changed. The
-register itself stays as it is unless --in-place is given.
-
-  -o OUT        writes the register at the end to OUT, which is not REGISTER itself,
-                and its names to OUT.names; - is standard output, and the report then
-                goes to standard error
-  --in-place    writes it over REGISTER; the old one stays until the new is complete
-  --direct      follows references instead: the same register, no messages to count
-  --budget N    at most N steps, 0 to 65535; without it 1000
-  --names FILE  the names of records and fields; without it REGISTER.names
-  --no-names    record numbers and field letters only
-  --json        for programs: the counts, and the changed cells before and after, each
-                with whether it is worked out
-
-A run that is stopped, with its budget spent (20) or at a sum out of range (21),
-writes no register and has exit status 1.
-",
+    help: include_str!("../help/run.txt"),
     run,
 };
 
@@ -57,25 +38,26 @@ fn run(arguments: &Arguments) -> Result<Outcome, Failure> {
     };
     let register = arguments.register()?;
     let names = names_file::of(arguments, &register)?;
-    let destination = match arguments.value("-o") {
-        Some(output) => Some(Destination::beside(arguments, output)?),
-        None => None,
-    };
+    let destination = Destination::of_copy(arguments)?;
     let (name, text) = arguments.rules()?;
     let run = register.run(&text, machine, budget);
     let run = run.map_err(|refusal| explain::rules(&name, register.sizes(), &text, refusal))?;
+    let rows = arguments
+        .has("--trace")
+        .then(|| trace::rows(&register, &text, machine, budget, &run));
     if run.end != End::Whole {
-        return Err(stopped(&name, machine, budget, &names, &run));
+        return stopped(&name, machine, budget, &names, &run, rows.as_deref());
     }
     let report = match arguments.has("--json") {
-        true => json(&register, machine, &names, &run),
-        false => told(&register, machine, &names, &run, output),
+        true => json(&register, machine, &names, &run, rows.as_deref()),
+        false => told(&register, machine, &names, &run, rows.as_deref(), output),
     };
-    let outcome = written(output, report, run)?;
+    let Some(output) = output else {
+        return Ok(report.into());
+    };
+    let outcome = files::delivered(output, run.register.as_bytes().to_vec(), report)?;
     // The names go with the register.
-    destination.map_or(Ok(()), |destination| {
-        destination.write(&names, register.sizes()).map(drop)
-    })?;
+    destination.write(&names, register.sizes())?;
     Ok(outcome)
 }
 
@@ -86,7 +68,7 @@ pub fn budget(arguments: &Arguments) -> Result<u16, Failure> {
 }
 
 /// The file to write, if one is asked for.
-fn output(arguments: &Arguments) -> Result<Option<&str>, Failure> {
+pub fn output(arguments: &Arguments) -> Result<Option<&str>, Failure> {
     let output = arguments.output("-o")?;
     match (arguments.has("--in-place"), output, arguments.operand(0)) {
         (false, output, _) => Ok(output),
@@ -97,22 +79,6 @@ fn output(arguments: &Arguments) -> Result<Option<&str>, Failure> {
             "--in-place needs a file, and the register is standard input".to_owned(),
         )),
         (true, None, register) => Ok(Some(register)),
-    }
-}
-
-/// Writes the register, and then the report.
-fn written(output: Option<&str>, report: String, run: Run) -> Result<Outcome, Failure> {
-    match output {
-        None => Ok(report.into()),
-        Some(STANDARD) => Ok(Outcome {
-            out: run.register.as_bytes().to_vec(),
-            note: report,
-            failure: None,
-        }),
-        Some(name) => {
-            files::write(name, run.register.as_bytes())?;
-            Ok(report.into())
-        }
     }
 }
 
@@ -129,9 +95,21 @@ fn counts(machine: Machine, run: &Run) -> String {
     }
 }
 
-/// The refusal of a run that was stopped.
-pub fn stopped(name: &str, machine: Machine, budget: u16, names: &Names, run: &Run) -> Failure {
-    let kind = run.end.refusal().expect("the run is stopped");
+/// A run that is stopped, with the steps that it has finished where they are asked for.
+pub fn stopped(
+    name: &str,
+    machine: Machine,
+    budget: u16,
+    names: &Names,
+    run: &Run,
+    rows: Option<&[Row]>,
+) -> Result<Outcome, Failure> {
+    let advice = match (run.end, budget) {
+        (End::BudgetExhausted, u16::MAX) => {
+            "No budget is larger. Does a loop write its field anew in each pass? Then it does not end."
+        }
+        (end, _) => end.refusal().map_or("", Kind::advice),
+    };
     let place = match run.end {
         End::OutOfRange { record, field } => {
             let (field, record) = (names.field(field), names.record(record));
@@ -140,23 +118,46 @@ pub fn stopped(name: &str, machine: Machine, budget: u16, names: &Names, run: &R
         _ => format!("The budget is {budget}. "),
     };
     let counts = counts(machine, run);
-    let advice = format!("{place}{counts}. Nothing is written.\n  {}", kind.advice());
-    let (record, field) = match run.end {
+    let advice = format!("{place}{counts}. Nothing is written.\n  {advice}");
+    let trace = rows.map(|rows| ("trace", trace::json(rows, machine)));
+    let failure = refused(name, run.end, run.finished, &advice, trace);
+    let Some(rows) = rows else {
+        return Err(failure);
+    };
+    let table = trace::table(rows, machine, Style::of(&io::stdout()));
+    Ok(Outcome {
+        failure: Some(failure),
+        ..table.into()
+    })
+}
+
+/// The refusal of a run that was stopped, with what more programs are told.
+pub fn refused(
+    name: &str,
+    end: End,
+    finished: u64,
+    advice: &str,
+    further: Option<(&'static str, String)>,
+) -> Failure {
+    let (record, field) = match end {
         End::OutOfRange { record, field } => (Some(record), Some(json::string(&field.to_string()))),
         _ => (None, None),
     };
-    let members = [
-        ("finished", run.finished.to_string()),
+    let mut members = vec![
+        ("finished", finished.to_string()),
         ("record", json::option(record)),
         ("field", json::option(field)),
     ];
-    explain::stopped(name, kind, &advice, &members)
+    members.extend(further);
+    let kind = end.refusal().expect("the run is stopped");
+    explain::stopped(name, kind, advice, &members)
 }
 
 /// A cell that is not as it was.
-type Change = (usize, char, Cell, Cell);
+pub type Change = (usize, char, Cell, Cell);
 
-fn changes(before: &Register, after: &Register) -> Vec<Change> {
+/// The cells that are not as they were.
+pub fn changes(before: &Register, after: &Register) -> Vec<Change> {
     let rows = show::records(before).zip(show::records(after));
     let changes = rows.flat_map(|((record, old), (_, new))| {
         let cells = before.sizes().fields().zip(old.into_iter().zip(new));
@@ -172,17 +173,25 @@ fn told(
     machine: Machine,
     names: &Names,
     run: &Run,
+    rows: Option<&[Row]>,
     output: Option<&str>,
 ) -> String {
     let style = match output {
-        Some(STANDARD) => Style::of(&io::stderr()),
+        Some(name) if files::is_standard_output(name) => Style::of(&io::stderr()),
         _ => Style::of(&io::stdout()),
     };
     let changes = changes(register, &run.register);
     let counts = counts(machine, run);
-    let told = format!("{counts}\n{} changed\n", counted(changes.len(), "cell"));
+    let changed = counted(changes.len(), "cell");
+    let table = change_table(&changes, names, style);
+    let rows = rows.map_or(String::new(), |rows| trace::table(rows, machine, style));
+    format!("{counts}\n{rows}{changed} changed\n{table}")
+}
+
+/// Changes as a table; nothing where there are none.
+pub fn change_table(changes: &[Change], names: &Names, style: Style) -> String {
     if changes.is_empty() {
-        return told;
+        return String::new();
     }
     let headings = ["field", ">before", ">after"].map(str::to_owned);
     let mut table = Table::new(names.record_headings().into_iter().chain(headings));
@@ -191,23 +200,19 @@ fn told(
             Cell::Unfilled => Look::Gap,
             _ => Look::New,
         };
-        let place = names.record_cells(record).into_iter();
-        let place = place.chain([names.field(field)]);
+        let place = names.record_cells(*record).into_iter();
+        let place = place.chain([names.field(*field)]);
         table.row(place.map(|cell| (cell, Look::Plain)).chain([
-            (names.cell(field, before), show::look(before)),
-            (names.cell(field, after), after_look),
+            (names.cell(*field, *before), show::look(*before)),
+            (names.cell(*field, *after), after_look),
         ]));
     }
-    told + &table.print(style)
+    table.print(style)
 }
 
-fn json(register: &Register, machine: Machine, names: &Names, run: &Run) -> String {
-    let counted = |number: u64| match machine {
-        Machine::Direct => json::option(None::<u64>),
-        Machine::Messages => number.to_string(),
-    };
-    let changes = changes(register, &run.register);
-    let changes = changes.iter().map(|(record, field, before, after)| {
+/// Changes for programs.
+pub fn change_list(changes: &[Change], names: &Names) -> String {
+    json::list(changes.iter().map(|(record, field, before, after)| {
         let cells = [
             ("before", json::option(before.value())),
             ("before_worked_out", is_worked_out(*before).to_string()),
@@ -215,11 +220,27 @@ fn json(register: &Register, machine: Machine, names: &Names, run: &Run) -> Stri
             ("after_worked_out", is_worked_out(*after).to_string()),
         ];
         json::object(&[names.cell_members(*record, *field), cells.to_vec()].concat())
-    });
-    json::object(&[
+    }))
+}
+
+fn json(
+    register: &Register,
+    machine: Machine,
+    names: &Names,
+    run: &Run,
+    rows: Option<&[Row]>,
+) -> String {
+    let counted = |number: u64| match machine {
+        Machine::Direct => json::option(None::<u64>),
+        Machine::Messages => number.to_string(),
+    };
+    let changed = change_list(&changes(register, &run.register), names);
+    let mut members = vec![
         ("finished", run.finished.to_string()),
         ("exchanges", counted(run.exchanges)),
         ("messages", counted(run.messages)),
-        ("changed", json::list(changes)),
-    ]) + "\n"
+        ("changed", changed),
+    ];
+    members.extend(rows.map(|rows| ("trace", trace::json(rows, machine))));
+    json::object(&members) + "\n"
 }

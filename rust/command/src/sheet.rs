@@ -305,63 +305,73 @@ impl Reading {
         }
     }
 
-    /// A cell as it is written, unfilled where it is empty or asked for.
+    /// A cell as it is written, its unit kept.
     fn cell(&mut self, row: usize, field: char, cell: &str) -> Result<Cell, String> {
-        if cell.is_empty() || cell == ASKED {
-            return Ok(Cell::Unfilled);
-        }
-        let (filled, bare): (fn(i32) -> Cell, &str) = match cell.strip_suffix('~') {
-            Some(bare) => (Cell::WorkedOut, bare.trim_end()),
-            None => (Cell::Measured, cell),
-        };
-        let value = match is_reference(field) {
-            true => self.reference(bare, cell),
-            false => measure(bare, cell).map(|(value, unit)| {
-                self.count(row, field, value, unit);
-                value
-            }),
-        };
-        value.map(filled)
-    }
-
-    /// Keeps which unit a field has.
-    fn count(&mut self, row: usize, field: char, value: i32, unit: Unit) {
+        let (names, records) = (&self.sheet.names, self.sheet.sizes.records);
+        let (cell, unit) = cell_value(names, records, field, cell)?;
         match unit {
-            Unit::Metres => drop(self.sheet.names.metres.insert(field)),
-            Unit::Centimetres if value != 0 => drop(self.centimetres.entry(field).or_insert(row)),
-            Unit::Centimetres => {}
-        }
-    }
-
-    /// The record that a cell names by its label or its number.
-    fn reference(&self, bare: &str, cell: &str) -> Result<i32, String> {
-        let records = self.sheet.sizes.records;
-        let number = match self.sheet.names.meant(bare) {
-            names::Written::Label(record) => return Ok(record as i32),
-            names::Written::NoLabel => return Err(no_label(bare)),
-            names::Written::Number(number) => number,
-        };
-        let labelled = self.sheet.names.has_labels();
-        match whole(number) {
-            Some(record) if (0..records as i64).contains(&record) => Ok(record as i32),
-            Some(_) => Err(format!(
-                "{} is no record: there are {} here, counted from 0",
-                clipped(number),
-                show::counted(records, "record")
-            )),
-            None if labelled => Err(format!("{} is no label and no record number", quoted(bare))),
-            None => {
-                let meant = number.parse::<i64>().ok().map(|number| number.to_string());
-                let none = || format!("{} is no whole number", quoted(bare));
-                Err(not_written(cell, meant).unwrap_or_else(none))
+            Some(Unit::Metres) => drop(self.sheet.names.metres.insert(field)),
+            Some(Unit::Centimetres) if cell.value() != Some(0) => {
+                self.centimetres.entry(field).or_insert(row);
             }
+            _ => {}
+        }
+        Ok(cell)
+    }
+}
+
+/// A cell of a field as it is written, unfilled where it is empty or asked for, with
+/// the unit of a measure. A reference is one of so many records.
+pub fn cell_value(
+    names: &Names,
+    records: usize,
+    field: char,
+    cell: &str,
+) -> Result<(Cell, Option<Unit>), String> {
+    if cell.is_empty() || cell == ASKED {
+        return Ok((Cell::Unfilled, None));
+    }
+    let (filled, bare): (fn(i32) -> Cell, &str) = match cell.strip_suffix('~') {
+        Some(bare) => (Cell::WorkedOut, bare.trim_end()),
+        None => (Cell::Measured, cell),
+    };
+    match is_reference(field) {
+        true => Ok((filled(reference(names, records, bare, cell)?), None)),
+        false => measure(bare, cell).map(|(value, unit)| (filled(value), Some(unit))),
+    }
+}
+
+/// The record that a cell names by its label or its number.
+fn reference(names: &Names, records: usize, bare: &str, cell: &str) -> Result<i32, String> {
+    let number = match names.meant(bare) {
+        names::Written::Label(record) => return Ok(record as i32),
+        names::Written::NoLabel => return Err(no_label(bare)),
+        names::Written::Number(number) => number,
+    };
+    match whole(number) {
+        Some(record) if (0..records as i64).contains(&record) => Ok(record as i32),
+        Some(_) => Err(format!(
+            "{} is no record: there are {} here, counted from 0",
+            clipped(number),
+            show::counted(records, "record")
+        )),
+        None if names.has_labels() => {
+            Err(format!("{} is no label and no record number", quoted(bare)))
+        }
+        None => {
+            let meant = number.parse::<i64>().ok().map(|number| number.to_string());
+            let none = || format!("{} is no whole number", quoted(bare));
+            Err(not_written(cell, meant).unwrap_or_else(none))
         }
     }
 }
 
 /// What a measure is written in.
-enum Unit {
+#[derive(Clone, Copy, Debug, PartialEq, Eq)]
+pub enum Unit {
+    /// Without a point.
     Centimetres,
+    /// With a point and two decimals.
     Metres,
 }
 

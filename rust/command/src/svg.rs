@@ -18,6 +18,8 @@ pub mod colour {
     pub const GUIDE: &str = "#d5d5d5";
     /// The hops of a chain.
     pub const HOP: &str = "#a8a8a8";
+    /// The messages of remote writes.
+    pub const REMOTE: &str = "#a0306e";
     /// One for each round; six are more than a plan has.
     pub const ROUNDS: [&str; 6] = [
         "#0072b2", "#b35900", "#007a5a", "#9c4f86", "#6b5b00", "#222222",
@@ -92,12 +94,21 @@ impl Picture {
 
     /// A level arrow.
     pub fn arrow(&mut self, y: usize, from: usize, to: usize, stroke: &str) {
+        self.arrow_with(y, from, to, stroke, "2");
+    }
+
+    /// A level arrow with a dashed shaft.
+    pub fn dashed_arrow(&mut self, y: usize, from: usize, to: usize, stroke: &str) {
+        self.arrow_with(y, from, to, stroke, r#"2" stroke-dasharray="6 4"#);
+    }
+
+    fn arrow_with(&mut self, y: usize, from: usize, to: usize, stroke: &str, width: &str) {
         let (back, shaft) = if from < to {
             (to - 9, to - 8)
         } else {
             (to + 9, to + 8)
         };
-        self.line((from, y), (shaft, y), stroke, "2");
+        self.line((from, y), (shaft, y), stroke, width);
         let (above, below) = (y - 5, y + 5);
         self.path(&format!("M{to} {y}L{back} {above}L{back} {below}Z"), stroke);
     }

@@ -3,12 +3,14 @@
 use crate::arguments::{Arguments, Form};
 use crate::commands::{Command, Outcome};
 use crate::failure::Failure;
-use crate::files::{self, STANDARD};
+use crate::files;
 use crate::names::Names;
+use crate::names_file::{self, NAMES, NO_NAMES};
+use crate::oneline::escaped;
 use crate::sheet::{self, Places};
 use crate::show::counted;
 use crate::stopping::{self, Stop};
-use crate::{explain, json, names_file, read, why_rules};
+use crate::{explain, json, read, why_rules};
 use plot::{Kind, Register};
 use std::path::Path;
 
@@ -17,27 +19,10 @@ pub const COMMAND: Command = Command {
     name: "why",
     form: Form {
         operands: &["REGISTER", "CHAIN or RULES", "[FIELD]"],
-        flags: &["--csv", "--json"],
-        valued: &["-o", "--budget"],
+        flags: &["--csv", "--json", NO_NAMES],
+        valued: &["-o", "--budget", NAMES],
     },
-    help: "\
-plot why REGISTER (CHAIN | RULES FIELD) [--csv | --json] [-o DIARY.csv] [--budget N]
-
-Tells which gaps to fill, those that stop the most first. With a chain, as 'N[A[u]]':
-every record at which it reads nothing, by the gap at which its path ends. With a
-rules text and a field: runs the text, and then for every record whose field is
-unfilled at the end tells which rules could have filled it, which gaps stopped each,
-and what is behind a gap that rules would have filled. Nothing is written to REGISTER.
-
-  -o DIARY.csv  writes the register as a sheet with ? in the cells to fill in, which
-                `plot pack` takes; - is standard output, and the rest then goes to
-                standard error
-  --csv         a row for each gap: its record and field, and what it stops
-  --budget N    at most N steps of the run, 0 to 65535; without it 1000
-  --names FILE  the names of records and fields; without it REGISTER.names
-  --no-names    record numbers and field letters only
-  --json        for programs: the gaps, what they stop, and the rules
-",
+    help: include_str!("../help/why.txt"),
     run: why,
 };
 
@@ -74,17 +59,11 @@ fn why(arguments: &Arguments) -> Result<Outcome, Failure> {
         (_, true) => answer.json(&names),
         _ => answer.told(&names) + &diary_told(output, asked.len()),
     };
-    let diary = || sheet::written(&register, &names, &asked).into_bytes();
     match output {
         None => Ok(told.into()),
-        Some(STANDARD) => Ok(Outcome {
-            out: diary(),
-            note: told,
-            failure: None,
-        }),
         Some(name) => {
-            files::write(name, &diary())?;
-            Ok(told.into())
+            let diary = sheet::written(&register, &names, &asked).into_bytes();
+            files::delivered(name, diary, told)
         }
     }
 }
@@ -93,8 +72,9 @@ fn why(arguments: &Arguments) -> Result<Outcome, Failure> {
 fn diary_told(output: Option<&str>, asked: usize) -> String {
     let cells = counted(asked, "cell");
     match output {
-        None | Some(STANDARD) => String::new(),
-        Some(name) => format!("wrote {}: ? in {cells} to fill in\n", files::shown(name)),
+        None => String::new(),
+        Some(name) if files::is_standard_output(name) => String::new(),
+        Some(name) => format!("wrote {}: ? in {cells} to fill in\n", escaped(name)),
     }
 }
 

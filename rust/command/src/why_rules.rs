@@ -28,7 +28,8 @@ pub fn answer(
     let run = register.run(&text, Machine::Messages, budget);
     let run = run.map_err(|refusal| explain::rules(&name, register.sizes(), &text, refusal))?;
     if run.end != End::Whole {
-        return Err(run::stopped(&name, Machine::Messages, budget, names, &run));
+        let stopped = run::stopped(&name, Machine::Messages, budget, names, &run, None);
+        return Err(stopped.expect_err("no trace is asked for"));
     }
     let rules = causes::rules(&text);
     let causes = Causes::of(&run.register, &rules);

@@ -2,9 +2,13 @@
 
 mod any_bytes;
 mod carets;
+mod delivered;
 mod files;
 mod folder;
+mod further;
+mod installed;
 mod names;
+mod operator;
 mod pictures;
 mod readings;
 mod rules;
@@ -13,5 +17,6 @@ mod scripts;
 mod sessions;
 mod sheets;
 mod shown;
+mod small;
 mod usage;
 mod whys;
