@@ -2,7 +2,9 @@
 
 use crate::arguments::{Arguments, Form};
 use crate::failure::Failure;
-use crate::{check, diff, help, inspect, meaning, nearest, pack, plan, read, run, set, show};
+use crate::{
+    check, diff, help, inspect, meaning, nearest, pack, plan, read, report, run, set, show,
+};
 
 /// What a command has to say.
 #[derive(Debug, Default)]
@@ -39,7 +41,7 @@ pub struct Command {
 }
 
 /// All commands.
-pub const COMMANDS: [Command; 13] = [
+pub const COMMANDS: [Command; 14] = [
     show::COMMAND,
     read::READ,
     read::PATH,
@@ -51,6 +53,7 @@ pub const COMMANDS: [Command; 13] = [
     set::COMMAND,
     pack::PACK,
     pack::UNPACK,
+    report::COMMAND,
     meaning::COMMAND,
     help::COMMAND,
 ];

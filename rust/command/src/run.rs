@@ -29,8 +29,7 @@ const BUDGET: u16 = 1000;
 
 fn run(arguments: &Arguments) -> Result<Outcome, Failure> {
     let output = output(arguments)?;
-    let budget = arguments.value("--budget");
-    let budget = budget.map_or(Ok(BUDGET), |word| arguments::number("--budget", word))?;
+    let budget = budget(arguments)?;
     let machine = match arguments.has("--direct") {
         true => Machine::Direct,
         false => Machine::Messages,
@@ -55,6 +54,12 @@ fn run(arguments: &Arguments) -> Result<Outcome, Failure> {
     }
 }
 
+/// The steps that a run may finish.
+pub fn budget(arguments: &Arguments) -> Result<u16, Failure> {
+    let budget = arguments.value("--budget");
+    budget.map_or(Ok(BUDGET), |word| arguments::number("--budget", word))
+}
+
 /// The file to write, if one is asked for.
 pub fn output(arguments: &Arguments) -> Result<Option<&str>, Failure> {
     let output = arguments.output("-o")?;
@@ -71,7 +76,7 @@ pub fn output(arguments: &Arguments) -> Result<Option<&str>, Failure> {
 }
 
 /// What a run took.
-fn counts(machine: Machine, run: &Run) -> String {
+pub fn counts(machine: Machine, run: &Run) -> String {
     let steps = counted(run.finished as usize, "step");
     match machine {
         Machine::Direct => format!("{steps} finished"),

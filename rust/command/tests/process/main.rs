@@ -10,6 +10,7 @@ mod installed;
 mod operator;
 mod pictures;
 mod readings;
+mod reports;
 mod rules;
 mod runs;
 mod scripts;

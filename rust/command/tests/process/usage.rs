@@ -2,9 +2,9 @@
 
 use crate::folder::Folder;
 
-const COMMANDS: [&str; 12] = [
+const COMMANDS: [&str; 13] = [
     "show", "read", "path", "check", "plan", "inspect", "run", "diff", "set", "pack", "unpack",
-    "explain",
+    "report", "explain",
 ];
 
 #[test]
