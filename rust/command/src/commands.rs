@@ -2,7 +2,9 @@
 
 use crate::arguments::{Arguments, Form};
 use crate::failure::Failure;
-use crate::{check, diff, help, inspect, meaning, nearest, pack, plan, read, run, set, show, why};
+use crate::{
+    check, diff, help, inspect, meaning, nearest, pack, plan, read, report, run, set, show, why,
+};
 
 /// What a command has to say.
 #[derive(Debug, Default)]
@@ -39,7 +41,7 @@ pub struct Command {
 }
 
 /// All commands.
-pub const COMMANDS: [Command; 14] = [
+pub const COMMANDS: [Command; 15] = [
     show::COMMAND,
     read::READ,
     read::PATH,
@@ -52,6 +54,7 @@ pub const COMMANDS: [Command; 14] = [
     set::COMMAND,
     pack::PACK,
     pack::UNPACK,
+    report::COMMAND,
     meaning::COMMAND,
     help::COMMAND,
 ];

@@ -50,7 +50,7 @@ fn step_picture(picture: &mut Picture, y: usize, planned: &Planned) -> usize {
         y = note(picture, y, &title);
     }
     for write in writes {
-        y = write_panel(picture, y, write) + EDGE;
+        y = write_panel(picture, y, write, plan.exchanges()) + EDGE;
     }
     y
 }
@@ -64,7 +64,7 @@ fn shortened(title: String) -> String {
 }
 
 /// Draws a remote write from this height on, its message dashed: the height behind it.
-fn write_panel(picture: &mut Picture, y: usize, write: &Write) -> usize {
+fn write_panel(picture: &mut Picture, y: usize, write: &Write, exchange: u8) -> usize {
     let title = shortened(format!("{}{}", write.test, write.action()));
     picture.text((EDGE, y + 14), Anchor::Start, (14, colour::INK), &title);
     let letters = write.letters();
@@ -80,6 +80,7 @@ fn write_panel(picture: &mut Picture, y: usize, write: &Write) -> usize {
     let level = first + 20;
     picture.text((EDGE, level), Anchor::Start, (12, colour::REMOTE), "remote");
     let (from, to) = (x_of(0), x_of(letters.len() - 1));
+    picture.open_round(exchange);
     picture.circle((from, level), 3, colour::REMOTE, colour::REMOTE);
     let (text, middle) = match from == to {
         true => ("to itself", from + GAP / 2),
@@ -94,6 +95,7 @@ fn write_panel(picture: &mut Picture, y: usize, write: &Write) -> usize {
         (11, colour::REMOTE),
         text,
     );
+    picture.close();
     bottom
 }
 
@@ -160,12 +162,14 @@ fn messages(picture: &mut Picture, top: usize, right: usize, rounds: &[Round]) {
         let label = format!("round {number}");
         picture.text((EDGE, y + 20), Anchor::Start, (12, paint), &label);
         picture.line((EDGE, y), (right, y), colour::GUIDE, "1");
+        picture.open_round(*number);
         for level in levels {
             for arrow in level {
                 message(picture, y + 20, paint, arrow);
             }
             y += MESSAGE;
         }
+        picture.close();
     }
 }
 

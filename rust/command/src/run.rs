@@ -83,7 +83,7 @@ pub fn output(arguments: &Arguments) -> Result<Option<&str>, Failure> {
 }
 
 /// What a run took.
-fn counts(machine: Machine, run: &Run) -> String {
+pub fn counts(machine: Machine, run: &Run) -> String {
     let steps = counted(run.finished as usize, "step");
     match machine {
         Machine::Direct => format!("{steps} finished"),

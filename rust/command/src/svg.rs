@@ -57,6 +57,16 @@ impl Picture {
         self.shapes.push('\n');
     }
 
+    /// What is drawn until [`Picture::close`] belongs to a round.
+    pub fn open_round(&mut self, round: u8) {
+        self.shape(&format!(r#"<g data-round="{round}">"#));
+    }
+
+    /// Ends what belongs to a round.
+    pub fn close(&mut self) {
+        self.shape("</g>");
+    }
+
     /// A rectangle.
     pub fn rectangle(&mut self, x: usize, y: usize, width: usize, height: usize, fill: &str) {
         self.shape(&format!(
@@ -141,6 +151,7 @@ impl Picture {
     }
 }
 
-fn escaped(text: &str) -> String {
+/// A text as HTML and SVG have it.
+pub fn escaped(text: &str) -> String {
     text.replace('&', "&amp;").replace('<', "&lt;")
 }

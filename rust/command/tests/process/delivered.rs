@@ -29,6 +29,13 @@ fn a_line_for_programs_from_every_command() {
         &["set", "full.register", "0", "M", "1", "-o", "set"],
         &["pack", "full.csv", "-o", "packed"],
         &["unpack", "full.register", "-o", "sheet.csv"],
+        &[
+            "report",
+            "full.register",
+            "depths.rules",
+            "-o",
+            "report.html",
+        ],
         &["explain", "7"],
     ] {
         let said = folder.plot(&[words, &["--json"]].concat());

@@ -11,6 +11,7 @@ mod names;
 mod operator;
 mod pictures;
 mod readings;
+mod reports;
 mod rules;
 mod runs;
 mod scripts;

@@ -38,6 +38,14 @@ fn every_command_shows_them() {
     plot(&["why", "clerk", "depths.rules", "below datum"])
         .has("       8  Chapel      3  N of Mark C");
     plot(&["unpack", "depths"]).has("East 1;Mark B;2.10;2.75~\n");
+    let report = plot(&["report", "clerk", "depths.rules", "-o", "-"]).out;
+    for text in [
+        "<th scope=\"col\">M below mark",
+        "<th scope=\"row\">4 East 1",
+        ">M below mark of North 2 (record 1)</button> stops",
+    ] {
+        assert!(report.contains(text), "{text}");
+    }
     plot(&["plan", "clerk", "depths.rules"]).has("\nfields: A mark, M below mark, N below datum\n");
     let plan = plot(&["plan", "clerk", "depths.rules", "--svg", "-"]);
     plan.has(">fields: A mark, M below mark, N below datum<");

@@ -15,7 +15,12 @@ fn picture(folder: &Folder, words: &[&str], input: &[u8]) -> String {
     assert!(picture.starts_with("<svg xmlns=") && picture.ends_with("</svg>\n"));
     let shapes: Vec<&str> = picture.lines().skip(1).collect();
     for shape in &shapes[..shapes.len() - 1] {
-        assert!(shape.ends_with("/>") || shape.ends_with("</text>") || shape.ends_with("</title>"));
+        let group = shape.starts_with("<g data-round=") || *shape == "</g>";
+        let ends = ["/>", "</text>", "</title>"];
+        assert!(
+            group || ends.iter().any(|end| shape.ends_with(end)),
+            "{shape}"
+        );
     }
     let (width, height) = (number(&picture, "width"), number(&picture, "height"));
     assert!(width < 2500 && height < 40_000, "{width} by {height}");

@@ -2,9 +2,9 @@
 
 use crate::folder::Folder;
 
-const COMMANDS: [&str; 13] = [
+const COMMANDS: [&str; 14] = [
     "show", "read", "path", "why", "check", "plan", "inspect", "run", "diff", "set", "pack",
-    "unpack", "explain",
+    "unpack", "report", "explain",
 ];
 
 #[test]
