@@ -1,6 +1,7 @@
 //! Where results and reports go, what programs are told, and what killed runs leave.
 
-use crate::folder::{Folder, PLOT, Said};
+use crate::folder::{Folder, PLOT, Said, root};
+use std::fs;
 use std::process::{Command, Stdio};
 use std::{thread, time::Duration};
 
@@ -10,9 +11,16 @@ fn in_bash(folder: &Folder, words: &str) -> Said {
     folder.run(Command::new("bash").args(["-c", &line]), b"")
 }
 
+/// The keys of a line of JSON.
+fn keys(json: &str) -> impl Iterator<Item = &str> {
+    let ends = json.match_indices("\":").map(|(end, _)| &json[..end]);
+    ends.filter_map(|before| before.rsplit('"').next())
+}
+
 #[test]
 fn a_line_for_programs_from_every_command() {
     let folder = Folder::with_cemetery("lines");
+    let manual = fs::read_to_string(root().join("docs/MANUAL.md")).expect("it is there");
     for words in [
         &["show", "full.register"][..],
         &["show", "full.register", "--gaps"],
@@ -41,6 +49,12 @@ fn a_line_for_programs_from_every_command() {
         let said = folder.plot(&[words, &["--json"]].concat());
         assert_eq!((said.status, said.err.as_str()), (0, ""), "{words:?}");
         let whole = said.out.starts_with('{') && said.out.ends_with("}\n");
+        for key in keys(&said.out) {
+            assert!(
+                manual.contains(&format!("`{key}`")),
+                "{key} of {words:?} is not in the manual"
+            );
+        }
         assert!(
             whole && said.out.lines().count() == 1,
             "{words:?}: {}",

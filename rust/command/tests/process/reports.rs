@@ -1,7 +1,7 @@
 //! `plot report`: the page holds what there is, needs no other file, and works in a
 //! browser where there is one.
 
-use crate::folder::{Folder, root};
+use crate::folder::Folder;
 use generate::cases::Case;
 use generate::random::Random;
 use generate::registers;
@@ -289,10 +289,4 @@ fn many_records_in_a_browser() {
       seen.push(cell.top > box.top && cell.bottom < box.bottom);";
     let seen = looked_at(&folder, browser, "N4000", script, &[]);
     assert_eq!(seen, "4096 | 16384 | N of record 4000 | true");
-}
-
-#[test]
-fn the_gate_says_where_there_is_no_browser() {
-    let gate = std::fs::read_to_string(root().join(".ci/run")).expect("it is there");
-    assert!(gate.contains("the page of plot report is opened in no browser"));
 }

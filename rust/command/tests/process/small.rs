@@ -1,6 +1,7 @@
 //! The small commands: diff, set, a part of a register, explain, help.
 
 use crate::folder::{Folder, PLOT, Said, root};
+use plot::Kind;
 use std::env;
 use std::fs;
 use std::path::Path;
@@ -154,10 +155,10 @@ fn examples_get_their_numbers() {
     folder.plot(&["explain", "--help"]).has(register);
     in_bash(&folder, register).has("wrote");
     let (mut numbers, mut examples) = (0, 0);
-    for number in 0..=26 {
+    for number in 0..=40 {
         let said = folder.plot(&["explain", &number.to_string()]);
         if said.status != 0 {
-            said.fails(2, "they are 1 to 21, 24 and 25");
+            said.fails(2, "the numbers are 1, 2, 3");
             continue;
         }
         numbers += 1;
@@ -175,7 +176,8 @@ fn examples_get_their_numbers() {
         }
         examples += usize::from(!lines.is_empty());
     }
-    assert_eq!((numbers, examples), (23, 21));
+    let all = Kind::all().count();
+    assert_eq!((numbers, examples), (all, all - 2), "18 and 19 have none");
     folder
         .plot(&["explain", "14", "--json"])
         .has("{\"number\":14,\"meaning\":\"a field takes two");
