@@ -40,7 +40,8 @@ module _ {s : Sizes} {begun : Begun} {fields : List Bool} {sent : ℕ}
 
   -- none is
   pub counts-step : (total : Stop) → stop ≡ Nowhere → Committed s (begun .at + s .records) fields values marks file file′ total → total ≡ Nowhere → r .stop ≡ stop
-      → StepCounted (begun .machine) s (begun .at) (begun .setting) begun (begun .remote) sent values marks file′ run r → FinishedBy stop s begun fields sent values marks file file′ run r
+      → StepCounted (begun .machine) s (begun .at) (begun .setting) begun (begun .remote) sent values marks file′ run r
+      → FinishedBy stop s begun fields sent values marks file file′ run r
   counts-step total e h t q c = record {
     ended = λ n. record { committed = rw (q, e) (rw t at h); counted = λ w. c; uncounted = λ u c w. not-both (q ∙ e) w };
     stays = λ u c w. not-both e w;

@@ -1,9 +1,16 @@
 //! The arguments of a command.
 
-use crate::explain;
 use crate::failure::Failure;
 use crate::files::{self, STANDARD};
+use crate::oneline::escaped;
+use crate::{explain, faulty, nearest};
 use plot::Register;
+
+/// The most bytes of a rules text; the library refuses one that is longer.
+const RULES_BYTES: usize = 8192;
+
+/// The mark of the last operand where it may stand several times.
+const SEVERAL: &str = "..]";
 
 /// What a command takes.
 pub struct Form {
@@ -15,21 +22,36 @@ pub struct Form {
     pub valued: &'static [&'static str],
 }
 
+/// The operands that are names of files.
+const FILES: [&str; 7] = [
+    "REGISTER",
+    "RULES",
+    "[RULES]",
+    "CHAIN or RULES",
+    "SHEET.csv",
+    "OLD",
+    "NEW",
+];
+
 /// The arguments of a command, taken apart.
 #[derive(Debug, Default)]
 pub struct Arguments {
     operands: Vec<String>,
     options: Vec<(String, String)>,
+    names: &'static [&'static str],
 }
 
 impl Arguments {
     /// The arguments as the form has them.
     pub fn parse(form: &Form, given: &[String]) -> Result<Arguments, Failure> {
-        let mut arguments = Arguments::default();
+        let mut arguments = Arguments {
+            names: form.operands,
+            ..Arguments::default()
+        };
         let mut given = given.iter();
         let mut only_operands = false;
         while let Some(word) = given.next() {
-            if only_operands || !word.starts_with('-') || word == STANDARD {
+            if only_operands || !is_option(word) {
                 arguments.operands.push(word.clone());
             } else if word == "--" {
                 only_operands = true;
@@ -51,8 +73,15 @@ impl Arguments {
 
     fn counted(self, form: &Form) -> Result<Arguments, Failure> {
         let given = self.operands.len();
-        if let Some(extra) = self.operands.get(form.operands.len()) {
-            return Err(Failure::Usage(format!("there is no place for {extra:?}")));
+        let several = form
+            .operands
+            .last()
+            .is_some_and(|name| name.ends_with(SEVERAL));
+        match self.operands.get(form.operands.len()) {
+            Some(extra) if !several => {
+                return Err(Failure::Usage(format!("there is no place for {extra:?}")));
+            }
+            _ => {}
         }
         let missing = form.operands.iter().skip(given);
         match missing.clone().find(|name| !name.starts_with('[')) {
@@ -62,11 +91,17 @@ impl Arguments {
     }
 
     fn one_standard_input(self) -> Result<Arguments, Failure> {
-        let standard = self.operands.iter().filter(|&name| name == STANDARD);
+        let standard = self.files().filter(|name| *name == STANDARD);
         match standard.count() {
             0 | 1 => Ok(self),
             _ => Err(Failure::Usage("standard input can be read once".to_owned())),
         }
+    }
+
+    /// The operands that are names of files.
+    fn files(&self) -> impl Iterator<Item = &str> {
+        let operands = self.operands.iter().zip(self.names);
+        operands.filter_map(|(operand, name)| FILES.contains(name).then_some(operand.as_str()))
     }
 
     /// Whether an option is given.
@@ -85,13 +120,24 @@ impl Arguments {
         let Some(name) = self.value(option) else {
             return Ok(None);
         };
-        let is_read = |operand: &&String| *operand != STANDARD && files::same(operand, name);
-        match self.operands.iter().find(is_read) {
-            Some(_) if name != STANDARD => Err(Failure::Usage(format!(
-                "{name} is read here, and {option} does not write over it"
+        match !files::is_standard_output(name) && self.reads(name) {
+            true => Err(Failure::Usage(format!(
+                "{} is read here, and {option} does not write over it",
+                escaped(name)
             ))),
-            _ => Ok(Some(name)),
+            false => Ok(Some(name)),
         }
+    }
+
+    /// Whether an operand is this file.
+    pub fn reads(&self, name: &str) -> bool {
+        let is_read = |operand: &str| operand != STANDARD && files::same(operand, name);
+        self.files().any(is_read)
+    }
+
+    /// The operands from this place on.
+    pub fn rest(&self, place: usize) -> &[String] {
+        self.operands.get(place..).unwrap_or_default()
     }
 
     /// An operand, counted from 0, that has to be there.
@@ -100,35 +146,63 @@ impl Arguments {
     }
 
     /// An operand that is a number; none where it is left out.
-    pub fn number<N: std::str::FromStr>(
-        &self,
-        place: usize,
-        what: &str,
-    ) -> Result<Option<N>, Failure> {
+    pub fn number<N: Number>(&self, place: usize, what: &str) -> Result<Option<N>, Failure> {
         let given = self.operands.get(place);
         given.map(|word| number(what, word)).transpose()
     }
 
+    /// An operand that may be left out.
+    pub fn given(&self, place: usize) -> Option<&str> {
+        self.operands.get(place).map(String::as_str)
+    }
+
     /// The register that the first operand names.
     pub fn register(&self) -> Result<Register, Failure> {
-        let name = self.operand(0);
-        let bytes = files::read(name)?;
+        self.register_at(0)
+    }
+
+    /// The register that an operand names.
+    pub fn register_at(&self, place: usize) -> Result<Register, Failure> {
+        let name = self.operand(place);
+        let bytes = files::read(name, faulty::MOST_BYTES)?;
         Register::from_bytes(bytes.as_slice())
-            .map_err(|refusal| explain::register(files::shown(name), &bytes, refusal))
+            .map_err(|refusal| explain::register(&files::shown(name), &bytes, refusal))
     }
 
     /// The name of the rules text, and the text.
-    pub fn rules(&self) -> Result<(&str, Vec<u8>), Failure> {
+    pub fn rules(&self) -> Result<(String, Vec<u8>), Failure> {
         let name = self.operand(1);
-        Ok((files::shown(name), files::read(name)?))
+        Ok((files::shown(name), files::read(name, RULES_BYTES)?))
     }
 }
 
-/// A number that is written in digits, of a size that can be asked for.
-pub fn number<N: std::str::FromStr>(what: &str, word: &str) -> Result<N, Failure> {
+/// A number that can be asked for.
+pub trait Number: std::str::FromStr {
+    /// Its range, in words.
+    const RANGE: &str;
+}
+
+impl Number for usize {
+    const RANGE: &str = "from 0 on";
+}
+
+impl Number for u16 {
+    const RANGE: &str = "from 0 to 65535";
+}
+
+/// A number that is written in digits.
+pub fn number<N: Number>(what: &str, word: &str) -> Result<N, Failure> {
     let digits = !word.is_empty() && word.bytes().all(|byte| byte.is_ascii_digit());
     let number = if digits { word.parse().ok() } else { None };
-    number.ok_or_else(|| Failure::Usage(format!("{what} is a number from 0 on, not {word:?}")))
+    let range = N::RANGE;
+    number.ok_or_else(|| Failure::Usage(format!("{what} is a number {range}, not {word:?}")))
+}
+
+/// Whether a word is an option: it begins with a dash, and is neither a dash alone nor
+/// a number.
+fn is_option(word: &str) -> bool {
+    word.strip_prefix('-')
+        .is_some_and(|rest| !rest.is_empty() && !rest.starts_with(|c: char| c.is_ascii_digit()))
 }
 
 /// An option and its value, which is empty for one that stands alone.
@@ -145,7 +219,10 @@ fn option(
         None => (word, None),
     };
     if !form.valued.contains(&name) {
-        return Err(Failure::Usage(format!("there is no option {word}")));
+        let known = [form.flags, form.valued, &["--help"]].concat();
+        let meant = nearest::asked(name, &known);
+        let word = escaped(word);
+        return Err(Failure::Usage(format!("there is no option {word}{meant}")));
     }
     match joined.or_else(next) {
         Some(value) => Ok((name.to_owned(), value)),

@@ -21,7 +21,8 @@ pub fn place(sizes: Sizes, kind: Kind, line: &[u8], alone: bool) -> usize {
         // A line that has a form is refused for its missing line break.
         Ok(_) if kind == Kind::Form => return line.len(),
         Ok(scan) => scan.parts,
-        Err(misfit) => return misfit.at,
+        Err(misfit) if alone => return misfit.at,
+        Err(misfit) => return misfit.place(line),
     };
     let first = |wanted: &dyn Fn(&Part) -> bool| {
         let part = parts.iter().find(|part| wanted(part));

@@ -2,12 +2,11 @@
 
 use crate::arguments::{Arguments, Form};
 use crate::commands::{Command, Outcome};
-use crate::explain;
 use crate::failure::Failure;
-use crate::json;
 use crate::show::counted;
 use crate::style::{Look, Style};
 use crate::table::Table;
+use crate::{explain, further, json};
 use plot::{Plan, Register, Text};
 use std::io;
 
@@ -19,26 +18,19 @@ pub const COMMAND: Command = Command {
         flags: &["--json"],
         valued: &[],
     },
-    help: "\
-plot check REGISTER RULES [--json]
-
-Checks a rules text for a register. Where it passes: its steps, with the lines of
-each step's plan and the exchanges that the step takes by messages. Where it does
-not: the number of the refusal, its meaning, and the line with a caret.
-
-  --json  for programs: the steps, or the refusal with its line and column
-",
+    help: include_str!("../help/check.txt"),
     run: check,
 };
 
 fn check(arguments: &Arguments) -> Result<Outcome, Failure> {
     let register = arguments.register()?;
     let (name, text) = arguments.rules()?;
-    let text = checked(&register, name, &text)?;
+    let text = Text::check(&register, text.as_slice())
+        .map_err(|refusal| further::all(&register, &name, &text, refusal))?;
     let plans = plans(&text);
     let shown = match arguments.has("--json") {
         true => json(&plans),
-        false => told(name, &plans, Style::of(&io::stdout())),
+        false => told(&name, &plans, Style::of(&io::stdout())),
     };
     Ok(shown.into())
 }

@@ -2,7 +2,9 @@
 
 use crate::arguments::{Arguments, Form};
 use crate::failure::Failure;
-use crate::{check, inspect, pack, plan, read, run, show};
+use crate::{
+    check, diff, help, inspect, meaning, nearest, pack, plan, read, report, run, set, show, why,
+};
 
 /// What a command has to say.
 #[derive(Debug, Default)]
@@ -13,6 +15,8 @@ pub struct Outcome {
     pub note: String,
     /// A refusal that comes with a result.
     pub failure: Option<Failure>,
+    /// The exit status where there is no refusal.
+    pub status: u8,
 }
 
 impl From<String> for Outcome {
@@ -36,55 +40,57 @@ pub struct Command {
     pub run: fn(&Arguments) -> Result<Outcome, Failure>,
 }
 
-const COMMANDS: [Command; 9] = [
+/// All commands.
+pub const COMMANDS: [Command; 15] = [
     show::COMMAND,
     read::READ,
     read::PATH,
+    why::COMMAND,
     check::COMMAND,
     plan::COMMAND,
     inspect::COMMAND,
     run::COMMAND,
+    diff::COMMAND,
+    set::COMMAND,
     pack::PACK,
     pack::UNPACK,
+    report::COMMAND,
+    meaning::COMMAND,
+    help::COMMAND,
 ];
-
-const ABOUT: &str = "plot: plot registers and their rules\n\n";
-
-const FURTHER: &str = "
-Files are named, or - for standard input. `plot COMMAND --help` tells more of each.
-Exit status: 0 done; 1 refused; 2 bad usage, or a file that cannot be read or written.
-";
 
 /// Does what the words say.
 pub fn done(given: &[String]) -> Result<Outcome, Failure> {
     let Some((name, rest)) = given.split_first() else {
-        return Err(Failure::Usage(format!(
-            "a command is missing\n{}",
-            usages()
-        )));
-    };
-    if ["--help", "-h", "help"].contains(&name.as_str()) {
-        return Ok(format!("{ABOUT}{}{FURTHER}", usages()).into());
-    }
-    let Some(command) = COMMANDS.iter().find(|command| command.name == name) else {
-        let told = format!("there is no command {name:?}\n{}", usages());
+        let told = format!("a command is missing\n{}", help::usages().trim_end());
         return Err(Failure::Usage(told));
     };
+    match name.as_str() {
+        "--help" | "-h" => return Ok(help::overview().into()),
+        "--version" | "-V" => return Ok(help::version().into()),
+        _ => {}
+    }
+    let command = named(name)?;
     if rest.iter().any(|word| word == "--help" || word == "-h") {
         return Ok(command.help.to_owned().into());
     }
     command.done(rest)
 }
 
-/// The line of usage of each command.
-fn usages() -> String {
-    let usages = COMMANDS.iter().map(|command| command.usage());
-    usages.map(|usage| format!("  {usage}\n")).collect()
+/// The command with this name.
+pub fn named(name: &str) -> Result<&'static Command, Failure> {
+    let command = COMMANDS.iter().find(|command| command.name == name);
+    command.ok_or_else(|| {
+        let meant = nearest::asked(name, &COMMANDS.map(|command| command.name));
+        let usages = help::usages();
+        let usages = usages.trim_end();
+        Failure::Usage(format!("there is no command {name:?}{meant}\n{usages}"))
+    })
 }
 
 impl Command {
     /// The first line of its help.
-    fn usage(&self) -> &'static str {
+    pub fn usage(&self) -> &'static str {
         self.help.lines().next().unwrap_or("")
     }
 
@@ -93,9 +99,11 @@ impl Command {
         let done = arguments.and_then(|arguments| {
             let done = (self.run)(&arguments);
             match done {
-                Err(Failure::Refused { told, json }) if arguments.has("--json") => {
-                    Ok(Outcome::refused(told, json))
-                }
+                Err(Failure::Refused { told, json })
+                | Ok(Outcome {
+                    failure: Some(Failure::Refused { told, json }),
+                    ..
+                }) if arguments.has("--json") => Ok(Outcome::refused(told, json)),
                 done => done,
             }
         });

@@ -1,5 +1,6 @@
 //! Refusals told to people: the number, its meaning, the place, and what to do.
 
+use crate::draft::{Draft, Open, Role};
 use crate::failure::Failure;
 use crate::pointer::Place;
 use crate::scan::Scan;
@@ -8,33 +9,56 @@ use crate::{caret, faulty, json, misfit};
 use plot::{Kind, Refusal, Register, Sizes};
 use std::io;
 
+/// A refusal, told to people and to programs.
+pub struct Explained {
+    /// For people.
+    pub told: String,
+    /// For programs: names and values that are JSON already.
+    pub members: Vec<(&'static str, String)>,
+}
+
+impl Explained {
+    /// For programs, as one object.
+    pub fn json(&self) -> String {
+        json::object(&self.members)
+    }
+
+    fn failure(self) -> Failure {
+        Failure::Refused {
+            json: self.json(),
+            told: self.told,
+        }
+    }
+}
+
 /// A register file that is refused.
 pub fn register(name: &str, bytes: &[u8], refusal: Refusal) -> Failure {
-    refused(name, refusal, None, &faulty::told(refusal.kind, bytes))
+    refused(name, refusal, None, &faulty::told(refusal.kind, bytes)).failure()
 }
 
 /// A rules text that is refused.
 pub fn rules(name: &str, sizes: Sizes, text: &[u8], refusal: Refusal) -> Failure {
-    let line = line_of(text, refusal.line);
+    rules_in(name, sizes, &Draft::of(text), refusal).failure()
+}
+
+/// A draft of a rules text that is refused, told with the line numbers of the text.
+pub fn rules_in(name: &str, sizes: Sizes, draft: &Draft, refusal: Refusal) -> Explained {
+    let line = draft.line(refusal.line);
     let place = line.map(|line| Place {
-        number: refusal.line,
-        line,
-        at: caret::place(sizes, refusal.kind, line, false),
+        number: line.number,
+        line: line.content(),
+        at: caret::place(sizes, refusal.kind, line.content(), false),
     });
-    let advice = rules_advice(sizes, text, refusal.kind, place);
-    refused(name, refusal, place, &advice)
+    let advice = rules_advice(sizes, draft, refusal, place);
+    let line = match refusal.line {
+        0 => 0,
+        place => draft.number(place),
+    };
+    refused(name, Refusal { line, ..refusal }, place, &advice)
 }
 
-/// A line of a text, counted from 1, without its line break; none where the text has
-/// fewer.
-fn line_of(text: &[u8], number: u64) -> Option<&[u8]> {
-    let mut lines = text.split_inclusive(|&byte| byte == b'\n');
-    let line = lines.nth((number as usize).checked_sub(1)?)?;
-    Some(line.strip_suffix(b"\n").unwrap_or(line))
-}
-
-fn rules_advice(sizes: Sizes, text: &[u8], kind: Kind, place: Option<Place<'_>>) -> String {
-    let advice = match (kind, place) {
+fn rules_advice(sizes: Sizes, draft: &Draft, refusal: Refusal, place: Option<Place<'_>>) -> String {
+    let advice = match (refusal.kind, place) {
         (Kind::Form, Some(Place { line, at, .. })) if line[at..] == *b"\r" => {
             "The line ends as on Windows. Save the text with plain line breaks (LF)."
         }
@@ -42,26 +66,52 @@ fn rules_advice(sizes: Sizes, text: &[u8], kind: Kind, place: Option<Place<'_>>)
             "Numbers are centimetres, as 180 or -5, or metres with two decimals, as 1.80 or -0.05; \
              no leading zeros, and no minus before zero."
         }
-        (Kind::Form, Some(Place { line, at, .. }))
-            if at == line.len() && !text.ends_with(b"\n") =>
-        {
+        (Kind::Form, Some(Place { line, at, .. })) if at == line.len() && draft.ends_open() => {
             "The line goes on, or a line break has to stand behind it."
         }
-        (Kind::Place, None) => {
-            "The text ends here, and a step or a loop is not closed by end or done."
-        }
-        (Kind::Form, Some(Place { line, .. })) => form_advice(line),
+        (Kind::Place, _) => return place_advice(draft, refusal.line),
+        (Kind::Form, Some(Place { line, .. })) => return form_advice(line),
         (Kind::FieldKind, Some(Place { line, at, .. })) => kind_advice(line, at),
         (kind, _) => return advice(kind, sizes),
     };
     advice.to_owned()
 }
 
+/// What to do about a line that is out of place, or about the end of a text that
+/// comes too early.
+fn place_advice(draft: &Draft, place: u64) -> String {
+    let Open { step, looped } = draft.open_before(place);
+    let Some(line) = draft.line(place) else {
+        let step =
+            step.map(|opened| format!("the step that line {opened} opened is not closed by end"));
+        let looped = looped
+            .map(|opened| format!("the loop that line {opened} opened is not closed by done"));
+        let open: Vec<String> = [step, looped].into_iter().flatten().collect();
+        return format!("The text ends here, and {}.", open.join(", and "));
+    };
+    match (line.role(), step, looped) {
+        (Role::Step | Role::Loop | Role::Done, Some(opened), _) => {
+            format!("The step that line {opened} opened has to be closed first, by end.")
+        }
+        (Role::Loop, None, Some(opened)) => {
+            format!(
+                "No loop stands in a loop, and line {opened} opened one that is not closed by done."
+            )
+        }
+        (Role::Done, None, Some(opened)) => {
+            format!("The loop that line {opened} opened holds no step; a loop holds at least one.")
+        }
+        (Role::Done, None, None) => "No loop is open here that done could close.".to_owned(),
+        (Role::End, ..) => "No step is open here that end could close.".to_owned(),
+        _ => "Rules stand between step and end, and no step is open here.".to_owned(),
+    }
+}
+
 /// What to do about a line that has no form.
-fn form_advice(line: &[u8]) -> &'static str {
+fn form_advice(line: &[u8]) -> String {
     let misfit = Scan::line(line).err();
     let advice = misfit.and_then(|misfit| misfit.advice(line));
-    advice.unwrap_or(Kind::Form.advice())
+    advice.unwrap_or(Kind::Form.advice().to_owned())
 }
 
 /// Whether this place is in or behind what was meant as a number and is none.
@@ -92,12 +142,13 @@ fn kind_advice(line: &[u8], at: usize) -> &'static str {
 pub fn reading(register: &Register, chain: &str, record: usize, refusal: Refusal) -> Failure {
     let sizes = register.sizes();
     if refusal.kind == Kind::Record {
-        return refused(&format!("record {record}"), refusal, None, &records(sizes));
+        let name = format!("record {record}");
+        return refused(&name, refusal, None, &records(sizes)).failure();
     }
     let line = chain.as_bytes();
     let at = caret::place(sizes, refusal.kind, line, true);
     let advice = match refusal.kind {
-        Kind::Form => misfit::CHAIN,
+        Kind::Form => &misfit::chain_advice(line),
         Kind::FieldKind => kind_advice(line, at),
         kind => &advice(kind, sizes),
     };
@@ -106,9 +157,9 @@ pub fn reading(register: &Register, chain: &str, record: usize, refusal: Refusal
         line,
         at,
     };
-    // A chain has no lines to count.
+    // A chain has one line, and people need not be told so.
     let refusal = Refusal { line: 0, ..refusal };
-    refused("the chain", refusal, Some(place), advice)
+    refused("the chain", refusal, Some(place), advice).failure()
 }
 
 /// A step that is not there.
@@ -118,7 +169,7 @@ pub fn step(step: usize, steps: usize, refusal: Refusal) -> Failure {
         1 => "The text has one step, number 1.".to_owned(),
         steps => format!("The text has the steps 1 to {steps}."),
     };
-    refused(&format!("step {step}"), refusal, None, &advice)
+    refused(&format!("step {step}"), refusal, None, &advice).failure()
 }
 
 /// A run that was stopped, with what programs are told of it.
@@ -155,17 +206,18 @@ fn records(sizes: Sizes) -> String {
     }
 }
 
-/// The failure, for people and for programs.
-fn refused(name: &str, refusal: Refusal, place: Option<Place<'_>>, advice: &str) -> Failure {
+/// The refusal, for people and for programs.
+fn refused(name: &str, refusal: Refusal, place: Option<Place<'_>>, advice: &str) -> Explained {
     let column = place.map(|place| place.at + 1);
-    let json = json::object(&[
+    let line = place.map_or(refusal.line, |place| place.number);
+    let members = vec![
         ("refused", refusal.number().to_string()),
-        ("line", refusal.line.to_string()),
+        ("line", line.to_string()),
         ("column", json::option(column)),
         ("meaning", json::string(refusal.kind.meaning())),
-    ]);
+    ];
     let told = told(name, refusal, place, advice);
-    Failure::Refused { told, json }
+    Explained { told, members }
 }
 
 /// What is refused and why, the line with a caret, and what to do.

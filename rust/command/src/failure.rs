@@ -1,5 +1,6 @@
 //! Why a command gives no result, and the exit status that says so.
 
+use crate::oneline::escaped;
 use std::fmt;
 use std::io;
 use std::path::Path;
@@ -39,7 +40,8 @@ impl Failure {
             io::ErrorKind::StorageFull => "the disk is full".to_owned(),
             _ => error.to_string(),
         };
-        Failure::File(format!("cannot {doing} {}: {why}", path.display()))
+        let path = escaped(&path.to_string_lossy());
+        Failure::File(format!("cannot {doing} {path}: {why}"))
     }
 }
 

@@ -6,12 +6,14 @@ use plot::{Kind, Sizes};
 const HEADER: usize = 12;
 const VALUE_BYTES: usize = 4;
 const CELL_BYTES: u64 = 5;
+/// The bytes of the largest register file.
+pub const MOST_BYTES: usize = HEADER + CELL_BYTES as usize * 4096 * 16;
 
 /// What to do about a file that is refused, with the place where there is one.
 pub fn told(kind: Kind, bytes: &[u8]) -> String {
     let said = match (kind, Sizes::in_header(bytes)) {
-        (Kind::FileLength, None) => Some(format!("It has {} bytes.", bytes.len())),
-        (Kind::FileLength, Some(sizes)) => Some(length(sizes, bytes.len())),
+        (Kind::FileLength, None) => Some(format!("It has {}.", length_of(bytes))),
+        (Kind::FileLength, Some(sizes)) => Some(length(sizes, bytes)),
         (Kind::Size, Some([n, r, m])) => Some(format!(
             "Its sizes say {n} records, {r} reference fields and {m} measure fields."
         )),
@@ -22,10 +24,19 @@ pub fn told(kind: Kind, bytes: &[u8]) -> String {
     said + kind.advice()
 }
 
-fn length([n, r, m]: [u32; 3], bytes: usize) -> String {
+fn length([n, r, m]: [u32; 3], bytes: &[u8]) -> String {
     let cells = u64::from(n) * (u64::from(r) + u64::from(m));
     let asked = HEADER as u64 + CELL_BYTES * cells;
-    format!("It has {bytes} bytes, and its sizes (n {n}, r {r}, m {m}) ask for {asked}.")
+    let has = length_of(bytes);
+    format!("It has {has}, and its sizes (n {n}, r {r}, m {m}) ask for {asked}.")
+}
+
+/// How long a file is; one that is longer than a register can be is not read whole.
+fn length_of(bytes: &[u8]) -> String {
+    match bytes.len() > MOST_BYTES {
+        true => format!("more than {MOST_BYTES} bytes"),
+        false => format!("{} bytes", bytes.len()),
+    }
 }
 
 /// The first cell that is wrong.

@@ -1,8 +1,10 @@
 //! The unfilled cells of a register, as a grid.
 
 use crate::json;
+use crate::names::Names;
 use crate::style::{Look, Style};
 use plot::{Cell, Register};
+use std::ops::Range;
 
 /// The records that stand side by side in a grid.
 const ACROSS: usize = 60;
@@ -22,51 +24,57 @@ pub fn is_gap(register: &Register, record: usize, field: char) -> bool {
     register.cell(record, field) == Some(Cell::Unfilled)
 }
 
-/// A grid of fields and records: a point where a cell is filled, # where it is not.
-pub fn grid(register: &Register, style: Style) -> String {
+/// What the signs of a grid mean.
+const LEGEND: &str = ". measured  ~ worked out  # unfilled\n";
+
+/// A grid of fields and records: a point where a cell is measured, ~ where it is worked
+/// out, # where it is unfilled.
+pub fn grid(register: &Register, names: &Names, style: Style) -> String {
     let records = register.sizes().records;
     let starts = (0..records).step_by(ACROSS);
-    let blocks = starts.map(|start| block(register, start, records.min(start + ACROSS), style));
-    blocks.collect()
+    let grid = starts.map(|start| {
+        let records = start..records.min(start + ACROSS);
+        block(register, names, records, style)
+    });
+    let grid: String = grid.collect();
+    grid + LEGEND
 }
 
-/// The part of the grid for the records from `start` on, before `end`.
-fn block(register: &Register, start: usize, end: usize, style: Style) -> String {
-    let title = format!("records {start} to {}", end - 1);
-    let fields = register.sizes().fields();
-    let lines: Vec<(bool, String)> = fields
-        .map(|field| line(register, field, start..end, style))
-        .collect();
-    if !lines.iter().any(|(gaps, _)| *gaps) {
+/// The part of the grid for these records.
+fn block(register: &Register, names: &Names, records: Range<usize>, style: Style) -> String {
+    let title = format!("records {} to {}", records.start, records.end - 1);
+    let fields = || register.sizes().fields();
+    let has_gap = |field| records.clone().any(|u| is_gap(register, u, field));
+    if !fields().any(has_gap) {
         return format!("{title}: no gap\n");
     }
-    let lines: String = lines.into_iter().map(|(_, line)| line).collect();
-    format!("{title}\n     {}\n{lines}", ruler(end - start))
+    let lines = fields().map(|field| {
+        let line = line(register, field, records.clone(), style);
+        let name = names
+            .name(field)
+            .map_or(String::new(), |name| format!("  {name}"));
+        format!("  {field}  {line}{name}\n")
+    });
+    let lines: String = lines.collect();
+    format!("{title}\n     {}\n{lines}", ruler(records.len()))
 }
 
-/// Whether a field has a gap in these records, and its line of the grid.
-fn line(
-    register: &Register,
-    field: char,
-    records: std::ops::Range<usize>,
-    style: Style,
-) -> (bool, String) {
-    let gaps: Vec<bool> = records.map(|u| is_gap(register, u, field)).collect();
-    let count = gaps.iter().filter(|gap| **gap).count();
-    let cells = gaps.iter().enumerate().map(|(place, gap)| {
-        let space = if place > 0 && place % 10 == 0 {
-            " "
-        } else {
-            ""
+/// The cells of a field in these records, and the number of its gaps.
+fn line(register: &Register, field: char, records: Range<usize>, style: Style) -> String {
+    let mut line = String::new();
+    for record in records.clone() {
+        let place = record - records.start;
+        if place > 0 && place.is_multiple_of(10) {
+            line.push(' ');
+        }
+        line += &match register.cell(record, field) {
+            Some(Cell::Unfilled) => style.paint(Look::Wrong, "#"),
+            Some(Cell::WorkedOut(_)) => style.paint(Look::New, "~"),
+            _ => ".".to_owned(),
         };
-        let cell = match gap {
-            true => style.paint(Look::Wrong, "#"),
-            false => ".".to_owned(),
-        };
-        format!("{space}{cell}")
-    });
-    let cells: String = cells.collect();
-    (count > 0, format!("  {field}  {cells}  {count}\n"))
+    }
+    let gaps = records.filter(|&u| is_gap(register, u, field)).count();
+    format!("{line}  {gaps}")
 }
 
 /// The last digits of the record numbers, ten by ten.
@@ -79,10 +87,8 @@ fn ruler(length: usize) -> String {
 }
 
 /// The unfilled cells, for programs.
-pub fn json(register: &Register) -> String {
-    let gaps = all(register).map(|(record, field)| {
-        let field = json::string(&field.to_string());
-        json::object(&[("record", record.to_string()), ("field", field)])
-    });
+pub fn json(register: &Register, names: &Names) -> String {
+    let gaps =
+        all(register).map(|(record, field)| json::object(&names.cell_members(record, field)));
     json::object(&[("unfilled", json::list(gaps))]) + "\n"
 }

@@ -4,29 +4,59 @@
 mod arguments;
 mod arrows;
 mod caret;
+mod causes;
 mod check;
 mod commands;
+mod completion;
+mod csv;
+mod diff;
+mod draft;
 mod explain;
 mod failure;
+mod faults;
 mod faulty;
 mod files;
+mod further;
 mod gaps;
 mod gaps_svg;
+mod help;
 mod inspect;
 mod json;
+mod leftovers;
+mod man;
+mod meaning;
 mod misfit;
+mod names;
+mod names_file;
+mod nearest;
+mod oneline;
 mod pack;
+mod page;
+mod page_run;
 mod plan;
 mod plan_svg;
 mod pointer;
 mod read;
+mod readings;
+mod records;
+mod remote;
+mod report;
 mod run;
 mod scan;
+mod selection;
+mod set;
 mod sheet;
 mod show;
+mod steps;
+mod stopping;
+mod stops;
 mod style;
 mod svg;
 mod table;
+mod trace;
+mod walk;
+mod why;
+mod why_rules;
 
 use commands::Outcome;
 use failure::Failure;
@@ -60,7 +90,7 @@ fn work() -> ExitCode {
         Err(word) => Err(Failure::Usage(format!("{word:?} is not valid UTF-8"))),
     };
     match done.and_then(told) {
-        Ok(()) => ExitCode::SUCCESS,
+        Ok(status) => ExitCode::from(status),
         Err(failure) => {
             let _ = writeln!(io::stderr(), "plot: {failure}");
             ExitCode::from(failure.status())
@@ -68,14 +98,14 @@ fn work() -> ExitCode {
     }
 }
 
-/// Writes what a command has to say.
-fn told(outcome: Outcome) -> Result<(), Failure> {
+/// Writes what a command has to say: the exit status.
+fn told(outcome: Outcome) -> Result<u8, Failure> {
     let _ = io::stderr().write_all(outcome.note.as_bytes());
     let mut out = io::stdout().lock();
     match out.write_all(&outcome.out).and_then(|()| out.flush()) {
         // Who reads has had enough.
-        Err(error) if error.kind() == ErrorKind::BrokenPipe => Ok(()),
+        Err(error) if error.kind() == ErrorKind::BrokenPipe => Ok(outcome.status),
         Err(error) => Err(Failure::file("write", Path::new("standard output"), &error)),
-        Ok(()) => outcome.failure.map_or(Ok(()), Err),
+        Ok(()) => outcome.failure.map_or(Ok(outcome.status), Err),
     }
 }

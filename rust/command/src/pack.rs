@@ -4,8 +4,10 @@ use crate::arguments::{Arguments, Form};
 use crate::commands::{Command, Outcome};
 use crate::failure::Failure;
 use crate::files::{self, STANDARD};
-use crate::sheet::{self, Fault};
-use crate::{explain, json, show};
+use crate::names_file::{self, Destination, NAMES, NO_NAMES};
+use crate::oneline::escaped;
+use crate::sheet::{self, Places, Sheet};
+use crate::{explain, faults, json, show};
 use plot::Register;
 
 /// The command `plot pack`.
@@ -13,22 +15,10 @@ pub const PACK: Command = Command {
     name: "pack",
     form: Form {
         operands: &["SHEET.csv"],
-        flags: &["--json"],
-        valued: &["-o"],
+        flags: &["--json", NO_NAMES],
+        valued: &["-o", "--delimiter", NAMES],
     },
-    help: "\
-plot pack SHEET.csv -o REGISTER [--json]
-
-Makes a register of a sheet of comma-separated values. The first row has the letters
-of the fields: A, B, .. for references, then M, N, .. for measures. Each further row
-is a record, the first one record 0. A reference is the number of a record, a measure
-a whole number of centimetres; ~ stands behind a value that a rule has worked out, and
-an empty cell is unfilled. Every cell that is wrong is told with its row and column,
-and then nothing is written.
-
-  -o REGISTER  the file to write, - for standard output
-  --json       for programs: what is wrong, by row and column
-",
+    help: include_str!("../help/pack.txt"),
     run: pack,
 };
 
@@ -37,64 +27,92 @@ pub const UNPACK: Command = Command {
     name: "unpack",
     form: Form {
         operands: &["REGISTER"],
-        flags: &[],
-        valued: &["-o"],
+        flags: &["--json", NO_NAMES],
+        valued: &["-o", "--delimiter", NAMES],
     },
-    help: "\
-plot unpack REGISTER [-o SHEET.csv]
-
-Writes a register as a sheet of comma-separated values, as `plot pack` takes it: a
-header row of field letters, then a row for each record, ~ behind a value that a rule
-has worked out, and an empty cell where a cell is unfilled.
-
-  -o SHEET.csv  the file to write; without it, or for -, standard output
-",
+    help: include_str!("../help/unpack.txt"),
     run: unpack,
 };
 
 fn pack(arguments: &Arguments) -> Result<Outcome, Failure> {
     let output = arguments.output("-o")?;
     let output = output.ok_or_else(|| Failure::Usage("-o REGISTER is missing".to_owned()))?;
+    let delimiter = delimiter(arguments)?;
+    let destination = Destination::told(arguments, output)?;
     let name = arguments.operand(0);
-    let sheet = sheet::read(&files::read(name)?);
+    let bytes = sheet_bytes(name)?;
     let name = files::shown(name);
-    let (sizes, cells) = sheet.map_err(|faults| refused(name, &faults))?;
-    let register = Register::from_cells(sizes, &cells)
-        .map_err(|refusal| explain::register(name, &[], refusal))?;
-    let mut outcome = files::outcome(output, register.as_bytes().to_vec())?;
-    if output != STANDARD && !arguments.has("--json") {
-        let told = format!("wrote {output}: {}\n", show::summary(&register));
-        outcome.out = told.into_bytes();
+    let sheet = sheet::read(&bytes, delimiter)
+        .map_err(|faults| faults::refused(&name, &faults, "and nothing is written"))?;
+    let register = Register::from_cells(sheet.sizes, &sheet.cells)
+        .map_err(|refusal| explain::register(&name, &[], refusal))?;
+    let report = match arguments.has("--json") {
+        true => packed_json(output, &register),
+        false => format!("wrote {}: {}\n", escaped(output), show::summary(&register)),
+    };
+    let mut outcome = files::delivered(output, register.as_bytes().to_vec(), report)?;
+    outcome.note += &destination.lack(arguments, &sheet.names);
+    let named = destination.write(&sheet.names, sheet.sizes)?;
+    if !files::is_standard_output(output) && !arguments.has("--json") {
+        outcome
+            .out
+            .extend((named + &units_told(&sheet)).into_bytes());
     }
     Ok(outcome)
 }
 
 fn unpack(arguments: &Arguments) -> Result<Outcome, Failure> {
     let output = arguments.output("-o")?.unwrap_or(STANDARD);
+    let delimiter = delimiter(arguments)?;
     let register = arguments.register()?;
-    files::outcome(output, sheet::written(&register).into_bytes())
+    let mut names = names_file::of(arguments, &register)?;
+    names.delimiter = delimiter.or(names.delimiter);
+    let sheet = sheet::written(&register, &names, &Places::new());
+    files::delivered_plainly(output, sheet.into_bytes(), arguments.has("--json"))
 }
 
-/// A sheet that is no register: a line for each thing that is wrong.
-fn refused(name: &str, faults: &[Fault]) -> Failure {
-    let count = show::counted(faults.len(), "thing");
-    let verb = if faults.len() == 1 { "is" } else { "are" };
-    let lines = faults.iter().map(|fault| {
-        let column = fault
-            .column
-            .map_or(String::new(), |column| format!(", column {column}"));
-        format!("\n  row {}{column}: {}", fault.row, fault.wrong)
-    });
-    let lines: String = lines.collect();
-    let json = faults.iter().map(|fault| {
-        json::object(&[
-            ("row", fault.row.to_string()),
-            ("column", json::option(fault.column)),
-            ("wrong", json::string(&fault.wrong)),
-        ])
-    });
+/// The register that is written, for programs.
+fn packed_json(output: &str, register: &Register) -> String {
+    let wrote = files::wrote(output, register.as_bytes());
+    json::object(&[&wrote[..], &show::summary_members(register)].concat()) + "\n"
+}
+
+/// A line for each field in which some measures are metres and some are centimetres,
+/// for a spreadsheet may have cut 2.00 to 2.
+fn units_told(sheet: &Sheet) -> String {
+    let line = |(field, row): &(char, usize)| {
+        let field = sheet.names.field(*field);
+        format!("{field} has metres, and centimetres in row {row}: is that meant?\n")
+    };
+    sheet.mixed.iter().map(line).collect()
+}
+
+/// The delimiter that is asked for.
+fn delimiter(arguments: &Arguments) -> Result<Option<char>, Failure> {
+    let word = arguments.value("--delimiter");
+    let delimiter = word.map(names_file::delimiter).transpose();
+    delimiter.map_err(Failure::Usage)
+}
+
+/// The bytes of a sheet; a file that is too long for one is not read.
+fn sheet_bytes(name: &str) -> Result<Vec<u8>, Failure> {
+    let size = files::size(name).filter(|_| name != STANDARD);
+    if size.is_some_and(|size| size > sheet::MOST_BYTES as u64) {
+        return Err(too_long(name));
+    }
+    let bytes = files::read(name, sheet::MOST_BYTES)?;
+    match bytes.len() > sheet::MOST_BYTES {
+        true => Err(too_long(name)),
+        false => Ok(bytes),
+    }
+}
+
+fn too_long(name: &str) -> Failure {
+    let most = sheet::MOST_BYTES;
+    let wrong = format!("it has more than {most} bytes, and the largest sheet has fewer");
+    let name = files::shown(name);
     Failure::Refused {
-        told: format!("{name}: {count} {verb} wrong, and nothing is written{lines}"),
-        json: json::object(&[("faults", json::list(json))]),
+        told: format!("{name}: {wrong}. Is it another file?"),
+        json: json::object(&[("wrong", json::string(&wrong))]),
     }
 }

@@ -4,10 +4,12 @@ use crate::arguments::{Arguments, Form};
 use crate::check::{checked, plans};
 use crate::commands::{Command, Outcome};
 use crate::failure::Failure;
+use crate::names_file::{self, NAMES, NO_NAMES};
+use crate::remote::{self, Write};
 use crate::show::counted;
 use crate::style::Style;
 use crate::table::Table;
-use crate::{explain, files, json, plan_svg};
+use crate::{explain, files, json, plan_svg, steps};
 use plot::{Line, LineKind, Plan, Text};
 use std::io;
 
@@ -16,57 +18,70 @@ pub const COMMAND: Command = Command {
     name: "plan",
     form: Form {
         operands: &["REGISTER", "RULES", "[STEP]"],
-        flags: &["--json"],
-        valued: &["--svg"],
+        flags: &["--json", NO_NAMES],
+        valued: &["--svg", NAMES],
     },
-    help: "\
-plot plan REGISTER RULES [STEP] [--svg FILE] [--json]
-
-Shows how the records get what a step reads: the lines of its plan, each with the
-round in which its messages are sent, who writes, who gets them, and what they
-carry. Without STEP it shows all steps; they count from 1.
-
-  --svg FILE  a picture: the records of each chain in a row, and the messages as
-              arrows, round by round
-  --json      for programs: the steps with their lines
-",
+    help: include_str!("../help/plan.txt"),
     run: plan,
 };
 
-/// A step's number and its plan.
-pub type Numbered = (usize, Plan);
+/// A step's number, its plan and its remote writes.
+pub struct Planned {
+    /// The number, from 1.
+    pub step: usize,
+    /// The plan.
+    pub plan: Plan,
+    /// The remote rules, whose messages are the last exchange.
+    pub writes: Vec<Write>,
+}
 
 fn plan(arguments: &Arguments) -> Result<Outcome, Failure> {
     let svg = arguments.output("--svg")?;
     let step = arguments.number(2, "STEP")?;
     let register = arguments.register()?;
-    let (name, text) = arguments.rules()?;
-    let text = checked(&register, name, &text)?;
-    let plans = wanted(&text, step)?;
+    let legend = names_file::of(arguments, &register)?.legend();
+    let (name, bytes) = arguments.rules()?;
+    let text = checked(&register, &name, &bytes)?;
+    let plans = wanted(&text, &bytes, step)?;
     if let Some(name) = svg {
-        return files::outcome(name, plan_svg::picture(&plans).into_bytes());
+        let picture = plan_svg::picture(&plans, legend.as_deref()).into_bytes();
+        return files::delivered_plainly(name, picture, arguments.has("--json"));
     }
     let style = Style::of(&io::stdout());
+    let legend = legend.map(|legend| legend + "\n");
     let shown = match arguments.has("--json") {
         true => json(&plans),
-        false => plans
-            .iter()
-            .map(|(step, plan)| told(*step, plan, style))
-            .collect(),
+        false => {
+            let plans = plans.iter().map(|planned| told(planned, style));
+            plans.chain(legend).collect()
+        }
     };
     Ok(shown.into())
 }
 
 /// The plans of all steps, or of the one that is asked for.
-fn wanted(text: &Text<'_>, step: Option<usize>) -> Result<Vec<Numbered>, Failure> {
-    match step {
-        None => Ok((1..).zip(plans(text)).collect()),
-        Some(step) => {
-            let plan = text.plan(step);
-            let plan = plan.map_err(|refusal| explain::step(step, text.steps(), refusal))?;
-            Ok(vec![(step, plan)])
-        }
-    }
+fn wanted(text: &Text<'_>, bytes: &[u8], step: Option<usize>) -> Result<Vec<Planned>, Failure> {
+    let Some(step) = step else {
+        return Ok(all(text, bytes));
+    };
+    let plan = text.plan(step);
+    let plan = plan.map_err(|refusal| explain::step(step, text.steps(), refusal))?;
+    let writes = remote::writes(&steps::steps(bytes)[step - 1]);
+    Ok(vec![Planned { step, plan, writes }])
+}
+
+/// The plans of all steps of a text, whose bytes these are.
+pub fn all(text: &Text<'_>, bytes: &[u8]) -> Vec<Planned> {
+    let steps = steps::steps(bytes);
+    let planned = plans(text)
+        .into_iter()
+        .zip(&steps)
+        .map(|(plan, step)| Planned {
+            step: step.number,
+            plan,
+            writes: remote::writes(step),
+        });
+    planned.collect()
 }
 
 /// A step in a sentence.
@@ -83,9 +98,10 @@ pub fn summary(step: usize, plan: &Plan) -> String {
     )
 }
 
-fn told(step: usize, plan: &Plan, style: Style) -> String {
-    let told = summary(step, plan) + "\n";
-    if plan.lines.is_empty() {
+fn told(planned: &Planned, style: Style) -> String {
+    let Planned { step, plan, writes } = planned;
+    let told = summary(*step, plan) + "\n";
+    if plan.lines.is_empty() && writes.is_empty() {
         return told;
     }
     let mut table = Table::new([">line", "kind", "chain", ">round", "from", "to", "carries"]);
@@ -100,6 +116,17 @@ fn told(step: usize, plan: &Plan, style: Style) -> String {
             carried(line),
         ]);
     }
+    for write in writes {
+        table.plain([
+            "-".to_owned(),
+            "remote".to_owned(),
+            format!("{} {}", write.chain(), write.sign),
+            plan.exchanges().to_string(),
+            "u".to_owned(),
+            write.target.clone(),
+            write.amount.clone(),
+        ]);
+    }
     told + &table.print(style)
 }
 
@@ -111,21 +138,39 @@ fn carried(line: &Line) -> String {
     }
 }
 
-fn json(plans: &[Numbered]) -> String {
-    let line = |line: &Line| {
-        json::object(&[
-            ("kind", json::string(&line.kind.to_string())),
-            ("chain", json::string(&line.chain())),
-            ("round", line.round.to_string()),
-        ])
-    };
-    let steps = plans.iter().map(|(step, plan)| {
+fn json(plans: &[Planned]) -> String {
+    let steps = plans.iter().map(|Planned { step, plan, writes }| {
+        let round = plan.exchanges();
+        let writes = writes.iter().map(|write| write_json(write, round));
         json::object(&[
             ("step", step.to_string()),
-            ("lines", json::list(plan.lines.iter().map(line))),
+            ("lines", json::list(plan.lines.iter().map(line_json))),
             ("exchanges", plan.exchanges().to_string()),
             ("remote", plan.remote.to_string()),
+            ("writes", json::list(writes)),
         ])
     });
     json::object(&[("steps", json::list(steps))]) + "\n"
+}
+
+fn line_json(line: &Line) -> String {
+    json::object(&[
+        ("kind", json::string(&line.kind.to_string())),
+        ("chain", json::string(&line.chain())),
+        ("round", line.round.to_string()),
+        ("from", json::string(&line.writer())),
+        ("to", json::string(&line.addressee())),
+    ])
+}
+
+fn write_json(write: &Write, round: u8) -> String {
+    json::object(&[
+        ("chain", json::string(&write.chain())),
+        ("sign", json::string(write.sign)),
+        ("round", round.to_string()),
+        ("from", json::string("u")),
+        ("to", json::string(&write.target)),
+        ("carries", json::string(&write.amount)),
+        ("test", json::string(write.test.trim_end())),
+    ])
 }

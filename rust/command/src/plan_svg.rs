@@ -2,7 +2,8 @@
 //! them the messages as arrows, round by round.
 
 use crate::arrows::{self, Arrow, Round, name};
-use crate::plan::{Numbered, summary};
+use crate::plan::{Planned, summary};
+use crate::remote::Write;
 use crate::svg::{Anchor, Picture, colour};
 use plot::{Line, Plan};
 
@@ -16,20 +17,24 @@ const TITLE: usize = 30;
 const RECORDS: usize = 32;
 const MESSAGE: usize = 28;
 
-/// A picture of the plans of some steps.
-pub fn picture(plans: &[Numbered]) -> String {
+/// A picture of the plans of some steps, with a line about the fields if there is one.
+pub fn picture(plans: &[Planned], legend: Option<&str>) -> String {
     let mut picture = Picture::default();
     let mut y = EDGE;
-    for (step, plan) in plans {
-        y = step_picture(&mut picture, y, *step, plan) + EDGE;
+    for planned in plans {
+        y = step_picture(&mut picture, y, planned) + EDGE;
+    }
+    if let Some(legend) = legend {
+        y = note(&mut picture, y, legend);
     }
     picture.reach(360, y);
     picture.print("plan")
 }
 
 /// Draws a step from this height on: the height behind it.
-fn step_picture(picture: &mut Picture, y: usize, step: usize, plan: &Plan) -> usize {
-    let title = summary(step, plan);
+fn step_picture(picture: &mut Picture, y: usize, planned: &Planned) -> usize {
+    let Planned { step, plan, writes } = planned;
+    let title = summary(*step, plan);
     picture.text((EDGE, y + 18), Anchor::Start, (17, colour::INK), &title);
     picture.reach(2 * EDGE + 10 * title.len(), y);
     let mut y = y + TITLE;
@@ -40,14 +45,58 @@ fn step_picture(picture: &mut Picture, y: usize, step: usize, plan: &Plan) -> us
     for reading in arrows::readings(plan) {
         y = panel(picture, y, plan, reading) + EDGE;
     }
-    match plan.remote {
-        true => note(
-            picture,
-            y,
-            &format!("exchange {}: the remote writes", plan.exchanges()),
-        ),
-        false => y,
+    if plan.remote {
+        let title = format!("exchange {}: the remote writes", plan.exchanges());
+        y = note(picture, y, &title);
     }
+    for write in writes {
+        y = write_panel(picture, y, write, plan.exchanges()) + EDGE;
+    }
+    y
+}
+
+/// A title, cut where it is too long for a picture.
+fn shortened(title: String) -> String {
+    match title.char_indices().nth(120) {
+        Some((end, _)) => format!("{}...", &title[..end]),
+        None => title,
+    }
+}
+
+/// Draws a remote write from this height on, its message dashed: the height behind it.
+fn write_panel(picture: &mut Picture, y: usize, write: &Write, exchange: u8) -> usize {
+    let title = shortened(format!("{}{}", write.test, write.action()));
+    picture.text((EDGE, y + 14), Anchor::Start, (14, colour::INK), &title);
+    let letters = write.letters();
+    let right = x_of(letters.len()) + GAP / 2;
+    picture.reach(right.max(2 * EDGE + 9 * title.chars().count()), y);
+    let records = y + TITLE + 16;
+    let (first, bottom) = (records + RECORDS, records + RECORDS + MESSAGE + 8);
+    for x in (0..letters.len()).map(x_of) {
+        picture.line((x, records), (x, bottom), colour::GUIDE, "1");
+    }
+    chain_row(picture, records, &letters);
+    picture.line((EDGE, first), (right, first), colour::GUIDE, "1");
+    let level = first + 20;
+    picture.text((EDGE, level), Anchor::Start, (12, colour::REMOTE), "remote");
+    let (from, to) = (x_of(0), x_of(letters.len() - 1));
+    picture.open_round(exchange);
+    picture.circle((from, level), 3, colour::REMOTE, colour::REMOTE);
+    let (text, middle) = match from == to {
+        true => ("to itself", from + GAP / 2),
+        false => ("what it writes", (from + to) / 2),
+    };
+    if from != to {
+        picture.dashed_arrow(level, from, to, colour::REMOTE);
+    }
+    picture.text(
+        (middle, level - 6),
+        Anchor::Middle,
+        (11, colour::REMOTE),
+        text,
+    );
+    picture.close();
+    bottom
 }
 
 fn note(picture: &mut Picture, y: usize, text: &str) -> usize {
@@ -113,12 +162,14 @@ fn messages(picture: &mut Picture, top: usize, right: usize, rounds: &[Round]) {
         let label = format!("round {number}");
         picture.text((EDGE, y + 20), Anchor::Start, (12, paint), &label);
         picture.line((EDGE, y), (right, y), colour::GUIDE, "1");
+        picture.open_round(*number);
         for level in levels {
             for arrow in level {
                 message(picture, y + 20, paint, arrow);
             }
             y += MESSAGE;
         }
+        picture.close();
     }
 }
 

@@ -1,5 +1,6 @@
 //! A line with a caret under a place of it.
 
+use crate::oneline::escaped;
 use crate::style::{Look, Style};
 
 /// The most characters that are shown before the place, and from it on.
@@ -47,10 +48,5 @@ fn shortened(text: &str) -> String {
 
 /// Bytes as characters of a terminal.
 fn readable(bytes: &[u8]) -> String {
-    let text = String::from_utf8_lossy(bytes);
-    let escaped = text.chars().map(|character| match character.is_control() {
-        true => character.escape_default().to_string(),
-        false => character.to_string(),
-    });
-    escaped.collect()
+    escaped(&String::from_utf8_lossy(bytes))
 }

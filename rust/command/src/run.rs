@@ -4,11 +4,14 @@ use crate::arguments::{self, Arguments, Form};
 use crate::commands::{Command, Outcome};
 use crate::failure::Failure;
 use crate::files::{self, STANDARD};
+use crate::names::{Names, is_worked_out};
+use crate::names_file::{self, Destination, NAMES, NO_NAMES};
 use crate::show::{self, counted};
 use crate::style::{Look, Style};
 use crate::table::Table;
-use crate::{explain, json};
-use plot::{Cell, End, Machine, Register, Run};
+use crate::walk::Row;
+use crate::{explain, json, trace};
+use plot::{Cell, End, Kind, Machine, Register, Run};
 use std::io;
 
 /// The command.
@@ -16,26 +19,10 @@ pub const COMMAND: Command = Command {
     name: "run",
     form: Form {
         operands: &["REGISTER", "RULES"],
-        flags: &["--direct", "--in-place", "--json"],
-        valued: &["-o", "--budget"],
+        flags: &["--direct", "--in-place", "--trace", "--json", NO_NAMES],
+        valued: &["-o", "--budget", NAMES],
     },
-    help: "\
-plot run REGISTER RULES [-o OUT | --in-place] [--direct] [--budget N] [--json]
-
-Runs a rules text over a register by messages between the records, and tells the
-finished steps, the exchanges, the messages, and which cells have changed. The
-register itself stays as it is unless --in-place is given.
-
-  -o OUT      writes the register at the end to OUT, which is not REGISTER itself;
-              - is standard output, and the report then goes to standard error
-  --in-place  writes it over REGISTER; the old one stays until the new is complete
-  --direct    follows references instead: the same register, no messages to count
-  --budget N  at most N steps, 0 to 65535; without it 1000
-  --json      for programs: the counts and the changed cells
-
-A run that is stopped, with its budget spent (20) or at a sum out of range (21),
-writes no register and has exit status 1.
-",
+    help: include_str!("../help/run.txt"),
     run,
 };
 
@@ -44,28 +31,44 @@ const BUDGET: u16 = 1000;
 
 fn run(arguments: &Arguments) -> Result<Outcome, Failure> {
     let output = output(arguments)?;
-    let budget = arguments.value("--budget");
-    let budget = budget.map_or(Ok(BUDGET), |word| arguments::number("--budget", word))?;
+    let budget = budget(arguments)?;
     let machine = match arguments.has("--direct") {
         true => Machine::Direct,
         false => Machine::Messages,
     };
     let register = arguments.register()?;
+    let names = names_file::of(arguments, &register)?;
+    let destination = Destination::of_copy(arguments)?;
     let (name, text) = arguments.rules()?;
     let run = register.run(&text, machine, budget);
-    let run = run.map_err(|refusal| explain::rules(name, register.sizes(), &text, refusal))?;
+    let run = run.map_err(|refusal| explain::rules(&name, register.sizes(), &text, refusal))?;
+    let rows = arguments
+        .has("--trace")
+        .then(|| trace::rows(&register, &text, machine, budget, &run));
     if run.end != End::Whole {
-        return Err(stopped(name, machine, budget, &run));
+        return stopped(&name, machine, budget, &names, &run, rows.as_deref());
     }
     let report = match arguments.has("--json") {
-        true => json(&register, machine, &run),
-        false => told(&register, machine, &run, output),
+        true => json(&register, machine, &names, &run, rows.as_deref()),
+        false => told(&register, machine, &names, &run, rows.as_deref(), output),
     };
-    written(output, report, run)
+    let Some(output) = output else {
+        return Ok(report.into());
+    };
+    let outcome = files::delivered(output, run.register.as_bytes().to_vec(), report)?;
+    // The names go with the register.
+    destination.write(&names, register.sizes())?;
+    Ok(outcome)
+}
+
+/// The most steps of a run.
+pub fn budget(arguments: &Arguments) -> Result<u16, Failure> {
+    let budget = arguments.value("--budget");
+    budget.map_or(Ok(BUDGET), |word| arguments::number("--budget", word))
 }
 
 /// The file to write, if one is asked for.
-fn output(arguments: &Arguments) -> Result<Option<&str>, Failure> {
+pub fn output(arguments: &Arguments) -> Result<Option<&str>, Failure> {
     let output = arguments.output("-o")?;
     match (arguments.has("--in-place"), output, arguments.operand(0)) {
         (false, output, _) => Ok(output),
@@ -79,24 +82,8 @@ fn output(arguments: &Arguments) -> Result<Option<&str>, Failure> {
     }
 }
 
-/// Writes the register, and then the report.
-fn written(output: Option<&str>, report: String, run: Run) -> Result<Outcome, Failure> {
-    match output {
-        None => Ok(report.into()),
-        Some(STANDARD) => Ok(Outcome {
-            out: run.register.as_bytes().to_vec(),
-            note: report,
-            failure: None,
-        }),
-        Some(name) => {
-            files::write(name, run.register.as_bytes())?;
-            Ok(report.into())
-        }
-    }
-}
-
 /// What a run took.
-fn counts(machine: Machine, run: &Run) -> String {
+pub fn counts(machine: Machine, run: &Run) -> String {
     let steps = counted(run.finished as usize, "step");
     match machine {
         Machine::Direct => format!("{steps} finished"),
@@ -108,30 +95,69 @@ fn counts(machine: Machine, run: &Run) -> String {
     }
 }
 
-fn stopped(name: &str, machine: Machine, budget: u16, run: &Run) -> Failure {
-    let kind = run.end.refusal().expect("the run is stopped");
+/// A run that is stopped, with the steps that it has finished where they are asked for.
+pub fn stopped(
+    name: &str,
+    machine: Machine,
+    budget: u16,
+    names: &Names,
+    run: &Run,
+    rows: Option<&[Row]>,
+) -> Result<Outcome, Failure> {
+    let advice = match (run.end, budget) {
+        (End::BudgetExhausted, u16::MAX) => {
+            "No budget is larger. Does a loop write its field anew in each pass? Then it does not end."
+        }
+        (end, _) => end.refusal().map_or("", Kind::advice),
+    };
     let place = match run.end {
-        End::OutOfRange { record, field } => format!("Field {field} of record {record}. "),
+        End::OutOfRange { record, field } => {
+            let (field, record) = (names.field(field), names.record(record));
+            format!("Field {field} of {record}. ")
+        }
         _ => format!("The budget is {budget}. "),
     };
     let counts = counts(machine, run);
-    let advice = format!("{place}{counts}. Nothing is written.\n  {}", kind.advice());
-    let (record, field) = match run.end {
+    let advice = format!("{place}{counts}. Nothing is written.\n  {advice}");
+    let trace = rows.map(|rows| ("trace", trace::json(rows, machine)));
+    let failure = refused(name, run.end, run.finished, &advice, trace);
+    let Some(rows) = rows else {
+        return Err(failure);
+    };
+    let table = trace::table(rows, machine, Style::of(&io::stdout()));
+    Ok(Outcome {
+        failure: Some(failure),
+        ..table.into()
+    })
+}
+
+/// The refusal of a run that was stopped, with what more programs are told.
+pub fn refused(
+    name: &str,
+    end: End,
+    finished: u64,
+    advice: &str,
+    further: Option<(&'static str, String)>,
+) -> Failure {
+    let (record, field) = match end {
         End::OutOfRange { record, field } => (Some(record), Some(json::string(&field.to_string()))),
         _ => (None, None),
     };
-    let members = [
-        ("finished", run.finished.to_string()),
+    let mut members = vec![
+        ("finished", finished.to_string()),
         ("record", json::option(record)),
         ("field", json::option(field)),
     ];
-    explain::stopped(name, kind, &advice, &members)
+    members.extend(further);
+    let kind = end.refusal().expect("the run is stopped");
+    explain::stopped(name, kind, advice, &members)
 }
 
 /// A cell that is not as it was.
-type Change = (usize, char, Cell, Cell);
+pub type Change = (usize, char, Cell, Cell);
 
-fn changes(before: &Register, after: &Register) -> Vec<Change> {
+/// The cells that are not as they were.
+pub fn changes(before: &Register, after: &Register) -> Vec<Change> {
     let rows = show::records(before).zip(show::records(after));
     let changes = rows.flat_map(|((record, old), (_, new))| {
         let cells = before.sizes().fields().zip(old.into_iter().zip(new));
@@ -142,51 +168,79 @@ fn changes(before: &Register, after: &Register) -> Vec<Change> {
     changes.collect()
 }
 
-fn told(register: &Register, machine: Machine, run: &Run, output: Option<&str>) -> String {
+fn told(
+    register: &Register,
+    machine: Machine,
+    names: &Names,
+    run: &Run,
+    rows: Option<&[Row]>,
+    output: Option<&str>,
+) -> String {
     let style = match output {
-        Some(STANDARD) => Style::of(&io::stderr()),
+        Some(name) if files::is_standard_output(name) => Style::of(&io::stderr()),
         _ => Style::of(&io::stdout()),
     };
     let changes = changes(register, &run.register);
     let counts = counts(machine, run);
-    let told = format!("{counts}\n{} changed\n", counted(changes.len(), "cell"));
+    let changed = counted(changes.len(), "cell");
+    let table = change_table(&changes, names, style);
+    let rows = rows.map_or(String::new(), |rows| trace::table(rows, machine, style));
+    format!("{counts}\n{rows}{changed} changed\n{table}")
+}
+
+/// Changes as a table; nothing where there are none.
+pub fn change_table(changes: &[Change], names: &Names, style: Style) -> String {
     if changes.is_empty() {
-        return told;
+        return String::new();
     }
-    let mut table = Table::new([">record", "field", ">before", ">after"]);
+    let headings = ["field", ">before", ">after"].map(str::to_owned);
+    let mut table = Table::new(names.record_headings().into_iter().chain(headings));
     for (record, field, before, after) in changes {
         let after_look = match after {
             Cell::Unfilled => Look::Gap,
             _ => Look::New,
         };
-        table.row([
-            (record.to_string(), Look::Plain),
-            (field.to_string(), Look::Plain),
-            (before.to_string(), show::look(before)),
-            (after.to_string(), after_look),
-        ]);
+        let place = names.record_cells(*record).into_iter();
+        let place = place.chain([names.field(*field)]);
+        table.row(place.map(|cell| (cell, Look::Plain)).chain([
+            (names.cell(*field, *before), show::look(*before)),
+            (names.cell(*field, *after), after_look),
+        ]));
     }
-    told + &table.print(style)
+    table.print(style)
 }
 
-fn json(register: &Register, machine: Machine, run: &Run) -> String {
+/// Changes for programs.
+pub fn change_list(changes: &[Change], names: &Names) -> String {
+    json::list(changes.iter().map(|(record, field, before, after)| {
+        let cells = [
+            ("before", json::option(before.value())),
+            ("before_worked_out", is_worked_out(*before).to_string()),
+            ("after", json::option(after.value())),
+            ("after_worked_out", is_worked_out(*after).to_string()),
+        ];
+        json::object(&[names.cell_members(*record, *field), cells.to_vec()].concat())
+    }))
+}
+
+fn json(
+    register: &Register,
+    machine: Machine,
+    names: &Names,
+    run: &Run,
+    rows: Option<&[Row]>,
+) -> String {
     let counted = |number: u64| match machine {
         Machine::Direct => json::option(None::<u64>),
         Machine::Messages => number.to_string(),
     };
-    let changes = changes(register, &run.register);
-    let changes = changes.iter().map(|(record, field, before, after)| {
-        json::object(&[
-            ("record", record.to_string()),
-            ("field", json::string(&field.to_string())),
-            ("before", json::option(before.value())),
-            ("after", json::option(after.value())),
-        ])
-    });
-    json::object(&[
+    let changed = change_list(&changes(register, &run.register), names);
+    let mut members = vec![
         ("finished", run.finished.to_string()),
         ("exchanges", counted(run.exchanges)),
         ("messages", counted(run.messages)),
-        ("changed", json::list(changes)),
-    ]) + "\n"
+        ("changed", changed),
+    ];
+    members.extend(rows.map(|rows| ("trace", trace::json(rows, machine))));
+    json::object(&members) + "\n"
 }

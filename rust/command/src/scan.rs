@@ -158,7 +158,9 @@ impl<'a> Scan<'a> {
 
     fn local(&mut self) -> bool {
         self.written()
-            && ["[", "u", "]", ":="].iter().all(|sign| self.sign(&[sign]))
+            && ["[", "u"].iter().all(|sign| self.sign(&[sign]))
+            && self.closing()
+            && self.sign(&[":="])
             && self.expression()
     }
 
@@ -167,7 +169,7 @@ impl<'a> Scan<'a> {
             && self.written()
             && self.sign(&["["])
             && self.chain(PartSort::Target)
-            && self.sign(&["]"]);
+            && self.closing();
         let sum = self.line.get(self.at) == Some(&b'+');
         begun
             && match sum {
@@ -175,6 +177,12 @@ impl<'a> Scan<'a> {
                 false => self.sign(&["<?=", "+="]),
             }
             && self.expression()
+    }
+
+    /// The square bracket that closes one.
+    fn closing(&mut self) -> bool {
+        let taken = self.sign(&["]"]);
+        self.wants(Wanted::Square, taken)
     }
 
     fn written(&mut self) -> bool {
@@ -221,6 +229,7 @@ impl<'a> Scan<'a> {
     }
 
     fn chain(&mut self, sort: PartSort) -> bool {
+        let mut closing = false;
         let taken = self.part(sort, |scan| {
             let mut depth = 0;
             while scan.capital() {
@@ -230,13 +239,19 @@ impl<'a> Scan<'a> {
                     return false;
                 }
             }
-            scan.any(&["u"])
+            closing = scan.any(&["u"]);
+            closing
                 && (0..depth).all(|_| {
                     scan.spaces();
                     scan.any(&["]"])
                 })
         });
-        self.wants(Wanted::Chain, taken)
+        let wanted = if closing {
+            Wanted::Square
+        } else {
+            Wanted::Chain
+        };
+        self.wants(wanted, taken)
     }
 
     /// Digits, or metres: digits, a point and two digits.

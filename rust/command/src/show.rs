@@ -3,6 +3,9 @@
 use crate::arguments::{Arguments, Form};
 use crate::commands::{Command, Outcome};
 use crate::failure::Failure;
+use crate::names::{Names, is_worked_out};
+use crate::names_file::{self, NAMES, NO_NAMES};
+use crate::selection::Selection;
 use crate::style::{Look, Style};
 use crate::table::Table;
 use crate::{files, gaps, gaps_svg, json};
@@ -14,45 +17,40 @@ pub const COMMAND: Command = Command {
     name: "show",
     form: Form {
         operands: &["REGISTER"],
-        flags: &["--gaps", "--json"],
-        valued: &["--svg"],
+        flags: &["--gaps", "--json", NO_NAMES],
+        valued: &["--svg", "--records", "--fields", NAMES],
     },
-    help: "\
-plot show REGISTER [--gaps] [--svg FILE] [--json]
-
-Shows a register as a table: a row for each record, a column for each field, ~ behind
-a value that a rule has worked out, and - where a cell is unfilled.
-
-  --gaps      a grid that shows only which cells are filled (.) and which are not
-              (#), with the number of gaps behind each line; where 60 records in a
-              row have no gap it says so in one line
-  --svg FILE  the same as a picture
-  --json      for programs: the fields, the cells record by record, null where a
-              cell is unfilled, and which of them are worked out; with --gaps the
-              unfilled cells
-",
+    help: include_str!("../help/show.txt"),
     run: show,
 };
 
 fn show(arguments: &Arguments) -> Result<Outcome, Failure> {
     let svg = arguments.output("--svg")?;
+    if Selection::is_asked_for(arguments) && (svg.is_some() || arguments.has("--gaps")) {
+        let told = "--records and --fields go with the table and with --json only";
+        return Err(Failure::Usage(told.to_owned()));
+    }
     let register = arguments.register()?;
+    let names = names_file::of(arguments, &register)?;
     if let Some(name) = svg {
-        return files::outcome(name, gaps_svg::picture(&register).into_bytes());
+        let picture = gaps_svg::picture(&register, &names).into_bytes();
+        return files::delivered_plainly(name, picture, arguments.has("--json"));
     }
     let style = Style::of(&io::stdout());
+    let selection = Selection::of(arguments, &register)?;
+    let asked_for = Selection::is_asked_for(arguments);
+    let summary = summary(&register);
     let shown = match (arguments.has("--gaps"), arguments.has("--json")) {
-        (false, false) => format!("{}\n{}", summary(&register), table(&register, style)),
-        (false, true) => json(&register),
-        (true, false) => format!("{}\n{}", summary(&register), gaps::grid(&register, style)),
-        (true, true) => gaps::json(&register),
+        (false, false) => format!("{summary}\n{}", table(&selection, &names, style)),
+        (false, true) => json(&selection, &names, asked_for),
+        (true, false) => format!("{summary}\n{}", gaps::grid(&register, &names, style)),
+        (true, true) => gaps::json(&register, &names),
     };
     Ok(shown.into())
 }
 
 /// A register in a sentence.
 pub fn summary(register: &Register) -> String {
-    let sizes = register.sizes();
     let unfilled = gaps::all(register).count();
     let worked_out = records(register).flat_map(|(_, cells)| cells);
     let worked_out = match worked_out.filter(|&cell| is_worked_out(cell)).count() {
@@ -60,17 +58,37 @@ pub fn summary(register: &Register) -> String {
         worked_out => format!(", {worked_out} worked out"),
     };
     format!(
-        "{}, {}, {}, {unfilled} of {} unfilled{worked_out}",
-        counted(sizes.records, "record"),
-        counted(sizes.references, "reference field"),
-        counted(sizes.measures, "measure field"),
-        counted(sizes.cells(), "cell"),
+        "{}, {unfilled} of {} unfilled{worked_out}",
+        sizes(register.sizes()),
+        counted(register.sizes().cells(), "cell"),
     )
 }
 
-/// Whether a rule has worked a cell's value out.
-pub fn is_worked_out(cell: Cell) -> bool {
-    matches!(cell, Cell::WorkedOut(_))
+/// Sizes in words.
+pub fn sizes(sizes: Sizes) -> String {
+    format!(
+        "{}, {}, {}",
+        counted(sizes.records, "record"),
+        counted(sizes.references, "reference field"),
+        counted(sizes.measures, "measure field"),
+    )
+}
+
+/// The same for programs.
+pub fn summary_members(register: &Register) -> [(&'static str, String); 4] {
+    let cells = records(register).flat_map(|(_, cells)| cells);
+    [
+        ("records", register.sizes().records.to_string()),
+        ("fields", field_list(register.sizes().fields())),
+        ("unfilled", gaps::all(register).count().to_string()),
+        (
+            "worked_out",
+            cells
+                .filter(|&cell| is_worked_out(cell))
+                .count()
+                .to_string(),
+        ),
+    ]
 }
 
 /// A number of things.
@@ -89,13 +107,16 @@ pub fn look(cell: Cell) -> Look {
     }
 }
 
-fn table(register: &Register, style: Style) -> String {
-    let fields = register.sizes().fields().map(|field| format!(">{field}"));
-    let mut table = Table::new([">record".to_owned()].into_iter().chain(fields));
-    for (record, cells) in records(register) {
-        let number = (record.to_string(), Look::Plain);
-        let cells = cells.into_iter().map(|cell| (cell.to_string(), look(cell)));
-        table.row([number].into_iter().chain(cells));
+fn table(selection: &Selection<'_>, names: &Names, style: Style) -> String {
+    let fields = || selection.fields.iter().copied();
+    let headings = fields().map(|field| format!(">{}", names.field(field)));
+    let mut table = Table::new(names.record_headings().into_iter().chain(headings));
+    for (record, cells) in selection.rows() {
+        let record = names.record_cells(record).into_iter();
+        let record = record.map(|cell| (cell, Look::Plain));
+        let cells = fields().zip(cells);
+        let cells = cells.map(|(field, cell)| (names.cell(field, cell), look(cell)));
+        table.row(record.chain(cells));
     }
     table.print(style)
 }
@@ -106,18 +127,40 @@ pub fn records(register: &Register) -> impl Iterator<Item = (usize, Vec<Cell>)> 
     records.filter_map(|record| Some((record, register.record(record)?)))
 }
 
-fn json(register: &Register) -> String {
+/// The cells that are selected, with the numbers of their records where some are
+/// asked for, and their names.
+fn json(selection: &Selection<'_>, names: &Names, asked_for: bool) -> String {
     let rows = |member: fn(Cell) -> String| {
-        json::list(records(register).map(|(_, cells)| json::list(cells.into_iter().map(member))))
+        json::list(
+            selection
+                .rows()
+                .map(|(_, cells)| json::list(cells.into_iter().map(member))),
+        )
     };
-    json::object(&[
-        ("records", register.sizes().records.to_string()),
-        ("fields", field_list(register.sizes())),
+    let mut members = vec![
+        ("records", selection.records.len().to_string()),
+        ("fields", field_list(selection.fields.iter().copied())),
         ("cells", rows(|cell| json::option(cell.value()))),
         ("worked_out", rows(|cell| is_worked_out(cell).to_string())),
-    ]) + "\n"
+    ];
+    if asked_for {
+        members.insert(1, ("shown", json::list(&selection.records)));
+    }
+    members.extend(name_members(selection, names));
+    json::object(&members) + "\n"
 }
 
-fn field_list(sizes: Sizes) -> String {
-    json::list(sizes.fields().map(|field| json::string(&field.to_string())))
+fn field_list(fields: impl Iterator<Item = char>) -> String {
+    json::list(fields.map(|field| json::string(&field.to_string())))
+}
+
+/// The labels of the records and the names of the fields in their order, if there are
+/// any.
+fn name_members(selection: &Selection<'_>, names: &Names) -> Vec<(&'static str, String)> {
+    let string = |name: Option<&str>| json::option(name.map(json::string));
+    let labels = selection.records.iter().map(|&u| string(names.label(u)));
+    let fields = selection.fields.iter().map(|&f| string(names.name(f)));
+    let labels = names.has_labels().then(|| ("labels", json::list(labels)));
+    let named = names.has_fields().then(|| ("names", json::list(fields)));
+    labels.into_iter().chain(named).collect()
 }

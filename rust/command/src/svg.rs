@@ -8,14 +8,18 @@ pub mod colour {
     pub const INK: &str = "#222222";
     /// Text of less weight, and guiding lines.
     pub const GREY: &str = "#767676";
-    /// A filled cell.
+    /// A filled cell, where cells are told apart a measured one.
     pub const FILLED: &str = "#cfe3f2";
+    /// A worked-out cell.
+    pub const WORKED_OUT: &str = "#5b9bd5";
     /// A gap.
     pub const GAP: &str = "#d55e00";
     /// Guiding lines.
     pub const GUIDE: &str = "#d5d5d5";
     /// The hops of a chain.
     pub const HOP: &str = "#a8a8a8";
+    /// The messages of remote writes.
+    pub const REMOTE: &str = "#a0306e";
     /// One for each round; six are more than a plan has.
     pub const ROUNDS: [&str; 6] = [
         "#0072b2", "#b35900", "#007a5a", "#9c4f86", "#6b5b00", "#222222",
@@ -51,6 +55,16 @@ impl Picture {
     fn shape(&mut self, shape: &str) {
         self.shapes += shape;
         self.shapes.push('\n');
+    }
+
+    /// What is drawn until [`Picture::close`] belongs to a round.
+    pub fn open_round(&mut self, round: u8) {
+        self.shape(&format!(r#"<g data-round="{round}">"#));
+    }
+
+    /// Ends what belongs to a round.
+    pub fn close(&mut self) {
+        self.shape("</g>");
     }
 
     /// A rectangle.
@@ -90,12 +104,21 @@ impl Picture {
 
     /// A level arrow.
     pub fn arrow(&mut self, y: usize, from: usize, to: usize, stroke: &str) {
+        self.arrow_with(y, from, to, stroke, "2");
+    }
+
+    /// A level arrow with a dashed shaft.
+    pub fn dashed_arrow(&mut self, y: usize, from: usize, to: usize, stroke: &str) {
+        self.arrow_with(y, from, to, stroke, r#"2" stroke-dasharray="6 4"#);
+    }
+
+    fn arrow_with(&mut self, y: usize, from: usize, to: usize, stroke: &str, width: &str) {
         let (back, shaft) = if from < to {
             (to - 9, to - 8)
         } else {
             (to + 9, to + 8)
         };
-        self.line((from, y), (shaft, y), stroke, "2");
+        self.line((from, y), (shaft, y), stroke, width);
         let (above, below) = (y - 5, y + 5);
         self.path(&format!("M{to} {y}L{back} {above}L{back} {below}Z"), stroke);
     }
@@ -128,6 +151,7 @@ impl Picture {
     }
 }
 
-fn escaped(text: &str) -> String {
+/// A text as HTML and SVG have it.
+pub fn escaped(text: &str) -> String {
     text.replace('&', "&amp;").replace('<', "&lt;")
 }

@@ -48,10 +48,8 @@ impl Table {
 
     fn width(&self, column: usize) -> usize {
         let cells = self.rows.iter().map(|row| row[column].0.chars().count());
-        cells
-            .chain([self.columns[column].0.len()])
-            .max()
-            .unwrap_or(0)
+        let heading = self.columns[column].0.chars().count();
+        cells.chain([heading]).max().unwrap_or(0)
     }
 
     fn line(&self, row: &[TableCell], widths: &[usize], style: Style) -> String {

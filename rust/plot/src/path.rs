@@ -47,4 +47,10 @@ impl Path {
         let value = last.map_or(Some(record as i32), |hop| hop.cell.value());
         Path { hops, value }
     }
+
+    /// What the reading comes to, and where that comes from: the last cell. The
+    /// number that `u` reads is given with the register, as a measured value is.
+    pub fn cell(&self) -> Cell {
+        self.hops.last().map_or(self.value.into(), |hop| hop.cell)
+    }
 }

@@ -268,3 +268,17 @@ fn bindings_answer_in_rust_values() {
     assert_eq!(path("A[M[u]]", 0), refusal(Kind::FieldKind, 1));
     assert_eq!(path("u", 3), refusal(Kind::Record, 0));
 }
+
+/// A path ends in a cell with its mark; at `u` it is the record's own number.
+#[test]
+fn a_reading_tells_where_its_value_comes_from() {
+    let register = plot::Register::from_bytes(reference::printed::register()).expect("it loads");
+    let text = "step\nM[u] := M[A[A[u]]]\nend\n";
+    let run = register.run(text, plot::Machine::Direct, 1);
+    let register = run.expect("it passes").register;
+    let cell = |chain, record| register.path(chain, record).map(|path| path.cell());
+    assert_eq!(cell("M[u]", 0), Ok(plot::Cell::WorkedOut(180)));
+    assert_eq!(cell("M[A[u]]", 0), Ok(plot::Cell::Measured(0)));
+    assert_eq!(cell("M[A[u]]", 2), Ok(plot::Cell::Unfilled));
+    assert_eq!(cell("u", 2), Ok(plot::Cell::Measured(2)));
+}

@@ -54,6 +54,10 @@ fn any_register_chain_and_text() {
             &["unpack", "register"],
             &["read", "register", "--", &chain, &number],
             &["path", "register", "--", &chain, &number],
+            &["read", "register", "--all", "--", &chain],
+            &["path", "register", "--", &chain, "0-3"],
+            &["why", "register", "--", &chain],
+            &["why", "register", "rules", "M", "--budget", "20"],
             &["check", "register", "rules"],
             &["plan", "register", "rules"],
             &["plan", "register", "rules", &number, "--svg", "-"],
@@ -65,6 +69,35 @@ fn any_register_chain_and_text() {
     }
     tally.print("commands over generated and damaged input");
     tally.require(100, &["done", "refused"]);
+}
+
+/// A clerk's sheet with some bytes changed.
+#[test]
+fn any_clerks_sheet() {
+    let folder = Folder::with_cemetery("any-clerk");
+    let mut random = Random::new(40);
+    let mut tally = Tally::default();
+    for _ in 0..2 * CASES {
+        let mut sheet = folder.read("clerk.csv");
+        for _ in 0..1 + random.below(3) {
+            let place = random.below(sheet.len());
+            match random.pick(&[0, 1, 2]) {
+                0 => sheet.insert(place, random.pick(b"\";,\t\n\r-#?~09A \xff")),
+                1 => drop(sheet.remove(place)),
+                _ => sheet[place] = random.byte(),
+            }
+        }
+        let said = folder.plot_with(&["pack", "-", "-o", "packed"], &sheet);
+        if said.status == 0 {
+            folder.plot(&["show", "packed"]).has("record");
+            let back = folder.plot(&["unpack", "packed"]).out;
+            folder.plot_with(&["pack", "-", "-o", "again"], back.as_bytes());
+            assert_eq!(folder.read("again"), folder.read("packed"), "{back}");
+            assert_eq!(folder.plot(&["unpack", "again"]).out, back);
+        }
+        ended(&mut tally, said);
+    }
+    tally.require(10, &["done", "refused"]);
 }
 
 #[test]

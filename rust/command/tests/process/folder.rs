@@ -69,7 +69,16 @@ pub struct Folder {
 impl Folder {
     /// A new folder for the test with this name.
     pub fn new(name: &str) -> Folder {
-        let path = Path::new(env!("CARGO_TARGET_TMPDIR")).join(format!("command-{name}"));
+        Folder::made(Path::new(env!("CARGO_TARGET_TMPDIR")).join(format!("command-{name}")))
+    }
+
+    /// The same outside the project.
+    pub fn outside(name: &str) -> Folder {
+        let name = format!("plot-{name}-{}", std::process::id());
+        Folder::made(std::env::temp_dir().join(name))
+    }
+
+    fn made(path: PathBuf) -> Folder {
         let _ = fs::remove_dir_all(&path);
         fs::create_dir_all(&path).expect("the folder can be made");
         Folder { path }

@@ -15,7 +15,12 @@ fn picture(folder: &Folder, words: &[&str], input: &[u8]) -> String {
     assert!(picture.starts_with("<svg xmlns=") && picture.ends_with("</svg>\n"));
     let shapes: Vec<&str> = picture.lines().skip(1).collect();
     for shape in &shapes[..shapes.len() - 1] {
-        assert!(shape.ends_with("/>") || shape.ends_with("</text>") || shape.ends_with("</title>"));
+        let group = shape.starts_with("<g data-round=") || *shape == "</g>";
+        let ends = ["/>", "</text>", "</title>"];
+        assert!(
+            group || ends.iter().any(|end| shape.ends_with(end)),
+            "{shape}"
+        );
     }
     let (width, height) = (number(&picture, "width"), number(&picture, "height"));
     assert!(width < 2500 && height < 40_000, "{width} by {height}");
@@ -41,6 +46,18 @@ fn number(shape: &str, attribute: &str) -> usize {
 }
 
 const GAP: &str = "fill=\"#d55e00\"";
+const WORKED_OUT: &str = "fill=\"#5b9bd5\"";
+
+/// The squares of this colour.
+fn squares(picture: &str, fill: &str) -> usize {
+    let paths = picture.lines().filter(|shape| shape.starts_with("<path"));
+    let of_colour = paths.filter(|path| path.contains(fill));
+    of_colour.map(|path| path.matches('z').count()).sum()
+}
+
+fn count(cells: &[Cell], wanted: impl Fn(Cell) -> bool) -> usize {
+    cells.iter().filter(|cell| wanted(**cell)).count()
+}
 
 #[test]
 fn few_records_are_a_table() {
@@ -68,13 +85,26 @@ fn many_records_are_squares() {
     for sizes in sizes.into_iter().chain([most, registers::LARGEST]) {
         let register = registers::file(&mut random, sizes);
         let cells = Register::load(&register).expect("it loads").cells();
-        let gaps = cells.iter().filter(|&&cell| cell == Cell::Missing).count();
         let picture = picture(&folder, &["show", "-"], &register);
-        assert_eq!(
-            picture.matches('z').count() - picture.matches("size").count(),
-            gaps
-        );
+        let (gaps, worked_out) = (squares(&picture, GAP), squares(&picture, WORKED_OUT));
+        assert_eq!(gaps, count(&cells, |cell| cell == Cell::Missing));
+        let is_worked_out = |cell| matches!(cell, Cell::WorkedOut(_));
+        assert_eq!(worked_out, count(&cells, is_worked_out));
+        assert!(picture.contains(">worked out ~<"));
         assert!(picture.len() < 2_000_000);
+    }
+}
+
+/// Measured, worked-out and unfilled cells are told apart.
+#[test]
+fn cells_of_each_sort_have_a_colour() {
+    let folder = Folder::with_cemetery("picture-marks");
+    folder.plot(&["run", "sparse.register", "depths.rules", "--in-place"]);
+    let picture = picture(&folder, &["show", "sparse.register"], b"");
+    assert_eq!(picture.matches(WORKED_OUT).count(), 6 + 1);
+    assert_eq!(picture.matches(GAP).count(), 54 + 1);
+    for text in [">measured<", ">worked out ~<", ">unfilled<", ">220~<"] {
+        assert!(picture.contains(text), "{text}");
     }
 }
 
@@ -110,12 +140,21 @@ fn the_pictures_of_the_manual() {
     let folder = Folder::with_cemetery("picture-manual");
     let chain = format!("M[{}u{}", "A[".repeat(7), "]".repeat(8));
     folder.write("eight.rules", format!("step\nM[u] := {chain}\nend\n"));
+    folder.plot(&["pack", "clerk.csv", "-o", "clerk.register"]);
+    let run = [
+        "run",
+        "clerk.register",
+        "depths.rules",
+        "-o",
+        "clerk-depths.register",
+    ];
+    folder.plot(&run).has("6 cells changed");
     for (name, words) in [
         (
             "docs/plan.svg",
             &["plan", "full.register", "eight.rules"][..],
         ),
-        ("docs/sparse.svg", &["show", "sparse.register"]),
+        ("docs/clerk.svg", &["show", "clerk-depths.register"]),
     ] {
         let picture = picture(&folder, words, b"");
         let path = root().join(name);

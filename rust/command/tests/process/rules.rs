@@ -113,13 +113,32 @@ fn what_to_do_about_lines_without_a_form() {
         ("M[u] := M[u] --", "the digits straight after it"),
         ("M[u] := - 5", "the digits straight after it"),
         ("M[u] := 1 + -(5)", "the digits straight after it"),
-        ("M[u] := M[A[u] + 1", "A chain is u, or"),
+        ("M[u] := M[A[u] + 1", "Here a ] is missing"),
+        ("M[u] := M[A[]]", "A chain is u, or"),
         ("remote M[(u)] += 1", "A chain is u, or"),
         ("if(1) < 2: M[u] := 1", "keep a space behind them"),
         ("if 1 < 2: remoteM[u] += 1", "keep a space behind them"),
         ("loopM", "keep a space behind them"),
         ("if 1 < 2 M[u] := 1", "A test is if X < Y:"),
-        ("if 1 =< 2: M[u] := 1", "A test is if X < Y:"),
+        ("if 1 = 2: M[u] := 1", "A test is if X < Y:"),
+        ("if 1 =< 2: M[u] := 1", "write X < Y + 1 instead"),
+        ("if 1 <= 2: M[u] := 1", "write X < Y + 1 instead"),
+        ("if 1 >= 2: M[u] := 1", "write Y < X + 1 instead"),
+        ("if 1 => 2: M[u] := 1", "write Y < X + 1 instead"),
+        ("if 1 > 2: M[u] := 1", "Write Y < X instead of X > Y."),
+        ("if 1 <> 2: M[u] := 1", "Write != instead."),
+        ("M[u := 1", "Here a ] is missing"),
+        ("remote M[A[u] += 1", "Here a ] is missing"),
+        ("M[U] := 1", "a small u"),
+        ("M[u] := M[A[U]]", "a small u"),
+        ("m[u] := 1", "The letters of fields are capitals"),
+        ("M[u] := M[a[u]]", "The letters of fields are capitals"),
+        ("STEP", "Did you mean step?"),
+        ("IF 1 < 2: M[u] := 1", "Did you mean if?"),
+        ("Remote M[u] += 1", "Did you mean remote?"),
+        ("edn", "Did you mean end?"),
+        ("step 2", "Behind step the line ends."),
+        ("\u{feff}M[u] := 1", "byte order mark"),
         ("M[u] := 1 ", "No space stands at the ends of a line."),
         (" M[u] := 1", "No space stands at the ends of a line."),
         ("end ", "No space stands at the ends of a line."),
@@ -213,8 +232,10 @@ fn messages_after_a_round() {
     folder
         .plot(&["inspect", "three", "two.rules", "1", "1", "--json"])
         .is(
-            "{\"step\":1,\"round\":1,\"messages\":[{\"line\":0,\"origin\":0,\"from\":0,\"to\":1,\
-         \"carries\":0},{\"line\":0,\"origin\":1,\"from\":1,\"to\":2,\"carries\":1}]}\n",
+            "{\"step\":1,\"round\":1,\"exchanges\":3,\"after\":0,\"messages\":[\
+         {\"line\":0,\"kind\":\"Back\",\"chain\":\"A[u]\",\"round\":1,\"origin\":0,\"from\":0,\"to\":1,\
+         \"carries\":0},{\"line\":0,\"kind\":\"Back\",\"chain\":\"A[u]\",\"round\":1,\"origin\":1,\
+         \"from\":1,\"to\":2,\"carries\":1}]}\n",
         );
 }
 

@@ -38,7 +38,7 @@ fn the_register_at_the_end_is_written() {
     };
     run(&["-o", "out"]).has("10 cells changed\n");
     assert_eq!(folder.read("full.register"), register);
-    folder.plot(&["read", "out", "N[u]", "4"]).is("275\n");
+    folder.plot(&["read", "out", "N[u]", "4"]).is("275~\n");
     run(&["--direct", "-o", "direct"]).has("10 cells changed\n");
     assert_eq!(folder.read("direct"), folder.read("out"));
     run(&["-o", "out"]).has("10 cells changed\n");

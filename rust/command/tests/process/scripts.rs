@@ -55,7 +55,7 @@ fn proving(folder: &Folder, says: &str) -> Said {
     let path = format!("{}:{path}", folder.at("bin").display());
     let mut bash = Command::new("bash");
     let bash = bash.args(["scripts/proving", "two", "rt", "check", "two"]);
-    folder.run(bash.env("PATH", path), b"")
+    folder.run(bash.env("PATH", path).env("PROVING_EVERY", "1"), b"")
 }
 
 #[test]
@@ -73,6 +73,26 @@ fn a_line_counts_the_crates() {
     );
     assert!(said.err.ends_with(" s, two done\n"), "{}", said.err);
     assert_eq!(said.err.lines().count(), 2);
+}
+
+#[test]
+fn where_there_is_no_terminal_a_line_comes_now_and_then() {
+    let folder = Folder::new("proving-slowly");
+    let said = proving(
+        &folder,
+        "echo \"rt: one proved ($RT_JOBS jobs)\"; sleep 3; echo 'rt: two proved (3 s)'",
+    );
+    assert_eq!((said.status, said.out.as_str()), (0, ""));
+    let lines = said.err.lines().count();
+    assert!((4..=6).contains(&lines), "{}", said.err);
+    assert!(
+        said.err.contains("proving: 1 of 2 crates, 1 s, one done\n"),
+        "{}",
+        said.err
+    );
+    assert!(said.err.ends_with(" s, two done\n"), "{}", said.err);
+    let log = String::from_utf8(folder.read("target/proving.log")).expect("it is text");
+    assert!(log.starts_with("rt: one proved (4 jobs)\n"), "{log}");
 }
 
 #[test]
@@ -94,4 +114,44 @@ fn a_failure_names_the_log() {
         folder.read("target/proving.log"),
         b"much\nrt: one NOT PROVED (exit 1)\n"
     );
+}
+
+/// `bash run` over a program that prints this.
+fn run_script(folder: &Folder, prints: &str, words: &[&str]) -> Said {
+    for name in ["crates/one/src", "crates/plotprint/data", "target/bin"] {
+        fs::create_dir_all(folder.at(name)).expect("it can be made");
+    }
+    folder.write("run", fs::read(root().join("run")).expect("it is there"));
+    folder.write(
+        "target/bin/plotprint",
+        format!("#!/bin/sh\nprintf '{prints}'\n"),
+    );
+    let program = folder.at("target/bin/plotprint");
+    fs::set_permissions(program, PermissionsExt::from_mode(0o755)).expect("it is ours");
+    let mut bash = Command::new("bash");
+    folder.run(bash.arg("run").args(words), b"")
+}
+
+#[test]
+fn the_printing_program_by_its_script() {
+    let folder = Folder::new("run-script");
+    let page = "3 records 1 steps 3 exchanges 4 letters\n0 1 180~\n";
+    run_script(&folder, page, &[]).is(page);
+    for page in ["refused 7 at 2\n", "too large\n"] {
+        let said = run_script(&folder, page, &["."]);
+        assert_eq!(
+            (said.status, said.out.as_str(), said.err.as_str()),
+            (1, page, "")
+        );
+    }
+    run_script(&folder, page, &["--help"]).has("bash run [FOLDER]\n");
+    for words in [&["--x"][..], &["nothing"], &[".", "."]] {
+        let said = run_script(&folder, page, words);
+        assert_eq!((said.status, said.out.as_str()), (2, ""), "{words:?}");
+        assert!(
+            said.err.ends_with("usage: bash run [FOLDER]\n"),
+            "{}",
+            said.err
+        );
+    }
 }

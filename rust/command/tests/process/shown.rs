@@ -43,6 +43,11 @@ fn gaps_at_a_look() {
     folder
         .plot(&["show", "sparse.register", "--gaps"])
         .has("     0123456789 01\n  A  .....#...# .#  3\n");
+    folder.write("marks.csv", "A,M\n0,5~\n,7\n");
+    folder.plot(&["pack", "marks.csv", "-o", "marks"]);
+    folder
+        .plot(&["show", "marks", "--gaps"])
+        .has("     01\n  A  .#  1\n  M  ~.  0\n. measured  ~ worked out  # unfilled\n");
     folder.write("full.csv", "A\n0\n0\n");
     folder.plot(&["pack", "full.csv", "-o", "full"]);
     folder
@@ -75,7 +80,9 @@ fn generated_registers_are_shown_whole() {
             .filter(|&&c| c == Cell::Missing)
             .count();
         let grid = folder.plot_with(&["show", "-", "--gaps"], &bytes);
-        assert_eq!(grid.out.matches('#').count(), gaps);
+        let legend = ". measured  ~ worked out  # unfilled\n";
+        let grid = grid.out.strip_suffix(legend).expect("it has a legend");
+        assert_eq!(grid.matches('#').count(), gaps);
     }
 }
 

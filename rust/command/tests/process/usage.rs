@@ -2,8 +2,9 @@
 
 use crate::folder::Folder;
 
-const COMMANDS: [&str; 9] = [
-    "show", "read", "path", "check", "plan", "inspect", "run", "pack", "unpack",
+const COMMANDS: [&str; 14] = [
+    "show", "read", "path", "why", "check", "plan", "inspect", "run", "diff", "set", "pack",
+    "unpack", "report", "explain",
 ];
 
 #[test]
@@ -31,7 +32,7 @@ fn each_command_has_help() {
         let said = folder.plot(&[command, "--help"]);
         assert!(said.out.starts_with(&usage), "{}", said.out);
         let widest = said.out.lines().map(|line| line.chars().count()).max();
-        assert!(widest <= Some(86), "{command}: {widest:?}");
+        assert!(widest <= Some(90), "{command}: {widest:?}");
         assert_eq!(folder.plot(&[command, "x", "-h"]), said);
     }
 }
