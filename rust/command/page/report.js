@@ -11,11 +11,19 @@
   // The cells: they hold what the library gave, and are only looked up here.
   const cellAt = (record, field) => body.rows[record].cells[data.fields.indexOf(field) + 1];
   const placeOf = cell => [cell.parentNode.sectionRowIndex, data.fields[cell.cellIndex - 1]];
-  const isGap = cell => cell.textContent === '-';
-  const valueOf = cell => parseInt(cell.textContent, 10);
+  // A line ends behind the last cell of a row, and a browser takes its break for text of the cell.
+  const textOf = cell => cell.textContent.trim();
+  const isGap = cell => textOf(cell) === '-';
+  const valueOf = cell => parseInt(textOf(cell), 10);
   const isReference = field => data.fields.indexOf(field) < data.references;
+  // A record and a field as the grid heads them: with their names, where they have some.
+  const recordOf = record => {
+    const label = textOf(body.rows[record].cells[0]).slice(`${record}`.length).trim();
+    return label ? `${label} (record ${record})` : `record ${record}`;
+  };
+  const fieldOf = field => textOf(table.tHead.rows[0].cells[data.fields.indexOf(field) + 1]);
   const words = cell => isGap(cell) ? 'unfilled'
-    : valueOf(cell) + (cell.textContent.endsWith('~') ? ', worked out' : ', measured');
+    : valueOf(cell) + (textOf(cell).endsWith('~') ? ', worked out' : ', measured');
 
   const element = (name, text, parent, className) => {
     const made = document.createElement(name);
@@ -39,7 +47,7 @@
       const cell = cellAt(at, field);
       marked.push(cell);
       cell.classList.add('path');
-      element('li', `${field} of record ${at}: ${words(cell)}`, list);
+      element('li', `${fieldOf(field)} of ${recordOf(at)}: ${words(cell)}`, list);
     });
     const last = cellAt(hops.at(-1), chain.letters[hops.length - 1]);
     element('p', isGap(last) ? 'unfilled: the last cell above is the gap' : `is ${valueOf(last)}`, parent, 'quiet');
@@ -63,13 +71,13 @@
     clear();
     told.replaceChildren();
     const [record, field] = placeOf(cell);
-    element('h3', `${field} of record ${record}`, told);
+    element('h3', `${fieldOf(field)} of ${recordOf(record)}`, told);
     const before = data.before[`${field}${record}`];
     element('p', words(cell) + (before === undefined ? '' : `; before the run: ${before === '-' ? 'unfilled' : before}`), told);
-    if (isReference(field) && !isGap(cell)) element('p', `leads to record ${valueOf(cell)} (Enter goes there)`, told, 'quiet');
+    if (isReference(field) && !isGap(cell)) element('p', `leads to ${recordOf(valueOf(cell))}; Enter goes there`, told, 'quiet');
     data.rules.filter(rule => rule.field === field).forEach(rule => showRule(rule, record));
     if (data.followed && isReference(field)) {
-      element('p', `following ${field} from here:`, told, 'chain');
+      element('p', `following ${fieldOf(field)} from here:`, told, 'chain');
       showPath(data.chains[data.fields.indexOf(field)], record, told);
     }
     marked.push(cell);

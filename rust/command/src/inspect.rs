@@ -9,6 +9,7 @@ use crate::names_file::{self, NAMES, NO_NAMES};
 use crate::remote::{self, Write};
 use crate::show::counted;
 use crate::steps;
+use crate::stopping::place;
 use crate::style::Style;
 use crate::table::Table;
 use crate::walk::Walk;
@@ -38,8 +39,8 @@ fn inspect(arguments: &Arguments) -> Result<Outcome, Failure> {
     let (register, finished) = match arguments.value("--after") {
         Some(word) => after(
             &register,
-            &name,
-            &bytes,
+            &names,
+            (&name, &bytes),
             arguments::number("--after", word)?,
         )?,
         None => (register, 0),
@@ -55,8 +56,8 @@ fn inspect(arguments: &Arguments) -> Result<Outcome, Failure> {
 /// The register as it stands after so many finished steps.
 fn after(
     register: &Register,
-    name: &str,
-    text: &[u8],
+    names: &Names,
+    (name, text): (&str, &[u8]),
     steps: u16,
 ) -> Result<(Register, usize), Failure> {
     let walk = Walk::of(register, text, Machine::Direct, steps);
@@ -64,7 +65,8 @@ fn after(
     let counted = counted(finished, "step");
     match walk.end {
         End::OutOfRange { record, field } => {
-            let advice = format!("Field {field} of record {record}. {counted} finished.");
+            let place = place(names, (record, field));
+            let advice = format!("Field {place}. {counted} finished.");
             Err(run::refused(name, walk.end, finished as u64, &advice, None))
         }
         _ if finished < usize::from(steps) => Err(Failure::Usage(format!(

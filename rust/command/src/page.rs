@@ -87,7 +87,8 @@ fn header(page: &Page<'_>, changes: &[Change]) -> String {
     };
     let counts = run::counts(Machine::Messages, &ran.run);
     let changed = counted(changes.len(), "cell");
-    let stopped = stopped_words(ran).map_or(String::new(), |words| {
+    let stopped = stopped_words(ran, page.names).map_or(String::new(), |words| {
+        let words = escaped(&words);
         format!("<p class=\"notice\">{words} What follows is the register as it was.</p>\n")
     });
     format!(

@@ -4,9 +4,11 @@ use crate::arguments::{Arguments, Form};
 use crate::check::checked;
 use crate::commands::{Command, Outcome};
 use crate::failure::Failure;
+use crate::names::Names;
 use crate::names_file::{self, NAMES, NO_NAMES};
 use crate::oneline::escaped;
 use crate::page::{self, Page, Ran};
+use crate::stopping::place;
 use crate::{files, json, plan, run, show, trace};
 use plot::{End, Machine, Register};
 
@@ -39,7 +41,7 @@ fn report(arguments: &Arguments) -> Result<Outcome, Failure> {
         names: &names,
         ran: ran.as_ref(),
     });
-    let failure = ran.as_ref().and_then(|ran| stopped(ran, budget));
+    let failure = ran.as_ref().and_then(|ran| stopped(ran, &names, budget));
     let report = match arguments.has("--json") {
         true => json::object(&files::wrote(output, html.as_bytes())) + "\n",
         false => format!("wrote {}: {}\n", escaped(output), show::summary(&register)),
@@ -65,10 +67,10 @@ fn ran(arguments: &Arguments, register: &Register, budget: u16) -> Result<Ran, F
 }
 
 /// The refusal of a run that was stopped; the page tells of it too.
-fn stopped(ran: &Ran, budget: u16) -> Option<Failure> {
+fn stopped(ran: &Ran, names: &Names, budget: u16) -> Option<Failure> {
     let advice = match ran.run.end {
         End::Whole => return None,
-        End::OutOfRange { record, field } => format!("Field {field} of record {record}."),
+        End::OutOfRange { record, field } => format!("Field {}.", place(names, (record, field))),
         End::BudgetExhausted => format!("The budget is {budget}."),
     };
     let advice = format!("{advice} The page shows the register as it was.");
@@ -82,15 +84,17 @@ fn stopped(ran: &Ran, budget: u16) -> Option<Failure> {
 }
 
 /// Why a run was stopped, in words; nothing where it was not.
-pub fn stopped_words(ran: &Ran) -> Option<String> {
+pub fn stopped_words(ran: &Ran, names: &Names) -> Option<String> {
     let kind = ran.run.end.refusal()?;
-    let place = match ran.run.end {
-        End::OutOfRange { record, field } => format!(", at field {field} of record {record}"),
+    let at = match ran.run.end {
+        End::OutOfRange { record, field } => {
+            format!(", at field {}", place(names, (record, field)))
+        }
         _ => String::new(),
     };
     let number = kind.number();
     Some(format!(
-        "The run was stopped ({number}): {}{place}.",
+        "The run was stopped ({number}): {}{at}.",
         kind.meaning()
     ))
 }

@@ -33,6 +33,11 @@ fn every_command_shows_them() {
     plot(&["inspect", "clerk", "depths.rules", "1", "2"])
         .has("     0  Back  A[u]         1   Chapel   Chapel   Mark C   Chapel\n")
         .has("     1  Read  N[A[u]]      2   Mark B   Mark A   Mark B       40\n");
+    folder.write("far.rules", "step\nN[u] := 2147483647 + M[u]\nend\n");
+    let stopped = "Field N below datum of North 1 (record 0). ";
+    plot(&["inspect", "clerk", "far.rules", "1", "1", "--after", "1"]).fails(1, stopped);
+    let report = plot(&["report", "clerk", "far.rules", "-o", "far.html"]);
+    assert!(report.err.contains(stopped), "{}", report.err);
     plot(&["why", "clerk", "N[A[u]]"])
         .has("N below datum of Mark B (record 10): stops 3 readings (East 1, ");
     plot(&["why", "clerk", "depths.rules", "below datum"])

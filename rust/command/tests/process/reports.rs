@@ -253,6 +253,21 @@ fn in_a_browser() {
         seen,
         "A of record 4: 10, measured | N of record 10: 65, worked out | M of record 4: 210, measured"
     );
+    folder
+        .plot(&["pack", "clerk.csv", "-o", "clerk"])
+        .has("wrote clerk.names");
+    page(&folder, &["clerk", "depths.rules"]);
+    let named = format!("seen.push(document.querySelector('#told h3').textContent);{paths}");
+    let seen = looked_at(&folder, browser, "N4", &named, &[]);
+    assert_eq!(
+        seen,
+        "N below datum of East 1 (record 4) | A mark of East 1 (record 4): 10, measured | \
+         N below datum of Mark B (record 10): 65, worked out | M below mark of East 1 (record 4): 210, measured"
+    );
+    // A gap in the last column is one.
+    let gap = "seen.push(document.querySelector('#told p').textContent);";
+    let seen = looked_at(&folder, browser, "N1", gap, &[]);
+    assert_eq!(seen, "unfilled");
     let light = looked_at(&folder, browser, "", DARK, &[]);
     let dark = looked_at(
         &folder,
