@@ -8,7 +8,7 @@ use chain::reading::Reading;
 use op_read::ReadingAnswer;
 
 // The numbers of a reading's answer.
-#[derive(Drop)]
+#[derive(Clone, Copy)]
 pub struct ReadNumbers {
     pub number: u32,
     pub line: u64,

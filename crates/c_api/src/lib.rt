@@ -1,4 +1,5 @@
 // The exported functions, for programs in other languages.
+#![tactic(auto)]
 pub mod check;
 pub mod inspection;
 pub mod path;

@@ -6,7 +6,7 @@ ghost use Rattle.chain.specs.Word.{read_of};
 use register::cells::Cell;
 
 // What is read: nothing where a cell on the way is missing, or a value.
-#[derive(Drop)]
+#[derive(Clone, Copy)]
 pub enum Reading {
     Missing,
     Value(i32),

@@ -1,4 +1,5 @@
 // The path behind a reading (M-109): the cells that following a chain looks at, up to the value or the first missing one.
+#![tactic(auto)]
 ghost use Rattle.std.specs.Prelude.{[], ◌<◌};
 ghost use Rattle.register.specs.Cells.{cells_of};
 ghost use Rattle.register.specs.Shape.{Parts, Valid};
@@ -11,7 +12,7 @@ use register::Sizes;
 use register::cells::Cell;
 
 // One hop: the record that it stands at, the field, and the cell that is looked at.
-#[derive(Drop)]
+#[derive(Clone, Copy)]
 pub struct Hop {
     pub u: usize,
     pub field: usize,
@@ -19,7 +20,7 @@ pub struct Hop {
 }
 
 // At most 16 hops, the first `count` of the array.
-#[derive(Drop)]
+#[derive(Clone, Copy)]
 pub struct Path {
     pub hops: [Hop; 16],
     pub count: usize,

@@ -9,7 +9,7 @@ use register::Sizes;
 
 // What is known of a chain's letters: its hops packed into one number, the first 16 of them from the outside; whether
 // every letter names a field; whether all but the outermost are references; whether there are more than 16.
-#[derive(Drop)]
+#[derive(Clone, Copy)]
 pub struct Letters {
     pub packed: u64,
     pub named: bool,

@@ -1,3 +1,4 @@
 // The text of a chain, read letter by letter.
+#![tactic(auto)]
 pub mod letters;
 pub mod text;

@@ -9,7 +9,7 @@ use crate::letters::Letters;
 use register::Sizes;
 
 // A chain and where its text ends; or no chain stands there.
-#[derive(Drop)]
+#[derive(Clone, Copy)]
 pub enum Scanned {
     Chain(Letters, usize),
     NoForm,
@@ -39,7 +39,7 @@ pub fn opens_at(text: &[u8], at: usize) -> bool
 }
 
 // Letters read so far, and the place behind them.
-#[derive(Drop)]
+#[derive(Clone, Copy)]
 pub struct Opened {
     pub letters: Letters,
     pub at: usize,
@@ -94,7 +94,7 @@ fn overlong(text: &[u8], at: usize, sizes: Sizes, letters: Letters) -> Scanned
 }
 
 // What stands first at a place: the answer already, or a letter that opens, with the letters so far.
-#[derive(Drop)]
+#[derive(Clone, Copy)]
 pub enum Head {
     Answer(Scanned),
     Opening(Letters),

@@ -5,7 +5,7 @@ ghost use Rattle.gather.specs.Counted.{counts_after};
 use machine_messages::Machine;
 
 // Exchanges, and the messages sent in them: none in a direct run.
-#[derive(Drop)]
+#[derive(Clone, Copy)]
 pub struct Counts {
     pub exchanges: usize,
     pub messages: usize,

@@ -1,4 +1,6 @@
 // Signed 32-bit values: as four bytes of a file, as indices, and their sums and order.
+#![tactic(auto)]
+
 ghost use Rattle.std.specs.Prelude.{◌≡◌, ◌+◌, ◌≤◌, ◌<◌, T, ℤ, pos, nat_abs, ◌+ℤ◌, ◌-ℤ◌, ◌*ℤ◌, length};
 ghost use Rattle.std.proofs.lemmas.List.Edits.{sets};
 ghost use Rattle.std.specs.Int.Signed.{mag, lt_z, non_neg};
@@ -9,7 +11,7 @@ ghost use Rattle.integers.specs.Factor.{factor};
 ghost use Rattle.integers.specs.Range.{sum_of, eq_z, is_index};
 
 // A sum, or that it leaves the range of a value.
-#[derive(Drop)]
+#[derive(Clone, Copy)]
 pub enum Sum {
     InRange(i32),
     OutOfRange,

@@ -30,7 +30,7 @@ mem_map f (Memᴰ.head e) = Memᴰ.head (ap f e)
 mem_map f (Memᴰ.tail m) = Memᴰ.tail (mem_map f m)
 
 -- one of a list
-pub each_of : {A : Type 0} (P : A → Type 0) {l : List A} {a : A} → Each P l → Memᴰ a l → P a
+pub each_of : {A : Type 0} (P : A → Type 0) {a : A} {l : List A} → Each P l → Memᴰ a l → P a
 each_of P h (Memᴰ.head e) = subst P (sym e) h.0
 each_of P h (Memᴰ.tail m) = each_of P h.1 m
 

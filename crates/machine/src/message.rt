@@ -2,7 +2,7 @@
 use program::rule::Sort;
 
 // To the cell of a record and a field.
-#[derive(Drop)]
+#[derive(Clone, Copy)]
 pub struct Message {
     pub sort: Sort,
     pub target: usize,

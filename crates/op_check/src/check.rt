@@ -14,7 +14,7 @@ use text_reader::Checked;
 use text_rules::scope::Scope;
 
 // The scope under which a text is read, and how much of it: all of it, or nothing where it is refused before.
-#[derive(Drop)]
+#[derive(Clone, Copy)]
 pub struct Part {
     pub scope: Scope,
     pub end: usize,

@@ -9,7 +9,7 @@ use plan_lines::Plan;
 
 // Where the refusal is 0: the plan of a step, whether a remote exchange follows, and the most lines of any step of the text;
 // otherwise the refusal's number and line.
-#[derive(Drop)]
+#[derive(Clone, Copy)]
 pub struct StepPlan {
     pub refusal: u32,
     pub line: usize,

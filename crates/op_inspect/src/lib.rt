@@ -1,4 +1,5 @@
 // Document 01's look: a single step of a text over the register as loaded, after its round t.
+#![tactic(auto)]
 ghost use Rattle.std.specs.Prelude.{◌≡◌, length};
 ghost use Rattle.op_inspect.specs.Inspection.{inspection};
 ghost use Rattle.op_inspect.specs.Answer.{inspect_refusal, InspectAnswered};
@@ -9,7 +10,7 @@ use op_show;
 use register;
 
 // The refusal's number, 0 for none, with its line; the step's number of plan lines.
-#[derive(Drop)]
+#[derive(Clone, Copy)]
 pub struct InspectAnswer {
     pub refusal: u32,
     pub line: usize,

@@ -1,4 +1,5 @@
 // The path behind a single reading (M-109), refused exactly where the reading is.
+#![tactic(auto)]
 ghost use Rattle.std.specs.Prelude.{◌≡◌, []};
 ghost use Rattle.laws.specs.Outcome.{done, unless};
 ghost use Rattle.register.specs.Load.{load};
@@ -10,7 +11,7 @@ use register::{Sizes, cells};
 use register_load::LoadAnswer;
 
 // A path, or why it is refused: document 01's number, 0 for none, and its line.
-#[derive(Drop)]
+#[derive(Clone, Copy)]
 pub struct PathAnswer {
     pub refusal: u32,
     pub line: u64,

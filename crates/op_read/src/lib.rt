@@ -1,4 +1,5 @@
 // A single chain from its text, and its reading at a record.
+#![tactic(auto)]
 ghost use Rattle.std.specs.Prelude.{◌≡◌};
 ghost use Rattle.laws.specs.Outcome.{done};
 ghost use Rattle.register.specs.Load.{load};
@@ -15,7 +16,7 @@ use register::{Sizes, cells};
 use register_load::LoadAnswer;
 
 // Refusals 7, 9, 10 and 11 of document 01, in order.
-#[derive(Drop)]
+#[derive(Clone, Copy)]
 pub enum Refusal {
     Form,
     Field,
@@ -36,14 +37,14 @@ pub fn number_of(refusal: Refusal) -> u32
 }
 
 // A packed chain, or why it is refused.
-#[derive(Drop)]
+#[derive(Clone, Copy)]
 pub enum ChainAnswer {
     Chain(u64),
     Refused(Refusal),
 }
 
 // A reading, or why it is refused: by the register, by the chain, or by the record number (refusal 16).
-#[derive(Drop)]
+#[derive(Clone, Copy)]
 pub enum ReadingAnswer {
     Read(Reading),
     Register(register_check::Refusal),

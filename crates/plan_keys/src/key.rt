@@ -9,14 +9,14 @@ use crate::word::split;
 // The largest key of a chain of at most one hop.
 pub const ONE_HOP: u64 = 33;
 
-#[derive(Drop)]
+#[derive(Clone, Copy)]
 pub enum Kind {
     Back,
     Read,
 }
 
 // The keys of a line's two needs.
-#[derive(Drop)]
+#[derive(Clone, Copy)]
 pub struct Needs {
     pub back: u64,
     pub read: u64,

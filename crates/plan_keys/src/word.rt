@@ -42,7 +42,7 @@ fn half(hops: u64) -> u64
 }
 
 // Document 01's parts a and b of a chain.
-#[derive(Drop)]
+#[derive(Clone, Copy)]
 pub struct Halves {
     pub front: u64,
     pub rest: u64,

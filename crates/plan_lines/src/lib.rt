@@ -1,11 +1,12 @@
 // The plan of a step's readings: its lines, their rounds, and which lines their needs are. `plan_builder` adds a reading to one.
+#![tactic(auto)]
 ghost use Rattle.std.specs.Prelude.{◌≡◌, [], ◌≤◌, length};
 ghost use Rattle.plan_lines.specs.Held.{LastOf, HoldsLines};
 
 pub mod lines;
 
 // At most 64 lines. Line i, from 0, has its key, its round, and the lines of its two needs, 64 where it needs none.
-#[derive(Drop)]
+#[derive(Clone, Copy)]
 pub struct Plan {
     pub keys: [u64; 64],
     pub rounds: [u8; 64],
@@ -15,7 +16,7 @@ pub struct Plan {
 }
 
 // One line of a plan.
-#[derive(Drop)]
+#[derive(Clone, Copy)]
 pub struct Line {
     pub key: u64,
     pub round: u8,

@@ -1,4 +1,5 @@
 // Runs the rules of `rules.txt` over the register of `register.bin`, and prints the page (`printed_page` of `print_run`).
+#![tactic(auto)]
 ghost use Rattle.io.specs.Counts.{IsPrefixLen};
 
 use libc::STDOUT_FILENO;

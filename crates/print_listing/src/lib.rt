@@ -1,4 +1,5 @@
 // The lines that are printed: a register's listing, and a refusal.
+#![tactic(auto)]
 ghost use Rattle.std.specs.Prelude.{◌≡◌, ◌++◌, ◌+◌, ◌*◌, ◌<◌, length};
 ghost use Rattle.register.specs.Cells.{cells_of};
 ghost use Rattle.register.specs.File.{cell_count, cells_of_file};
@@ -11,7 +12,7 @@ use print_page::{put_byte, put_bytes, put_cell, put_number};
 use register::{Sizes, cells};
 
 // The refusal's number, 0 for none, and its line; the finished steps, and their exchanges and letters.
-#[derive(Drop)]
+#[derive(Clone, Copy)]
 pub struct Ran {
     pub refusal: u32,
     pub line: usize,

@@ -2,7 +2,7 @@
 use crate::term::Term;
 
 // `+`, `-`, `<?`
-#[derive(Drop)]
+#[derive(Clone, Copy)]
 pub enum Operator {
     Plus,
     Minus,
@@ -10,14 +10,14 @@ pub enum Operator {
 }
 
 // `<?=`, `+=`
-#[derive(Drop)]
+#[derive(Clone, Copy)]
 pub enum Sort {
     Least,
     Total,
 }
 
 // `F[u] := X`; `F[u] := X + Y` or `F[u] := X - Y`; `remote F[C] <?= X` or `remote F[C] += X`: F by its field, C packed.
-#[derive(Drop)]
+#[derive(Clone, Copy)]
 pub enum Rule {
     Set(u64, Term),
     Combine(u64, Operator, Term, Term),
@@ -25,7 +25,7 @@ pub enum Rule {
 }
 
 // `<`, `==`, `!=`
-#[derive(Drop)]
+#[derive(Clone, Copy)]
 pub enum Comparison {
     Less,
     Equal,
@@ -33,14 +33,14 @@ pub enum Comparison {
 }
 
 // "Before any of them may stand `if X < Y: `".
-#[derive(Drop)]
+#[derive(Clone, Copy)]
 pub enum Test {
     Always,
     When(Term, Comparison, Term),
 }
 
 // A rule with its test.
-#[derive(Drop)]
+#[derive(Clone, Copy)]
 pub struct Slot {
     pub test: Test,
     pub rule: Rule,

@@ -9,7 +9,7 @@ ghost use Rattle.integers.specs.Bytes.{value_bytes};
 use crate::Sizes;
 
 // Document 01's cell: unfilled, or filled with a value that was measured or (M-107) worked out by a rule.
-#[derive(Drop)]
+#[derive(Clone, Copy)]
 pub enum Cell {
     Missing,
     Measured(i32),

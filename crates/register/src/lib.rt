@@ -1,4 +1,5 @@
 // The register file: its sizes and its cells.
+#![tactic(auto)]
 ghost use Rattle.std.specs.Prelude.{◌≡◌, ◌+◌, ◌*◌, ◌≤◌, ◌<◌, length};
 ghost use Rattle.register.specs.File.{sizes_of, width, cell_count, cell_index};
 ghost use Rattle.register.specs.Shape.{Limits};
@@ -6,7 +7,7 @@ ghost use Rattle.register.specs.Shape.{Limits};
 pub mod cells;
 
 // n, r and m of document 01.
-#[derive(Drop)]
+#[derive(Clone, Copy)]
 pub struct Sizes {
     pub records: usize,
     pub references: usize,

@@ -1,4 +1,5 @@
 // The check of a register's cells, refusals 3 to 5 of document 01.
+#![tactic(auto)]
 ghost use Rattle.std.specs.Prelude.{◌≡◌, ◌+◌, ◌*◌, ◌≤◌, ◌<◌, ltb};
 ghost use Rattle.laws.specs.Outcome.{first};
 ghost use Rattle.register.specs.File.{width};
@@ -10,7 +11,7 @@ ghost use Rattle.register_check.specs.Fields.{Fields};
 use register::Sizes;
 
 // Refusals 1 to 5 of document 01, in order.
-#[derive(Drop)]
+#[derive(Clone, Copy)]
 pub enum Refusal {
     Length,
     SizeLimit,
@@ -19,7 +20,7 @@ pub enum Refusal {
     Reference,
 }
 
-#[derive(Drop)]
+#[derive(Clone, Copy)]
 pub enum Check {
     Passed,
     Failed(Refusal),

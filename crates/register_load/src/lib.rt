@@ -1,4 +1,5 @@
 // Whether a file is a register, and why another is refused.
+#![tactic(auto)]
 ghost use Rattle.std.specs.Prelude.{◌≡◌};
 ghost use Rattle.register.specs.Load.{within_limits, load_sized, load as load_of};
 ghost use Rattle.register.specs.Shape.{Limits};
@@ -10,7 +11,7 @@ use register::{Sizes, cells};
 use register_check;
 use register_check::{Check, Refusal};
 
-#[derive(Drop)]
+#[derive(Clone, Copy)]
 pub enum LoadAnswer {
     Loaded(Sizes),
     Refused(Refusal),

@@ -1,4 +1,5 @@
 // The run of a program, by either machine: step after step, within the budget.
+#![tactic(auto)]
 ghost use Rattle.std.specs.Prelude.{◌+◌, ◌*◌};
 ghost use Rattle.register.specs.File.{cells_of_file};
 ghost use Rattle.register.specs.Shape.{Register};
@@ -22,7 +23,7 @@ use step_tests::stay_plain;
 
 // The refusal's number, 0 for none, with its line where it has one; the finished steps and what they count; for 21 the record and
 // the column where it happened.
-#[derive(Drop)]
+#[derive(Clone, Copy)]
 pub struct RunAnswer {
     pub refusal: u32,
     pub line: usize,

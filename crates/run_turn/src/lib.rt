@@ -1,5 +1,6 @@
 // A turn of the run's loop but for the rules of its step: whether there is one; the pass entered and the readings gathered; the
 // cells committed to the register, the step counted and the next one found.
+#![tactic(auto)]
 ghost use Rattle.std.specs.Prelude.{◌≡◌, ◌*◌, ◌≤◌, length};
 ghost use Rattle.register.specs.File.{cells_of_file};
 ghost use Rattle.register.specs.Shape.{Register};
@@ -21,7 +22,7 @@ use step_commit;
 
 // How far a run has come: the steps that are finished, what they count, the step that comes next and the first of the pass; or
 // where that step stops.
-#[derive(Drop)]
+#[derive(Clone, Copy)]
 pub struct Progress {
     pub stop: Stop,
     pub step: usize,
@@ -32,7 +33,7 @@ pub struct Progress {
 
 // A step that is begun: the first of the pass that it stands in, and what gathering its readings took; with what its end asks for
 // again: the column of the pass, its setting, the machine, and whether it has remote writes.
-#[derive(Drop)]
+#[derive(Clone, Copy)]
 pub struct Begun {
     pub first: usize,
     pub gathered: Counts,

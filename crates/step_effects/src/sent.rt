@@ -20,7 +20,7 @@ use step_operations::operation::Evaluated;
 use step_terms::term;
 
 // A rule sends nothing, or one message.
-#[derive(Drop)]
+#[derive(Clone, Copy)]
 pub enum Sent {
     Nothing,
     One(Message),

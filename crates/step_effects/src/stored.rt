@@ -20,7 +20,7 @@ use step_operations::operation;
 use step_operations::operation::Evaluated;
 
 // A rule stores nothing in its own record or a value in a field; or a sum of it leaves the range, for the field that it writes.
-#[derive(Drop)]
+#[derive(Clone, Copy)]
 pub enum Write {
     Nothing,
     Store(u64, i32),

@@ -7,7 +7,7 @@ use crate::operation::Evaluated;
 use program::rule::Comparison;
 
 // A test holds or fails; or one of its sums leaves the range.
-#[derive(Drop)]
+#[derive(Clone, Copy)]
 pub enum Tested {
     Holds,
     Fails,

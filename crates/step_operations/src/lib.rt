@@ -1,3 +1,4 @@
 // Answers of expressions, operations on them, and their comparisons.
+#![tactic(auto)]
 pub mod comparison;
 pub mod operation;

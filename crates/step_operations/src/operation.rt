@@ -13,7 +13,7 @@ use program::rule::Operator;
 const UNFILLED: i64 = 8589934592;
 
 // An expression is unfilled or has a value; or one of its sums leaves the range.
-#[derive(Drop)]
+#[derive(Clone, Copy)]
 pub enum Evaluated {
     Missing,
     Value(i32),

@@ -26,7 +26,7 @@ use text_terms::term::TermRead;
 use text_words::token::{Place, Token};
 
 // A rule, what is asked of it and the number of codes then; or no rule stands there to the end of the line.
-#[derive(Drop)]
+#[derive(Clone, Copy)]
 pub enum ActionRead {
     Action(Rule, Checks, usize),
     NoForm,
@@ -63,7 +63,7 @@ fn read_local(
 }
 
 // F and C of a remote target `F[C]`, and the place behind it; or none stands there.
-#[derive(Drop)]
+#[derive(Clone, Copy)]
 pub enum TargetRead {
     Target(u8, TermParts, usize),
     NoForm,

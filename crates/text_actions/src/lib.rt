@@ -1,2 +1,3 @@
 // Rules without their test, to the end of the line.
+#![tactic(auto)]
 pub mod action;

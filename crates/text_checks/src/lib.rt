@@ -1,4 +1,5 @@
 // What 9 to 12, 24 and 25 ask of the parts of a rule.
+#![tactic(auto)]
 
 ghost use Rattle.std.specs.Prelude.{◌≡◌};
 ghost use Rattle.text_syntax.specs.Parts.{same_kind};

@@ -4,7 +4,7 @@ ghost use Rattle.text_codes.specs.Codes.{sign_codes, Wrote};
 
 // A term as a code, and what 9 to 12 ask of it: that capitals name fields, that the chain goes over references, whether it is
 // one, that it has at most 16 hops, that the number is in range.
-#[derive(Drop)]
+#[derive(Clone, Copy)]
 pub struct TermParts {
     pub code: u64,
     pub named: bool,

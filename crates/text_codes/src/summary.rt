@@ -9,7 +9,7 @@ use program::rule::Operator;
 
 // Whether all letters name fields, chains go over references, a reference or a measure is held, chains are short, numbers
 // are in range; the groups around groups, and the operators.
-#[derive(Drop)]
+#[derive(Clone, Copy)]
 pub struct Summary {
     pub named: bool,
     pub kinded: bool,

@@ -8,14 +8,14 @@ use text_codes::summary::Summary;
 use text_rules::line::Checks;
 
 // A test and what is asked of it.
-#[derive(Drop)]
+#[derive(Clone, Copy)]
 pub struct TestParts {
     pub test: Test,
     pub checks: Checks,
 }
 
 // The first side of a test.
-#[derive(Drop)]
+#[derive(Clone, Copy)]
 pub struct FirstSide {
     pub seen: Summary,
     pub term: Term,

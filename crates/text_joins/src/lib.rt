@@ -1,4 +1,5 @@
 // What operators of a rank join, element by element.
+#![tactic(auto)]
 ghost use Rattle.std.specs.Prelude.{◌≤◌, length};
 ghost use Rattle.text_syntax.specs.Grammar.{is_sum, is_smaller};
 ghost use Rattle.text_joins.specs.Join.{RankedAt, rank_of, NextAt, ReadyFor, JoinedBy, EndInside, GroupedBy};
@@ -11,7 +12,7 @@ use text_words::token::Place;
 
 // What has been gathered then, the place behind and the number of codes; no form stands there; or one that is deeper than
 // what remains.
-#[derive(Drop)]
+#[derive(Clone, Copy)]
 pub enum Reading {
     Read(Summary, usize, usize),
     NoForm,
@@ -59,7 +60,7 @@ fn ranked(line: &[u8], at: usize, sums: bool) -> OperatorRead
 
 // What stands before the element that is due at `at`: what has been gathered, the number of codes, and the operator's
 // code that is to stand behind those of the element, 0 where there is none.
-#[derive(Drop)]
+#[derive(Clone, Copy)]
 pub struct Pending {
     pub at: usize,
     pub seen: Summary,
@@ -68,7 +69,7 @@ pub struct Pending {
 }
 
 // Another element is due, or that is all.
-#[derive(Drop)]
+#[derive(Clone, Copy)]
 pub enum Joining {
     Next(Pending),
     Done(Reading),

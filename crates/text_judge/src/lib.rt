@@ -1,4 +1,5 @@
 // The next line of a text, read and judged where the reader stands.
+#![tactic(auto)]
 ghost use Rattle.std.specs.Prelude.{◌≤◌, ◌<◌, length};
 ghost use Rattle.register.specs.Shape.{Limits};
 ghost use Rattle.text_next.specs.Front.{CodeRoom};
@@ -9,7 +10,7 @@ use text_rules::scope::Scope;
 use text_state::state::State;
 
 // The refusal of a line, 0 where it passes; where it ends, how many codes there are behind it, and its reading.
-#[derive(Drop)]
+#[derive(Clone, Copy)]
 pub struct Next {
     pub refusal: u32,
     pub end: usize,

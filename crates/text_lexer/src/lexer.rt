@@ -11,7 +11,7 @@ use text_words::token::{SizedToken, Token};
 use text_words::word;
 
 // A token and the place of the next one.
-#[derive(Drop)]
+#[derive(Clone, Copy)]
 pub struct Lexeme {
     pub token: Token,
     pub end: usize,

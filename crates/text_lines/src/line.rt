@@ -23,7 +23,7 @@ use text_sides::side::SideRead;
 use text_words::token::{Place, Token};
 
 // A line and the number of codes behind it.
-#[derive(Drop)]
+#[derive(Clone, Copy)]
 pub struct LineParts {
     pub line: LineRead,
     pub used: usize,

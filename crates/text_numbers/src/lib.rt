@@ -1,4 +1,5 @@
 // Numbers of a rules text.
+#![tactic(auto)]
 ghost use Rattle.std.specs.Prelude.{◌≡◌, true, ◌+◌, ◌-◌, ◌*◌, ◌≤◌, length, drop};
 ghost use Rattle.text_numerals.specs.Numeral.{is_digit, starts_digit, is_numeral, numeral, capped, signed_value, number_form, signed_form};
 ghost use Rattle.text_numbers.specs.Numbers.{ReadsDigits, ReadsNumeral, digits_read, number_read};
@@ -31,7 +32,7 @@ fn with_digit(n: u64, b: u8) -> u64
 }
 
 // What digits write, and the place behind them. Any value from 2,147,483,649 on counts as that one, out of range all the same.
-#[derive(Drop)]
+#[derive(Clone, Copy)]
 pub struct Digits {
     pub value: u64,
     pub end: usize,
@@ -53,7 +54,7 @@ fn digits_at(line: &[u8], at: usize, n: u64) -> Digits
 
 // What a numeral writes, in centimetres and capped as its digits are; the place behind its digits before a point; and the
 // place behind all of it.
-#[derive(Drop)]
+#[derive(Clone, Copy)]
 pub struct Figures {
     pub value: u64,
     pub point: usize,
@@ -110,7 +111,7 @@ fn signed_value(negative: bool, n: u64) -> i64
 }
 
 // A number, capped as its digits are, and the place behind it; or no number stands there.
-#[derive(Drop)]
+#[derive(Clone, Copy)]
 pub enum NumberRead {
     Number(i64, usize),
     NoForm,

@@ -1,3 +1,4 @@
 // Single tokens at a place of a line, and the place behind them.
+#![tactic(auto)]
 pub mod place;
 pub mod word;

@@ -78,7 +78,7 @@ pub fn mark(line: &[u8], at: usize, due: bool, number: u8) -> Place
 }
 
 // An operator and the place behind it; or none stands there.
-#[derive(Drop)]
+#[derive(Clone, Copy)]
 pub enum OperatorRead {
     Operator(Operator, usize),
     Nothing,

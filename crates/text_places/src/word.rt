@@ -10,7 +10,7 @@ use text_lexer::lexer;
 use text_words::token::{Place, Token};
 
 // A capital and the place behind it; or none stands there. It is one byte and needs no lexer.
-#[derive(Drop)]
+#[derive(Clone, Copy)]
 pub enum LetterRead {
     Letter(u8, usize),
     Nothing,
@@ -31,7 +31,7 @@ pub fn letter(line: &[u8], at: usize) -> LetterRead
 }
 
 // `<?=` or `+=` and the place behind it; or none stands there.
-#[derive(Drop)]
+#[derive(Clone, Copy)]
 pub enum WriteRead {
     Write(Sort, usize),
     Nothing,
@@ -50,7 +50,7 @@ pub fn write(line: &[u8], at: usize) -> WriteRead
 }
 
 // `<`, `==` or `!=` and the place behind it; or none stands there.
-#[derive(Drop)]
+#[derive(Clone, Copy)]
 pub enum ComparisonRead {
     Compared(Comparison, usize),
     Nothing,

@@ -16,7 +16,7 @@ use text_state::state;
 use text_state::state::State;
 
 // A rule at its place; the frame of a step that the line closes, or marks as the last of its loop; or nothing.
-#[derive(Drop)]
+#[derive(Clone, Copy)]
 pub enum Store {
     Rule(usize, Located),
     Close(usize),

@@ -1,5 +1,6 @@
 // The text reader: one loop over the lines that holds the program and the open step's plan. The array for the codes of
 // expressions is lent to it.
+#![tactic(auto)]
 ghost use Rattle.std.specs.Prelude.{◌≡◌, ◌≤◌, length};
 ghost use Rattle.register.specs.Shape.{Limits};
 ghost use Rattle.text_rules.specs.Text.{lines, start as start_of, read_from};
@@ -13,7 +14,7 @@ use text_rules::scope::Scope;
 use text_state::state;
 
 // A program, where the refusal is 0; otherwise the refusal's number and its line.
-#[derive(Drop)]
+#[derive(Clone, Copy)]
 pub struct Checked {
     pub refusal: u32,
     pub line: usize,

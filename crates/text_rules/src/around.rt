@@ -6,7 +6,7 @@ ghost use Rattle.text_rules.specs.Text.{setting_in, with_step, last_of};
 use program::setting::Setting;
 
 // No loop is open, or one on a field that holds no step yet, or one that does.
-#[derive(Drop)]
+#[derive(Clone, Copy)]
 pub enum Around {
     Outside,
     Unused(u64),

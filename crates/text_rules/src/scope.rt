@@ -2,7 +2,7 @@
 use register::Sizes;
 
 // The sizes of the register that the text is checked against.
-#[derive(Drop)]
+#[derive(Clone, Copy)]
 pub struct Scope {
     pub sizes: Sizes,
 }

@@ -1,4 +1,5 @@
 // An expression in one pass, at any depth of groups.
+#![tactic(auto)]
 ghost use Rattle.std.specs.Prelude.{◌≡◌, true, false, ◌≤◌, length};
 ghost use Rattle.register.specs.Shape.{Limits};
 ghost use Rattle.text_places.specs.Place.{NoOperator};
@@ -15,7 +16,7 @@ use text_terms::term::TermRead;
 use text_words::token::Place;
 
 // Where a pass stands: whether an operand is due, in how many groups, and what has been gathered.
-#[derive(Drop)]
+#[derive(Clone, Copy)]
 pub struct ScanState {
     pub at: usize,
     pub due: bool,
@@ -24,7 +25,7 @@ pub struct ScanState {
 }
 
 // The next state of a pass; its end; or no expression stands there.
-#[derive(Drop)]
+#[derive(Clone, Copy)]
 pub enum Turn {
     Next(ScanState),
     Done(Summary, usize),
@@ -118,7 +119,7 @@ fn next_state(line: &[u8], sizes: Sizes, state: ScanState) -> Turn
 }
 
 // What an expression holds and the place behind it; or no expression stands there.
-#[derive(Drop)]
+#[derive(Clone, Copy)]
 pub enum ScanRead {
     Scanned(Summary, usize),
     NoForm,

@@ -12,7 +12,7 @@ use text_joins::Reading;
 use text_scan::ScanRead;
 
 // What is asked of an expression, the place behind it and the number of codes then; or no expression stands there.
-#[derive(Drop)]
+#[derive(Clone, Copy)]
 pub enum ExpressionRead {
     Parts(Summary, usize, usize),
     NoForm,

@@ -77,7 +77,7 @@ pub fn codes_behind_set(from: usize, to: usize) -> usize
 }
 
 // What is asked of an expression, its term, the place behind it and the number of codes then; or none stands there.
-#[derive(Drop)]
+#[derive(Clone, Copy)]
 pub enum SideRead {
     Side(Summary, Term, usize, usize),
     NoForm,

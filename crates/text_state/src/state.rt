@@ -12,7 +12,7 @@ use text_rules::line::LineRead;
 
 // The number of closed steps, the most plan lines of any of them, the loop around, whether a step is open and what is kept
 // of its rules.
-#[derive(Drop)]
+#[derive(Clone, Copy)]
 pub struct State {
     pub steps: usize,
     pub lines: usize,

@@ -5,7 +5,7 @@ ghost use Rattle.text_state.specs.State.{no_rules, other_sort, more_rules, with_
 use program::rule::{Rule, Sort};
 
 // Their number, whether one is remote, which fields they write, and which of these have taken a `<?=` and which a `+=`.
-#[derive(Drop)]
+#[derive(Clone, Copy)]
 pub struct Tally {
     pub rules: usize,
     pub remote: bool,

@@ -11,7 +11,7 @@ use text_places::{place, word};
 use text_words::token::Place;
 
 // What a chain begins with: `u`, or a letter and `[`, and the place behind; or no chain stands there.
-#[derive(Drop)]
+#[derive(Clone, Copy)]
 pub enum Link {
     Own(usize),
     Letter(u8, usize),
@@ -37,7 +37,7 @@ pub fn first_link(line: &[u8], at: usize, due: bool) -> Link
 }
 
 // A chain's letters and the place behind it; or no chain stands there.
-#[derive(Drop)]
+#[derive(Clone, Copy)]
 pub enum ChainRead {
     Chain(Letters, usize),
     NoForm,

@@ -17,7 +17,7 @@ use text_lexer::lexer;
 use text_words::token::Token;
 
 // A term and the place behind it; or no term stands there.
-#[derive(Drop)]
+#[derive(Clone, Copy)]
 pub enum TermRead {
     Parts(TermParts, usize),
     NoForm,

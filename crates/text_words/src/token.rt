@@ -7,7 +7,7 @@ use program::rule::{Comparison, Operator, Sort};
 
 // A word; `u`; a capital; a number, capped as its digits are; `:=`, `:`; `<?=` or `+=`; an operator; `<`, `==` or `!=`;
 // brackets; what is no token; and the end of the line.
-#[derive(Drop)]
+#[derive(Clone, Copy)]
 pub enum Token {
     Step,
     End,
@@ -32,14 +32,14 @@ pub enum Token {
 }
 
 // A token and the number of its bytes, 0 where none stands.
-#[derive(Drop)]
+#[derive(Clone, Copy)]
 pub struct SizedToken {
     pub token: Token,
     pub size: usize,
 }
 
 // The place behind a word; or the word does not stand there.
-#[derive(Drop)]
+#[derive(Clone, Copy)]
 pub enum Place {
     At(usize),
     Nothing,

@@ -1,20 +1,17 @@
 -- `integers::times_mark` meets its contract: whether a mark is not 0 is 0 or 1, so that the product has 32 bits.
--- Assumes nothing.
 use mathlib.Core.Path.{◌≡◌, ap, ap₂, ◌∙◌}
 use mathlib.Core.Bool.{not}
 use native.Mathlib.Omega.{arith}
-use borrow.Author.Rules.{rules}
 use lib.Dec.{eqb}
-use lib.IntN.{ℤ, pos, ◌*ℤ◌}
+use lib.IntN.{pos, ◌*ℤ◌}
 use mir.Syntax.{w32}
 use mir.Val.{SFits, to_z, of_z, bool_byte}
 use mir.Facts.{to_z-of_z, to_z_pos}
 use Rattle.integers.specs.Factor.{factor}
 use Rattle.integers.proofs.Product.{times-fits, byte_factor, factor≤}
-use Rattle.integers.proofs.times_mark.Statement.{statement}
-use Rattle.integers.proofs.times_mark.Tie as tie
+use Rattle.integers.proofs.times_mark.Goals as goal
 
-module _ (c : tie.Start) where
+module _ (c : goal.Start) where
   product : to_z w32 (of_z w32 c.args.value) *ℤ to_z w32 (bool_byte (not (eqb c.args.mark 0))) ≡ c.args.value *ℤ pos (factor c.args.mark)
   product =
       ap₂ ◌*ℤ◌ (to_z-of_z {w = w32} c.ranges.value)
@@ -23,11 +20,5 @@ module _ (c : tie.Start) where
   mul_result : SFits w32 (to_z w32 (of_z w32 c.args.value) *ℤ to_z w32 (bool_byte (not (eqb c.args.mark 0))))
   mul_result = rw product (times-fits _ _ c.ranges.value)
 
-cast-result : tie.Need-overflow-cast-result
-cast-result c = search rules
-
-returns : tie.Need-returns
+pub returns : goal.returns
 returns c = to_z-of_z {w = w32} (mul_result c) ∙ product c
-
-pub times-mark-spec : {M : Type 1} → statement M
-times-mark-spec = tie.close (tie.spec cast-result mul_result returns)
