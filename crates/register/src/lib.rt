@@ -1,5 +1,6 @@
 // The register file: its sizes and its cells.
 #![tactic(auto)]
+
 ghost use Rattle.std.specs.Prelude.{◌≡◌, ◌+◌, ◌*◌, ◌≤◌, ◌<◌, length};
 ghost use Rattle.register.specs.File.{sizes_of, width, cell_count, cell_index};
 ghost use Rattle.register.specs.Shape.{Limits};
