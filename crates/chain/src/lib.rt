@@ -1,5 +1,6 @@
 // Chains packed into one number, and followed through a register.
 #![tactic(auto)]
+
 pub mod follow;
 pub mod packed;
 pub mod reading;

@@ -151,7 +151,7 @@ readings_grow l (w ∷ ws) =
     (grows_map (λ g n. record { reading = n.reading; among = Memᴰ.tail n.among; needed = n.needed }) (readings_grow (add l (read w)) ws))
 
 -- and each reading that has a line is then among them
-pub readings_had : (l : List Fact) {w : List ℕ} {ws : List (List ℕ)} → Memᴰ w ws → Had (add_readings l ws) (read w)
+pub readings_had : {w : List ℕ} (l : List Fact) {ws : List (List ℕ)} → Memᴰ w ws → Had (add_readings l ws) (read w)
 unfolding add_readings
 readings_had l (Memᴰ.head {x = v} {xs = ws} e) = rw e (grows_had (read v) (readings_grow (add l (read v)) ws) (add_had l (read v)))
 readings_had l (Memᴰ.tail {x = v} m) = readings_had (add l (read v)) m

@@ -1,5 +1,6 @@
 // The lines that are printed: a register's listing, and a refusal.
 #![tactic(auto)]
+
 ghost use Rattle.std.specs.Prelude.{◌≡◌, ◌++◌, ◌+◌, ◌*◌, ◌<◌, length};
 ghost use Rattle.register.specs.Cells.{cells_of};
 ghost use Rattle.register.specs.File.{cell_count, cells_of_file};

@@ -1,5 +1,6 @@
 // Bytes, numbers and cells, put on the page at a place: each function answers the place behind what it put.
 #![tactic(auto)]
+
 ghost use Rattle.std.specs.Prelude.{◌≡◌, [], ◌∷◌, ◌++◌, nat_abs};
 ghost use Rattle.print_page.specs.Decimal.{decimal_text, value_text, cell_text};
 ghost use Rattle.print_page.specs.Put.{PageRoom, PagePut};

@@ -1,5 +1,6 @@
 // The check of a register's cells, refusals 3 to 5 of document 01.
 #![tactic(auto)]
+
 ghost use Rattle.std.specs.Prelude.{◌≡◌, ◌+◌, ◌*◌, ◌≤◌, ◌<◌, ltb};
 ghost use Rattle.laws.specs.Outcome.{first};
 ghost use Rattle.register.specs.File.{width};
