@@ -1,5 +1,6 @@
 // The path behind a reading (M-109): the cells that following a chain looks at, up to the value or the first missing one.
 #![tactic(auto)]
+
 ghost use Rattle.std.specs.Prelude.{[], ◌<◌};
 ghost use Rattle.register.specs.Cells.{cells_of};
 ghost use Rattle.register.specs.Shape.{Parts, Valid};

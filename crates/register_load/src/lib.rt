@@ -1,5 +1,6 @@
 // Whether a file is a register, and why another is refused.
 #![tactic(auto)]
+
 ghost use Rattle.std.specs.Prelude.{◌≡◌};
 ghost use Rattle.register.specs.Load.{within_limits, load_sized, load as load_of};
 ghost use Rattle.register.specs.Shape.{Limits};

@@ -1,5 +1,6 @@
 // Places of the scratch buffers (document 01's working arrays), each a value and a mark.
 #![tactic(auto)]
+
 pub mod column;
 
 ghost use Rattle.std.specs.Prelude.{◌≡◌, ◌+◌, ◌*◌, ◌≤◌, ◌<◌, pos, length, get_or, set};
