@@ -6,7 +6,7 @@ use Rattle.scratch.specs.Places.{StoredFrom}
 use Rattle.scratch.proofs.column.copy_column.Given as goal
 
 abbrev pub invariant-loop-u : goal.invariant-loop-u
-invariant-loop-u l = (l.u ≤ l.u-end) × StoredFrom l.at l.u (λ l.u. read_cell l.sizes (cells_of l.cells l.filled) l.u l.field) l.initial.values l.initial.marks l.values l.marks
+invariant-loop-u l = (l.u ≤ l.u-end) × StoredFrom l.at l.u (λ k. read_cell l.sizes (cells_of l.cells l.filled) k l.field) l.initial.values l.initial.marks l.values l.marks
 
 abbrev pub decreases-loop-u : goal.decreases-loop-u
 decreases-loop-u l = l.u-end - l.u
