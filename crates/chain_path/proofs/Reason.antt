@@ -67,6 +67,8 @@ module _ (s : Sizes) (cells : List Cell) (u f j : ℕ) where
 pub listed-needed : (s : Sizes) (cells : List Cell) (w : List ℕ) (x : Reading) {h : Hop} → Memᴰ h (path s cells x w)
     → follow s (set cells (cell_place s h) Unfilled) x w ≡ Missing
 unfolding path follow hop
+listed-needed s cells [] _ {h = h} m = elim m [ ]
+listed-needed s cells (f ∷ w) Missing {h = h} m = elim m [ ]
 listed-needed s cells (f ∷ w) (Value z) {h} m =
     go (listed-needed s cells w (read_cell s cells u f)) m (ℕ_discrete (cell_index s u (column s f)) (cell_place s h))
   where

@@ -1,4 +1,5 @@
 -- `chain_path::path_at_record` meets its contract. The loop's invariant: the hops noted and those still to come are the
+-- whole path, and the reading reached is underway as in `chain::follow`.
 use Prim.Native.Nat.{◌<◌}
 use mathlib.Core.Path.{◌≡◌, ap, ◌∙◌}
 use mathlib.Core.Bool.{true}

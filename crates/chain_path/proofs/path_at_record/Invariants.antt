@@ -1,4 +1,5 @@
 -- `chain_path::path_at_record` meets its contract. The loop's invariant: the hops noted and those still to come are the
+-- whole path, and the reading reached is underway as in `chain::follow`.
 use mathlib.Core.Path.{◌≡◌}
 use mathlib.Core.Bool.{true}
 use lib.ListN.{length}
@@ -11,10 +12,10 @@ use Rattle.chain_path.proofs.path_at_record.Given as goal
 
 abbrev pub invariant-loop-rest : goal.invariant-loop-rest
 invariant-loop-rest l =
-    let l = cells_of l.cells l.filled in
+    let cells = cells_of l.cells l.filled in
     (readable l.sizes (unpack l.rest) ≡ true)
-    × Underway l.sizes l (value_at_record l.sizes l (unpack l.chain) l.u) (unpack l.rest) l.reading
-    × Walking l.sizes l (path_at_record l.sizes l (unpack l.chain) l.u) (unpack l.rest) l.reading l.path
+    × Underway l.sizes cells (value_at_record l.sizes cells (unpack l.chain) l.u) (unpack l.rest) l.reading
+    × Walking l.sizes cells (path_at_record l.sizes cells (unpack l.chain) l.u) (unpack l.rest) l.reading l.path
 
 abbrev pub decreases-loop-rest : goal.decreases-loop-rest
 decreases-loop-rest l = length (unpack l.rest)
