@@ -13,18 +13,18 @@ returns-in_default c = sym (ap (closed_by _) c.in_default.is)
 
 pub overflow_add-result : goal.overflow_add-result
 overflow_add-result c =
-    let test : (t : Bool) → c.starts_with.result ≡ t → starts_with 93 (drop c.inner-1.given.0.1.0 c.args.text.now) ≡ t = λ t h. sym c.starts_with.ensures ∙ h in
+    let test : (t : Bool) → c.starts_with.result ≡ t → starts_with 93 (drop c.in-Chain.end c.args.text.now) ≡ t = λ t h. sym c.starts_with.ensures ∙ h in
     let t = c.args.text.now in
-    record { fits = omega (arith, starts-inside t c.inner-1.given.0.1.0 93 (test _ c.if-starts_with.true)) }
+    record { fits = omega (arith, starts-inside t c.in-Chain.end 93 (test _ c.if-starts_with.true)) }
 
 pub returns-then-starts_with : goal.returns-then-starts_with
 unfolding closed_by
 returns-then-starts_with c =
-    let test : (t : Bool) → c.starts_with.result ≡ t → starts_with 93 (drop c.inner-1.given.0.1.0 c.args.text.now) ≡ t = λ t h. sym c.starts_with.ensures ∙ h in
+    let test : (t : Bool) → c.starts_with.result ≡ t → starts_with 93 (drop c.in-Chain.end c.args.text.now) ≡ t = λ t h. sym c.starts_with.ensures ∙ h in
     sym (ap (closed_by _) c.in-Chain.is ∙ simp (test _ c.if-starts_with.true))
 
 pub returns-else-starts_with : goal.returns-else-starts_with
 unfolding closed_by
 returns-else-starts_with c =
-    let test : (t : Bool) → c.starts_with.result ≡ t → starts_with 93 (drop c.inner-1.given.0.1.0 c.args.text.now) ≡ t = λ t h. sym c.starts_with.ensures ∙ h in
+    let test : (t : Bool) → c.starts_with.result ≡ t → starts_with 93 (drop c.in-Chain.end c.args.text.now) ≡ t = λ t h. sym c.starts_with.ensures ∙ h in
     sym (ap (closed_by _) c.in-Chain.is ∙ simp (test _ c.if-starts_with.false))

@@ -1,9 +1,8 @@
 -- `chain_text::text::closes_at` meets its contract. The loop's invariant: each of the first i bytes is `]`.
-use Prim.Native.Nat.{ℕ, ◌-◌, ◌+◌}
+use Prim.Native.Nat.{ℕ, ◌+◌}
 use mathlib.Core.Path.{ap, ◌≡◌, refl, sym, ◌∙◌}
 use mathlib.Core.Bool.{true}
 use native.Mathlib.Omega.{arith}
-use borrow.Author.Tests.{not-true, not-false}
 use lib.ListN.{drop}
 use Rattle.chain_text.specs.Scan.{starts_with, closes}
 use Rattle.chain_text.proofs.Scanning.{starts-inside, closes-next, closes_fails}
@@ -19,13 +18,13 @@ overflow_add-at c = record { fits = omega (arith, c.loop-i.invariant.1) }
 pub returns-then-not-starts_with : goal.returns-then-not-starts_with
 returns-then-not-starts_with c =
     let a = c.args in
-    sym (closes_fails a.text.now a.at a.n c.loop-i.i (omega arith) (sym c.starts_with.ensures ∙ not-true _ c.if-not-starts_with.true))
+    sym (closes_fails a.text.now a.at a.n c.loop-i.i (omega arith) (sym c.starts_with.ensures ∙ c.if-not-starts_with.true))
 
 pub loop-i-preserved : goal.loop-i-preserved
 loop-i-preserved c =
     let a = c.args in
     let i = c.loop-i.i in
-    let here : starts_with 93 (drop (a.at + i) a.text.now) ≡ true = sym c.starts_with.ensures ∙ not-false _ c.if-not-starts_with.false in
+    let here : starts_with 93 (drop (a.at + i) a.text.now) ≡ true = sym c.starts_with.ensures ∙ c.if-not-starts_with.false in
     (omega arith, omega (arith, starts-inside a.text.now (a.at + i) 93 here), closes-next a.text.now a.at i c.loop-i.invariant.2 here)
 
 pub returns : goal.returns

@@ -2,7 +2,6 @@
 use mathlib.Core.Path.{◌≡◌, sym, ap, ◌∙◌}
 use mathlib.Core.Bool.{Bool, true}
 use native.Mathlib.Omega.{arith}
-use borrow.Author.Tests.{not-true, not-false}
 use lib.ListN.{drop}
 use Rattle.chain_text.specs.Scan.{starts_with, opens, step}
 use Rattle.chain_text.specs.declared.text.Head.TheVariants.{Answer, Opening}
@@ -24,7 +23,7 @@ pub returns-then-not-opens_at : goal.returns-then-not-opens_at
 returns-then-not-opens_at c =
     let u-test : ((t : Bool) → c.starts_with.result ≡ t → let a = c.args in starts_with 117 (drop a.at a.text.now) ≡ t) = λ t h. sym c.starts_with.ensures ∙ h in
     let open_test : ((t : Bool) → c.opens_at.result ≡ t → let a = c.args in opens (drop a.at a.text.now) ≡ t) = λ t h. sym c.opens_at.ensures ∙ h in
-    sym (first-none _ _ _ _ _ (u-test _ c.if-starts_with.false) (open_test _ (not-true _ c.if-not-opens_at.true)))
+    sym (first-none _ _ _ _ _ (u-test _ c.if-starts_with.false) (open_test _ (c.if-not-opens_at.true)))
 
 pub overlong-requires : goal.overlong-requires
 overlong-requires c =
@@ -35,7 +34,7 @@ pub returns-then-room-eq0 : goal.returns-then-room-eq0
 returns-then-room-eq0 c =
     let u-test : ((t : Bool) → c.starts_with.result ≡ t → let a = c.args in starts_with 117 (drop a.at a.text.now) ≡ t) = λ t h. sym c.starts_with.ensures ∙ h in
     let open_test : ((t : Bool) → c.opens_at.result ≡ t → let a = c.args in opens (drop a.at a.text.now) ≡ t) = λ t h. sym c.opens_at.ensures ∙ h in
-    let opening : (let a = c.args in opens (drop a.at a.text.now) ≡ true) = open_test _ (not-false _ c.if-not-opens_at.false) in
+    let opening : (let a = c.args in opens (drop a.at a.text.now) ≡ true) = open_test _ (c.if-not-opens_at.false) in
     let e = c in
     ap Answer c.overlong.ensures
     ∙ sym (first_full _ _ _ _ _ (u-test _ e.if-starts_with.false) (opening) c.if-room-eq0.true)
@@ -43,14 +42,14 @@ returns-then-room-eq0 c =
 pub bounds-text-at : goal.bounds-text-at
 bounds-text-at c =
     let open_test : ((t : Bool) → c.opens_at.result ≡ t → let a = c.args in opens (drop a.at a.text.now) ≡ t) = λ t h. sym c.opens_at.ensures ∙ h in
-    let opening : (let a = c.args in opens (drop a.at a.text.now) ≡ true) = open_test _ (not-false _ c.if-not-opens_at.false) in
+    let opening : (let a = c.args in opens (drop a.at a.text.now) ≡ true) = open_test _ (c.if-not-opens_at.false) in
     let a = c.args in
     omega (arith, opens-inside a.text.now a.at (opening))
 
 pub step-requires : goal.step-requires
 step-requires c =
     let open_test : ((t : Bool) → c.opens_at.result ≡ t → let a = c.args in opens (drop a.at a.text.now) ≡ t) = λ t h. sym c.opens_at.ensures ∙ h in
-    let opening : (let a = c.args in opens (drop a.at a.text.now) ≡ true) = open_test _ (not-false _ c.if-not-opens_at.false) in
+    let opening : (let a = c.args in opens (drop a.at a.text.now) ≡ true) = open_test _ (c.if-not-opens_at.false) in
     let s = c in
     (s.requires.0, opens-capital s.args.text.now s.args.at (opening), s.requires.1, s.requires.2)
 
@@ -58,7 +57,7 @@ pub returns : goal.returns
 returns c =
     let u-test : ((t : Bool) → c.starts_with.result ≡ t → let a = c.args in starts_with 117 (drop a.at a.text.now) ≡ t) = λ t h. sym c.starts_with.ensures ∙ h in
     let open_test : ((t : Bool) → c.opens_at.result ≡ t → let a = c.args in opens (drop a.at a.text.now) ≡ t) = λ t h. sym c.opens_at.ensures ∙ h in
-    let opening : (let a = c.args in opens (drop a.at a.text.now) ≡ true) = open_test _ (not-false _ c.if-not-opens_at.false) in
+    let opening : (let a = c.args in opens (drop a.at a.text.now) ≡ true) = open_test _ (c.if-not-opens_at.false) in
     let a = c.args in
     let e = c in
     ap Opening (c.step.ensures ∙ ap (step a.sizes a.room a.letters) (sym (first-at a.text.now a.at)))

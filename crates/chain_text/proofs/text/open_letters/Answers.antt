@@ -1,5 +1,5 @@
 -- `chain_text::text::open_letters` meets its contract. The loop's invariant: what is left from i on comes to the same as the whole.
-use Prim.Native.Nat.{◌-◌, ◌+◌, ◌<◌}
+use Prim.Native.Nat.{◌+◌, ◌<◌}
 use mathlib.Core.Path.{◌≡◌, refl, sym, ◌∙◌}
 use mathlib.Core.Bool.{true}
 use native.Mathlib.Omega.{arith}
@@ -9,10 +9,7 @@ use Rattle.chain_text.proofs.Scanning.{passed-more, passed-end, opens-inside, op
 use Rattle.chain_text.proofs.text.open_letters.Goals as goal
 
 pub loop-sizes-init : goal.loop-sizes-init
-loop-sizes-init c =
-    let opening : opens (drop c.loop-sizes.i c.args.text.now) ≡ true = sym c.opens_at.ensures ∙ c.loop-sizes-test.true in
-    let inside : c.loop-sizes.i + 1 < length c.args.text.now = opens-inside c.args.text.now c.loop-sizes.i (opening) in
-    record { inside = c.requires.2; letters = refl; place = refl; packed = refl }
+loop-sizes-init c = record { inside = c.requires.2; letters = refl; place = refl; packed = refl }
 
 pub bounds-text-i : goal.bounds-text-i
 bounds-text-i c =
