@@ -1,5 +1,6 @@
 // The plan of a step's readings: its lines, their rounds, and which lines their needs are. `plan_builder` adds a reading to one.
 #![tactic(auto)]
+
 ghost use Rattle.std.specs.Prelude.{◌≡◌, [], ◌≤◌, length};
 ghost use Rattle.plan_lines.specs.Held.{LastOf, HoldsLines};
 

@@ -1,6 +1,7 @@
 // What a read program is: terms, tests, rules, steps, and the array that holds them. The readers of a text make it, and the
 // runs use it.
 #![tactic(auto)]
+
 pub mod code;
 pub mod frame;
 pub mod location;

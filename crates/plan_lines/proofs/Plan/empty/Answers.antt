@@ -1,12 +1,10 @@
 -- `plan_lines::Plan::empty` meets its contract.
--- Assumes nothing.
 use mathlib.Core.Path.{refl}
 use native.Mathlib.Omega.{arith}
 use Rattle.plan_lines.specs.Held.{facts_in}
-use Rattle.plan_lines.proofs.Plan.empty.Statement.{statement}
-use Rattle.plan_lines.proofs.Plan.empty.Tie as tie
+use Rattle.plan_lines.proofs.Plan.empty.Goals as goal
 
-returns : tie.Need-returns
+pub returns : goal.returns
 unfolding facts_in
 returns c =
     record {
@@ -17,6 +15,3 @@ returns c =
       backs_are = record { places = refl; entry = λ i h. absurd (omega arith) };
       reads_are = record { places = refl; entry = λ i h. absurd (omega arith) };
     }
-
-pub empty-spec : {M : Type 1} → statement M
-empty-spec = tie.close (tie.spec returns)
