@@ -10,13 +10,13 @@ use Rattle.plan_keys.specs.Keys.{fact_of}
 use Rattle.plan_lines.specs.Held.{facts_in}
 use Rattle.plan_lines.proofs.Search.{facts-length, last_found, last-past}
 use Rattle.plan_lines.proofs.Settled.{index-old, index_new, no_line_new}
-use borrow.Author.Tests.{leb-false, not-true}
+use borrow.Author.Tests.{leb-false}
 use Rattle.plan_lines.proofs.lines.index_of.Goals as goal
 
 pub returns-then-not-has_line : goal.returns-then-not-has_line
 returns-then-not-has_line c =
     let s = c in
-    let none = leb-false _ _ (sym c.has_line.ensures ∙ not-true _ c.if-not-has_line.true) in
+    let none = leb-false _ _ (sym c.has_line.ensures ∙ c.if-not-has_line.true) in
     sym (index_new _ _ (no_line_new _ _ s.requires.1 none))
 
 pub loop-left-init : goal.loop-left-init
