@@ -18,9 +18,9 @@ header records finished exchanges letters =
     counted records " records " ++ counted finished " steps " ++ counted exchanges " exchanges " ++ counted letters " letters\n"
 
 -- f 0, f 1, .., f (n − 1), one behind the other
-unfoldable pub in_aRow : ℕ → (ℕ → List ℕ) → List ℕ
-in_aRow zero f = []
-in_aRow (suc n) f = in_aRow n f ++ f n
+unfoldable pub in_a_row : ℕ → (ℕ → List ℕ) → List ℕ
+in_a_row zero f = []
+in_a_row (suc n) f = in_a_row n f ++ f n
 
 -- field f of record u, behind a space
 unfoldable pub field_text : Sizes → List Cell → ℕ → ℕ → List ℕ
@@ -28,11 +28,11 @@ field_text s cells u f = bytes " " ++ cell_text (get_or cells (cell_index s u f)
 
 -- "Then record number, its fields in order"
 unfoldable pub record_line : Sizes → List Cell → ℕ → List ℕ
-record_line s cells u = decimal_text u ++ in_aRow (width s) (field_text s cells u) ++ bytes "\n"
+record_line s cells u = decimal_text u ++ in_a_row (width s) (field_text s cells u) ++ bytes "\n"
 
 -- the header, and a line for each record
 unfoldable pub listing : Sizes → List Cell → ℕ → ℕ → ℕ → List ℕ
-listing s cells finished exchanges letters = header s.records finished exchanges letters ++ in_aRow s.records (record_line s cells)
+listing s cells finished exchanges letters = header s.records finished exchanges letters ++ in_a_row s.records (record_line s cells)
 
 -- "A refusal prints only `refused N at K`"
 unfoldable pub refused_line : ℕ → ℕ → List ℕ

@@ -7,7 +7,7 @@ ghost use Rattle.register.specs.File.{cell_count, cells_of_file};
 ghost use Rattle.register.specs.Shape.{Limits, Parts};
 ghost use Rattle.print_page.specs.Decimal.{decimal_text};
 ghost use Rattle.print_page.specs.Put.{PageRoom, PagePut};
-ghost use Rattle.print_listing.specs.Listing.{header, in_aRow, record_line, listing, refused_line};
+ghost use Rattle.print_listing.specs.Listing.{header, in_a_row, record_line, listing, refused_line};
 
 use print_page::{put_byte, put_bytes, put_cell, put_number};
 use register::{Sizes, cells};
@@ -61,8 +61,8 @@ fn put_record(
 }
 
 fn put_records(page: &mut [u8], at: usize, cells: &[u8], filled: &[u8], sizes: Sizes) -> usize
-    requires { Parts sizes cells.now filled.now × PageRoom at (in_aRow sizes.records (record_line sizes (cells_of cells.now filled.now))) page.old }
-    ensures { PagePut at (in_aRow sizes.records (record_line sizes (cells_of cells.now filled.now))) page.old page.new result }
+    requires { Parts sizes cells.now filled.now × PageRoom at (in_a_row sizes.records (record_line sizes (cells_of cells.now filled.now))) page.old }
+    ensures { PagePut at (in_a_row sizes.records (record_line sizes (cells_of cells.now filled.now))) page.old page.new result }
 {
     let mut next = at;
     for u in 0..sizes.records {

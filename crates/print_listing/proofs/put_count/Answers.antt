@@ -8,7 +8,7 @@ put_number-next-requires c = room-first _ c.requires
 pub put_bytes-requires : goal.put_bytes-requires
 put_bytes-requires c =
     let w = c.put_number-next in
-    room_next c.requires w.ensures w.auto.0
+    room_next c.requires w.ensures w.auto.page
 
 pub returns : goal.returns
 returns c = put-more c.put_number-next.ensures c.put_bytes.ensures

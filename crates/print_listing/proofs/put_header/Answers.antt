@@ -12,7 +12,7 @@ pub put_count-exchanges-requires : goal.put_count-exchanges-requires
 unfolding header
 put_count-exchanges-requires c =
     let one = c.put_count-steps in
-    room_next (room-first _ (room-first _ c.requires)) one.ensures one.auto.0
+    room_next (room-first _ (room-first _ c.requires)) one.ensures one.auto.page
 
 pub put_count-letters-requires : goal.put_count-letters-requires
 unfolding header
@@ -21,7 +21,7 @@ put_count-letters-requires c =
     let after_one = after_two in
     let one = after_one.put_count-steps in
     let two = after_two.put_count-exchanges in
-    room_next (room-first _ after_one.requires) (put-more one.ensures two.ensures) (two.auto.0 ∙ one.auto.0)
+    room_next (room-first _ after_one.requires) (put-more one.ensures two.ensures) (two.auto.page ∙ one.auto.page)
 
 pub put_count-requires : goal.put_count-requires
 unfolding header
@@ -32,7 +32,7 @@ put_count-requires c =
     let two = after_two.put_count-exchanges in
     let three = c.put_count-letters in
     let put = put-more (put-more one.ensures two.ensures) three.ensures in
-    room_next after_one.requires put (three.auto.0 ∙ two.auto.0 ∙ one.auto.0)
+    room_next after_one.requires put (three.auto.page ∙ two.auto.page ∙ one.auto.page)
 
 pub returns : goal.returns
 unfolding header

@@ -15,7 +15,7 @@ put_records-requires c =
     let s = c in
     let h = c.put_header-at in
     rw (c.values_part-cells.ensures, c.marks_part-filled.ensures)
-    (file-parts s.args.file.now s.args.sizes s.requires.0 s.requires.1, room_next s.requires.2 h.ensures h.auto.0)
+    (file-parts s.args.file.now s.args.sizes s.requires.0 s.requires.1, room_next s.requires.2 h.ensures h.auto.page)
 
 pub returns : goal.returns
 unfolding listing cells_of_file

@@ -3,12 +3,12 @@ use Prim.Native.Nat.{◌-◌}
 use mathlib.Core.Path.{◌≡◌, refl, ◌∙◌}
 use native.Mathlib.Omega.{arith}
 use Rattle.print_page.proofs.Putting.{put_nothing, put-more}
-use Rattle.print_listing.specs.Listing.{in_aRow}
+use Rattle.print_listing.specs.Listing.{in_a_row}
 use Rattle.print_listing.proofs.Rows.{row_more, row_room}
 use Rattle.print_listing.proofs.put_records.Goals as goal
 
 pub loop-u-init : goal.loop-u-init
-unfolding in_aRow
+unfolding in_a_row
 loop-u-init c = (refl, omega arith, put_nothing _ _)
 
 pub put_record-next-requires : goal.put_record-next-requires
@@ -21,7 +21,7 @@ pub loop-u-preserved : goal.loop-u-preserved
 loop-u-preserved c =
     let l = c.loop-u in
     let w = c.put_record-next in
-    (w.auto.0 ∙ l.invariant.0, omega arith, rw row_more (put-more l.invariant.2 w.ensures))
+    (w.auto.page ∙ l.invariant.0, omega arith, rw row_more (put-more l.invariant.2 w.ensures))
 
 pub shape_of-page : goal.shape_of-page
 shape_of-page c = c.loop-u.invariant.0

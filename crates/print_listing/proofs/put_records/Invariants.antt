@@ -4,11 +4,11 @@ use mathlib.Core.Path.{◌≡◌}
 use lib.ListN.{length}
 use Rattle.register.specs.Cells.{cells_of}
 use Rattle.print_page.specs.Put.{PagePut}
-use Rattle.print_listing.specs.Listing.{in_aRow, record_line}
+use Rattle.print_listing.specs.Listing.{in_a_row, record_line}
 use Rattle.print_listing.proofs.put_records.Given as goal
 
 abbrev pub invariant-loop-u : goal.invariant-loop-u
-invariant-loop-u l = (length l.page ≡ length l.initial.page) × (l.u ≤ l.u-end) × PagePut l.at (in_aRow l.u (record_line l.sizes (cells_of l.cells l.filled))) l.initial.page l.page l.next
+invariant-loop-u l = (length l.page ≡ length l.initial.page) × (l.u ≤ l.u-end) × PagePut l.at (in_a_row l.u (record_line l.sizes (cells_of l.cells l.filled))) l.initial.page l.page l.next
 
 abbrev pub decreases-loop-u : goal.decreases-loop-u
 decreases-loop-u l = l.u-end - l.u

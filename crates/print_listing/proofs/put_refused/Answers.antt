@@ -14,7 +14,7 @@ pub put_count-next-requires : goal.put_count-next-requires
 unfolding refused_line
 put_count-next-requires c =
     let one = c.put_bytes-number in
-    room_next (room-first _ c.requires) one.ensures one.auto.0
+    room_next (room-first _ c.requires) one.ensures one.auto.page
 
 pub put_count-requires : goal.put_count-requires
 unfolding refused_line
@@ -22,7 +22,7 @@ put_count-requires c =
     let start = c in
     let one = c.put_bytes-number in
     let two = c.put_count-next in
-    room_next start.requires (put-more one.ensures two.ensures) (two.auto.0 ∙ one.auto.0)
+    room_next start.requires (put-more one.ensures two.ensures) (two.auto.page ∙ one.auto.page)
 
 pub returns : goal.returns
 unfolding refused_line
