@@ -1,5 +1,6 @@
 // A single chain from its text, and its reading at a record.
 #![tactic(auto)]
+
 ghost use Rattle.std.specs.Prelude.{◌≡◌};
 ghost use Rattle.laws.specs.Outcome.{done};
 ghost use Rattle.register.specs.Load.{load};

@@ -1,0 +1,53 @@
+-- `op_read::read_loaded` meets its contract: each way out has its law in `Outcomes`.
+use mathlib.Core.Path.{◌≡◌, sym, ap, ap₂, ◌∙◌}
+use mathlib.Core.List.{List}
+use Rattle.register.proofs.Roundtrip.{Bytes}
+use Rattle.laws.specs.Outcome.{done}
+use Rattle.register.specs.Cells.{cells_of}
+use Rattle.register.specs.File.{cells_of_file}
+use Rattle.chain_text.specs.Text.{form}
+use Rattle.chain.specs.Word.{unpack, value_at_record}
+use Rattle.op_read.specs.Reading.{word_of_form, chain_outcome, reading_outcome}
+use Rattle.op_read.proofs.Outcomes.{word-passes, loaded_shape, loaded-parts, loaded-refused, loaded_record, loaded-read}
+use Rattle.register.specs.declared.cells.Cell.{Cell}
+use Rattle.op_read.proofs.read_loaded.Goals as goal
+
+pub chain_of-requires : goal.chain_of-requires
+chain_of-requires c = (loaded_shape _ _ c.requires).0
+
+pub returns-then-sizes-u : goal.returns-then-sizes-u
+unfolding reading_outcome chain_outcome
+returns-then-sizes-u c =
+    let word : (let a = c.args in word_of_form a.sizes (form a.text.now) ≡ done (unpack c.in-Chain.chain)) = sym c.chain_of.ensures ∙ ap chain_outcome c.in-Chain.is in
+    sym (loaded_record _ _ _ _ (word) c.if-sizes-u.true)
+
+pub values_part-cells-requires : goal.values_part-cells-requires
+values_part-cells-requires c = loaded_shape _ _ c.requires
+
+pub marks_part-filled-requires : goal.marks_part-filled-requires
+marks_part-filled-requires c = loaded_shape _ _ c.requires
+
+pub follow-requires : goal.follow-requires
+unfolding chain_outcome
+follow-requires c =
+    let bytes : Bytes c.args.file.now = (λ i. let f = c.shared_slice_known-1.given i in f.fits) in
+    let word : (let a = c.args in word_of_form a.sizes (form a.text.now) ≡ done (unpack c.in-Chain.chain)) = sym c.chain_of.ensures ∙ ap chain_outcome c.in-Chain.is in
+    let k = c in
+    let p = loaded-parts _ _ k.requires (bytes) c.values_part-cells.ensures c.marks_part-filled.ensures in
+    (p.0, p.1, c.if-sizes-u.false, (word-passes _ _ (word)).follows)
+
+pub returns-in-Refused : goal.returns-in-Refused
+unfolding reading_outcome chain_outcome
+returns-in-Refused c =
+    let refused = sym c.chain_of.ensures ∙ ap chain_outcome c.in-Refused.is in
+    sym (loaded-refused _ _ _ _ refused)
+
+pub returns-else-sizes-u : goal.returns-else-sizes-u
+unfolding reading_outcome cells_of_file chain_outcome
+returns-else-sizes-u c =
+    let word : (let a = c.args in word_of_form a.sizes (form a.text.now) ≡ done (unpack c.in-Chain.chain)) = sym c.chain_of.ensures ∙ ap chain_outcome c.in-Chain.is in
+    let a = c.args in
+    let w = unpack c.in-Chain.chain in
+    let cells = ap₂ cells_of c.values_part-cells.ensures c.marks_part-filled.ensures in
+    ap done (c.follow.ensures ∙ ap (λ (l : List Cell). value_at_record a.sizes l w a.u) cells)
+    ∙ sym (loaded-read _ a.file.now _ _ (word) c.if-sizes-u.false)
