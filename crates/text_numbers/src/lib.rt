@@ -1,5 +1,6 @@
 // Numbers of a rules text.
 #![tactic(auto)]
+
 ghost use Rattle.std.specs.Prelude.{◌≡◌, true, ◌+◌, ◌-◌, ◌*◌, ◌≤◌, length, drop};
 ghost use Rattle.text_numerals.specs.Numeral.{is_digit, starts_digit, is_numeral, numeral, capped, signed_value, number_form, signed_form};
 ghost use Rattle.text_numbers.specs.Numbers.{ReadsDigits, ReadsNumeral, digits_read, number_read};
