@@ -58,16 +58,16 @@ module _ {P : Cell → Type 0} (k : Lasting P) (s : Sizes) (j : ℕ) where
   records_keep read rs (suc n) cells h = rules_keep (read n) n rs _ (records_keep read rs n cells h)
 
   -- remote writes
-  delivered_keep : (cells : List Cell) (ms : List Message) → At cells → At (deliver_all s cells ms)
+  delivered_keep : (ms : List Message) (cells : List Cell) → At cells → At (deliver_all s cells ms)
   unfolding deliver_all deliver
-  delivered_keep cells [] h = h
-  delivered_keep cells (m ∷ ms) h =
-      delivered_keep _ ms (change_keeps P (λ c. merged m.sort c m.amount) (λ c. k.sent m.sort c m.amount) cells _ j h)
+  delivered_keep [] cells h = h
+  delivered_keep (m ∷ ms) cells h =
+      delivered_keep ms _ (change_keeps P (λ c. merged m.sort c m.amount) (λ c. k.sent m.sort c m.amount) cells _ j h)
 
   -- a step, whatever its records read
   step_keeps : (read : ℕ → List ℕ → Reading) (rs : List Rule) (cells : List Cell) → At cells → At (step_cells s read rs cells)
   unfolding step_cells
-  step_keeps read rs cells h = delivered_keep _ (record_messages read rs s.records) (records_keep read rs s.records cells h)
+  step_keeps read rs cells h = delivered_keep (record_messages read rs s.records) _ (records_keep read rs s.records cells h)
 
   -- a run, by either machine and however it ends
   run_from-keeps : (reader : Reader) (budget : ℕ) (steps : List Step) (p : Pass) (cells : List Cell) → At cells → At (run_from s reader budget steps p cells).cells
