@@ -1,6 +1,7 @@
 // A step's plan, which grows by readings, each of which is located in it. A plan only grows, so that a line once found stays
 // the line of its reading.
 #![tactic(auto)]
+
 ghost use Rattle.std.specs.Prelude.{◌≡◌, ◌∷◌, [], suc, ◌-◌, ◌≤◌, ◌<◌, length, get_or};
 ghost use Rattle.chain.specs.Word.{unpack};
 ghost use Rattle.plan_theory.specs.Plan.{read, line_index};
