@@ -1,5 +1,6 @@
 // The path behind a single reading (M-109), refused exactly where the reading is.
 #![tactic(auto)]
+
 ghost use Rattle.std.specs.Prelude.{◌≡◌, []};
 ghost use Rattle.laws.specs.Outcome.{done, unless};
 ghost use Rattle.register.specs.Load.{load};
