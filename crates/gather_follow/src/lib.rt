@@ -1,5 +1,6 @@
 // The direct machine's readings: the places of a plan's Read lines, filled by following references.
 #![tactic(auto)]
+
 ghost use Rattle.register.specs.Cells.{cells_of};
 ghost use Rattle.register.specs.Shape.{Parts, Valid};
 ghost use Rattle.plan_lines.specs.Held.{facts_in};
