@@ -18,7 +18,7 @@ use Rattle.register.specs.Load.{load}
 use Rattle.register.proofs.Roundtrip.{loads}
 use Rattle.register.proofs.Bounds.{limits}
 use Rattle.text_syntax.specs.Written.{Line, step, end, done, loop, rule}
-use Rattle.text_syntax.specs.Parts.{expressions, every_expression, terms_pass, field_named, named, same_kind}
+use Rattle.text_syntax.specs.Parts.{expressions, every_expression, terms_pass, field_named, named}
 use Rattle.program.specs.Program.{Step, Program, some_target}
 use Rattle.text_rules.specs.declared.scope.Scope.{Scope}
 use Rattle.text_rules.specs.Check.{is_outside, is_used, State, is_open, open_rules, in_place, has_room, sorts_agree, plan_fits, line_refusal}

@@ -1,5 +1,6 @@
 // The rules text: what it is, which texts pass, and what follows from that.
 #![tactic(auto)]
+
 pub mod around;
 pub mod line;
 pub mod scope;
