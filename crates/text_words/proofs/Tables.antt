@@ -1,5 +1,5 @@
 -- The words that a text begins with, by its first byte.
-use Prim.Native.Nat.{ℕ, ◌+◌, ◌-◌, ◌<◌}
+use Prim.Native.Nat.{ℕ, ◌+◌, ◌<◌}
 use mathlib.Core.Path.{◌≡◌, refl, sym, ap, ap₂, ◌∙◌}
 use mathlib.Core.Logic.{◌≢◌}
 use mathlib.Core.Bool.{Bool, true, false, cond}
@@ -12,7 +12,6 @@ use Rattle.text_numerals.specs.Word.{opens_with}
 use Rattle.text_syntax.specs.Token as S
 use Rattle.text_syntax.specs.Lexing.{spelled, words, First, first, none, fixed_token}
 use Rattle.text_words.specs.Tokens.{token_code, sized_token, no_token, sized_first}
-use Rattle.text_words.specs.declared.token.Token.TheVariants as Token
 use Rattle.text_words.specs.declared.token.SizedToken.{SizedToken}
 
 -- the text from a place on, and its first byte
