@@ -93,7 +93,7 @@ fn run_steps(
     let mut plain = true;
     let mut taken = steps;
     let mut run = run_turn::start(steps);
-    while run_turn::goes_on_lem(run, steps, budget) {
+    while run_turn::goes_on(run, steps, budget) {
         let step = run.step;
         if taken != step {
             frame = frames[step];

@@ -57,7 +57,7 @@ pub fn start(steps: usize) -> Progress
 }
 
 // Whether a step is left and the budget allows it, where the run has not stopped.
-pub fn goes_on_lem(run: Progress, steps: usize, budget: u16) -> bool
+pub fn goes_on(run: Progress, steps: usize, budget: u16) -> bool
     ensures { GoesOn run steps budget result }
 {
     let stop = run.stop;

@@ -10,7 +10,7 @@ use text_lines::line::LineParts;
 use text_rules::line::LineRead;
 
 // Whether the line goes on at `at`: neither byte 10 nor the end of the text stands there.
-fn goes_on_lem(text: &[u8], at: usize) -> bool
+fn goes_on(text: &[u8], at: usize) -> bool
     ensures { result ≡ line_goes_on (drop at text.now) }
 {
     if text.len() <= at {
@@ -25,7 +25,7 @@ pub fn line_end(text: &[u8], at: usize) -> usize
     ensures { result ≡ at + length (line_bytes (drop at text.now)) }
 {
     let mut i = at;
-    while goes_on_lem(text, i) {
+    while goes_on(text, i) {
         i += 1;
     }
     i

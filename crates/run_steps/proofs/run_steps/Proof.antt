@@ -240,13 +240,13 @@ module _ (c : Turning) where
       (kept e) e.args.budget e.args.out.now (top c).loop.run (top c).loop.out (top c).loop.values (top c).loop.marks f
 
   more : (top c).loop.run.step < e.args.steps
-  more = c.before.goes_on_lem.ensures.left c.if1.true
+  more = c.before.goes_on.ensures.left c.if1.true
 
   -- with what is held of it
   turn_with : {f : Frame} → f ≡ frame_here → TurnOf f
   unfolding program_of
   turn_with held =
-      let going = c.before.goes_on_lem.ensures in
+      let going = c.before.goes_on.ensures in
       let nowhere = going.nowhere c.if1.true in
       let stands = (top c).loop.invariant.0.stands nowhere in
       record {
@@ -541,7 +541,7 @@ returns : Of tie.Need-returns
 unfolding program_of
 returns c =
     let t = ended c in
-    ends_by t.loop.inv.0 (entry_of_top t).pre.2.steps_are c.before.before.goes_on_lem.ensures c.before.if1.false c.answer.ensures
+    ends_by t.loop.inv.0 (entry_of_top t).pre.2.steps_are c.before.before.goes_on.ensures c.before.if1.false c.answer.ensures
 
 pub run-steps-spec : {M : Type 1} → statement M
 run-steps-spec =

@@ -1,12 +1,12 @@
--- `run_turn::goes_on_lem` meets its contract: each answer is for one reason.
+-- `run_turn::goes_on` meets its contract: each answer is for one reason.
 -- Assumes nothing.
 use mathlib.Core.Path.{refl}
 use borrow.Author.Rules.{rules}
 use borrow.Author.Tests.{ltb-true, lt-ltb}
 use Rattle.laws.proofs.Bools.{true_false}
 use Rattle.run_turn.proofs.Turning.{not-both}
-use Rattle.run_turn.proofs.goes_on_lem.Statement.{statement}
-use Rattle.run_turn.proofs.goes_on_lem.Tie as tie
+use Rattle.run_turn.proofs.goes_on.Statement.{statement}
+use Rattle.run_turn.proofs.goes_on.Tie as tie
 
 -- the run has stopped
 returns : tie.Need-returns

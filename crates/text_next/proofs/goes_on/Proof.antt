@@ -1,11 +1,11 @@
--- `text_next::goes_on_lem` meets its contract.
+-- `text_next::goes_on` meets its contract.
 -- Assumes nothing.
 use mathlib.Core.Path.{sym}
 use borrow.Author.Rules.{rules}
 use Rattle.text_numerals.proofs.Spans.{starts-within, starts-past}
 use Rattle.text_rules.specs.Text.{is_within}
-use Rattle.text_next.proofs.goes_on_lem.Statement.{statement}
-use Rattle.text_next.proofs.goes_on_lem.Tie as tie
+use Rattle.text_next.proofs.goes_on.Statement.{statement}
+use Rattle.text_next.proofs.goes_on.Tie as tie
 
 returns : tie.Need-returns
 returns c = sym (starts-past is_within _ _ c.if1.true)

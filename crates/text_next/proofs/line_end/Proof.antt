@@ -19,7 +19,7 @@ decreases-loop text at i₀ i = length text - i
 
 -- the loop's test, and that it looks inside the text
 on : (c : tie.Then1 invariant-loop decreases-loop) → line_goes_on (drop c.before.before.loop.i c.before.before.before.before.args.text.now) ≡ true
-on c = sym c.before.goes_on_lem.ensures ∙ c.if1.true
+on c = sym c.before.goes_on.ensures ∙ c.if1.true
 
 inside : (c : tie.Then1 invariant-loop decreases-loop) → c.before.before.loop.i < length c.before.before.before.before.args.text.now
 inside c = starts-inside is_within c.before.before.before.before.args.text.now c.before.before.loop.i (on c)
@@ -40,7 +40,7 @@ loop-again : tie.Need-loop-preserved invariant-loop decreases-loop
 loop-again c = onward_more is_within c.before.before.loop.invariant (on c)
 
 returns : tie.Need-returns invariant-loop decreases-loop
-returns c = onward_end is_within c.before.before.loop.invariant (sym c.before.goes_on_lem.ensures ∙ c.if1.false)
+returns c = onward_end is_within c.before.before.loop.invariant (sym c.before.goes_on.ensures ∙ c.if1.false)
 
 pub line-end-spec : {M : Type 1} → statement M
 line-end-spec =
