@@ -1,5 +1,6 @@
 // The limits of what an operation is given: a text over a register, a step of it, and the scratch buffers.
 #![tactic(auto)]
+
 ghost use Rattle.std.specs.Prelude.{◌≡◌, ◌&&◌, ◌≤◌, leb};
 ghost use Rattle.laws.specs.Outcome.{done, unless};
 ghost use Rattle.register.specs.File.{sizes_of};
