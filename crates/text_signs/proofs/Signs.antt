@@ -1,5 +1,5 @@
 -- The signs that a text begins with, by its first byte.
-use Prim.Native.Nat.{ℕ, ◌+◌, ◌-◌, ◌<◌}
+use Prim.Native.Nat.{ℕ, ◌+◌, ◌<◌}
 use mathlib.Core.Path.{◌≡◌, refl, sym, ap, ap₂, ◌∙◌}
 use mathlib.Core.Logic.{◌≢◌}
 use mathlib.Core.Bool.{and-true, Bool, true, false, cond}
@@ -19,7 +19,6 @@ use Rattle.text_syntax.specs.Lexing.{spelled, words, signs, First, first, none, 
 use Rattle.text_syntax.proofs.Spellings.{less_read}
 use Rattle.text_words.specs.Tokens.{token_code, sized_token, sized_first}
 use Rattle.program.specs.declared.rule.Operator.TheVariants.{Smaller}
-use Rattle.text_words.specs.declared.token.Token.TheVariants as Token
 use Rattle.text_words.specs.declared.token.Token.TheVariants.{Write, Operator, Compared}
 use Rattle.text_words.specs.declared.token.SizedToken.{SizedToken}
 

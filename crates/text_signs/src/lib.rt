@@ -1,5 +1,6 @@
 // The signs of a line, and its words, by their first byte.
 #![tactic(auto)]
+
 ghost use Rattle.std.specs.Prelude.{◌≡◌, cond, ◌∷◌, ◌++◌, ◌+◌, ◌≤◌, ◌<◌, length, drop};
 ghost use Rattle.chain_text.specs.Scan.{starts_with};
 ghost use Rattle.text_syntax.specs.Lexing.{words, signs, fixed_token};
