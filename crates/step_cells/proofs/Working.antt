@@ -1,5 +1,5 @@
 -- The working cells as places are stored to: which cells the buffers then hold, and how large their values are.
-use Prim.Native.Nat.{ℕ, ◌+◌, ◌≤◌, ◌<◌}
+use Prim.Native.Nat.{ℕ, ◌+◌, ◌*◌, ◌≤◌, ◌<◌}
 use mathlib.Core.Path.{◌≡◌, refl, sym, ap, ap₂, ◌∙◌}
 use mathlib.Core.Logic.{◌≢◌}
 use mathlib.Core.List.{List}
@@ -11,6 +11,7 @@ use lib.Seq.{get_or-set_same, get_or-set_other, set-get_or, take-set-le}
 use lib.Signed.{mag}
 use mir.Syntax.{w32}
 use mir.Val.{SFits}
+use Rattle.integers.specs.Bytes.{value_at}
 use Rattle.register.specs.Cells.{value_of, mark_of, cell_of, Canonical}
 use Rattle.register.specs.declared.cells.Cell.{Cell}
 use Rattle.register.specs.declared.cells.Cell.TheVariants.{Missing, WorkedOut}
@@ -161,3 +162,7 @@ proper-held l h = record { each = λ j j<. rw (h.value-is j (omega arith), h.mar
 pub small-held : {base k : ℕ} {d : List Cell} {values : List ℤ} {marks : List ℕ} → length d ≡ k
     → ((j : ℕ) → SFits w32 (value_of (get_or d j Missing))) → HoldsCells base d values marks → Small 2147483648 base k values marks
 small-held l fits h = record { below = λ j j<. rw (held_at h j (omega arith)) (fits j).sfits }
+
+-- the value and the mark of cell i of the two arrays
+abbrev pub Copied : List ℕ → List ℕ → ℕ → ℤ → ℕ → Type 0
+Copied cells filled i z mark = (z ≡ value_at cells (4 * i)) × (mark ≡ get_or filled i 0)

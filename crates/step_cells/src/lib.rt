@@ -1,5 +1,6 @@
 // The working cells: a part of the scratch buffers from place `base` on, behind the places of the plan's lines.
 #![tactic(auto)]
+
 pub mod stop;
 
 ghost use Rattle.std.specs.Prelude.{◌+◌, ◌≤◌, ◌<◌, ◌≡◌, true, length};
