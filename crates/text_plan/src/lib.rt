@@ -2,6 +2,7 @@
 // plan of the step, its line is marked as wanted, and it is located there. The chains of an expression of several terms have
 // their locations in its codes.
 #![tactic(auto)]
+
 ghost use Rattle.std.specs.Prelude.{◌++◌, length};
 ghost use Rattle.program.specs.Terms.{TermInside, TestTerms, RuleTerms, SlotTerms};
 ghost use Rattle.text_readings.specs.Readings.{Short, open_lines, Growing};
