@@ -1,5 +1,6 @@
 // The messages (document 01's letters) of one plan line: for each origin what the writer knows, or none.
 #![tactic(auto)]
+
 ghost use Rattle.std.specs.Prelude.{◌≡◌, ◌≤◌, ◌<◌};
 ghost use Rattle.register.specs.Cells.{cells_of};
 ghost use Rattle.register.specs.Shape.{Parts};
