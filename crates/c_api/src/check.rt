@@ -3,8 +3,7 @@ ghost use Rattle.text_rules.specs.Text.{check};
 ghost use Rattle.c_api.specs.Answer.{check_numbers, CheckAnswer};
 
 // Whether a text passes over a register: the refusal number, 0 for none.
-#[unsafe(no_mangle)]
-pub extern "C" fn plot_check(file: &[u8], text: &[u8], answer: &mut [u64; 8]) -> u32
+pub fn plot_check(file: &[u8], text: &[u8], answer: &mut [u64; 8]) -> u32
     ensures { CheckAnswer (check_numbers (check file.now text.now)) result answer.new }
 {
     let checked = op_check::check::check(file, text);

@@ -6,8 +6,7 @@ ghost use Rattle.c_api.specs.InspectAnswer.{InspectCalled};
 use api_answer;
 
 // Shows a step, counted from 1, after its round t: the refusal number, 0 for none. On a refusal both arrays stay as they are.
-#[unsafe(no_mangle)]
-pub extern "C" fn plot_inspect(
+pub fn plot_inspect(
     file: &[u8],
     text: &[u8],
     step: u64,

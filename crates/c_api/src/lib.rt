@@ -1,4 +1,4 @@
-// The exported functions, for programs in other languages.
+// The functions for programs in other languages, which c_api_c exports.
 #![tactic(auto)]
 pub mod check;
 pub mod inspection;

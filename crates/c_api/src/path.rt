@@ -6,8 +6,7 @@ use api_path;
 
 // The path behind the reading of a chain at record u: the refusal number, 0 for none. On a refusal the four arrays stay
 // as they are.
-#[unsafe(no_mangle)]
-pub extern "C" fn plot_path(
+pub fn plot_path(
     file: &[u8],
     text: &[u8],
     u: u64,
@@ -18,8 +17,8 @@ pub extern "C" fn plot_path(
     answer: &mut [u64; 8],
 ) -> u32
     ensures { PathCalled (reading_path file.now text.now u) result answer.new
-        (record { records = records.entry.now; fields = fields.old; values = values.old; marks = marks.old })
-        (record { records = records.exit.now; fields = fields.new; values = values.new; marks = marks.new }) }
+        (record { records = records.old; fields = fields.old; values = values.old; marks = marks.old })
+        (record { records = records.new; fields = fields.new; values = values.new; marks = marks.new }) }
 {
     let found = op_path::reading_path(file, text, u);
     if found.refusal != 0 {

@@ -6,8 +6,7 @@ ghost use Rattle.c_api.specs.Answer.{ReadAnswer};
 use api_read::reading;
 
 // The reading of a chain at record u: the refusal number, 0 for none. On a refusal the value stays as it was.
-#[unsafe(no_mangle)]
-pub extern "C" fn plot_read(
+pub fn plot_read(
     file: &[u8],
     text: &[u8],
     u: u64,

@@ -7,8 +7,7 @@ ghost use Rattle.c_api.specs.RunAnswer.{RunCalled};
 use api_answer;
 
 // Runs a text over a register, every reading by following references: the refusal number, 0 for none.
-#[unsafe(no_mangle)]
-pub extern "C" fn plot_run_direct(
+pub fn plot_run_direct(
     file: &[u8],
     text: &[u8],
     budget: u16,
@@ -26,8 +25,7 @@ pub extern "C" fn plot_run_direct(
 }
 
 // The same by messages.
-#[unsafe(no_mangle)]
-pub extern "C" fn plot_run_messages(
+pub fn plot_run_messages(
     file: &[u8],
     text: &[u8],
     budget: u16,

@@ -5,8 +5,7 @@ ghost use Rattle.c_api.specs.PlanAnswer.{PlanAnswer};
 use api_plan;
 
 // The plan of a step, counted from 1: the refusal number, 0 for none. On a refusal the three arrays stay as they are.
-#[unsafe(no_mangle)]
-pub extern "C" fn plot_plan(
+pub fn plot_plan(
     file: &[u8],
     text: &[u8],
     step: u64,
@@ -16,8 +15,8 @@ pub extern "C" fn plot_plan(
     answer: &mut [u64; 8],
 ) -> u32
     ensures { PlanAnswer (plan_of_step file.now text.now step) result answer.new
-        (record { kinds = kinds.entry.now; chains = chains.old; rounds = rounds.old })
-        (record { kinds = kinds.exit.now; chains = chains.new; rounds = rounds.new }) }
+        (record { kinds = kinds.old; chains = chains.old; rounds = rounds.old })
+        (record { kinds = kinds.new; chains = chains.new; rounds = rounds.new }) }
 {
     let found = op_check::step::plan_step(file, text, step);
     if found.refusal != 0 {
