@@ -2,11 +2,8 @@
 use Prim.Native.Nat.{ℕ}
 use mathlib.Core.Path.{◌≡◌, refl}
 use mathlib.Core.Bool.{true, false}
-use mathlib.Core.List.{List, [], ◌∷◌}
-use mathlib.Core.Logic.{⊎_elim}
+use mathlib.Core.List.{List, []}
 use native.Mathlib.Omega.{arith}
-use denote.Enum.Declared.{tag_of}
-use types.Run.{OneOf}
 use lib.IntN.{ℤ}
 use Rattle.laws.proofs.Bools.{true_false, and_both}
 use Rattle.register.specs.declared.Sizes.{Sizes}
@@ -14,7 +11,6 @@ use Rattle.register.specs.declared.cells.Cell.{Cell}
 use Rattle.chain.specs.declared.reading.Reading.{Reading}
 use Rattle.program.specs.declared.term.Term.{Term}
 use Rattle.program.specs.declared.term.Term.TheVariants.{Chain, Number, Tree}
-use Rattle.program.specs.contracts.term.Term.{the_type}
 use Rattle.program.specs.declared.rule.Test.{Test}
 use Rattle.program.specs.declared.rule.Test.TheVariants.{Always, When}
 use Rattle.program.specs.declared.rule.Rule.{Rule}
@@ -50,16 +46,16 @@ module _ (read : List ℕ → Reading) (k : List ℕ) where
 
 module _ (s : Sizes) (values : List ℤ) (marks : List ℕ) (u : ℕ) where
   -- a plain term that is no number is a chain
-  pub chain_reaches : (at : Location) (x : Term) → OneOf (0 ∷ 2 ∷ []) (tag_of the_type x) → TermReaches s values marks u [] at x → Reaches s values marks u at
+  pub chain_reaches : (at : Location) (x : Term) → ((z : ℤ) → x ≡ Number z → ⊥) → TermReaches s values marks u [] at x → Reaches s values marks u at
   chain_reaches at (Chain c) t f = f
-  chain_reaches at (Number z) t f = absurd (⊎_elim (λ e. omega arith) (λ e. omega arith) t)
+  chain_reaches at (Number z) t f = absurd (t z refl)
   chain_reaches at (Tree from to) t f = absurd (omega (arith, f.some, f.kept))
 
-  pub chain_told : (cells : List Cell) (codes : List ℕ) (at : Location) (x : Term) → OneOf (0 ∷ 2 ∷ []) (tag_of the_type x) → TermReaches s values marks u [] at x
+  pub chain_told : (cells : List Cell) (codes : List ℕ) (at : Location) (x : Term) → ((z : ℤ) → x ≡ Number z → ⊥) → TermReaches s values marks u [] at x
       → Told s cells values marks u (λ P. TermPlaced P codes at x) (λ read. found_at s cells values marks u at ≡ value read (term_in codes x))
   unfolding term_in value
   chain_told cells codes at (Chain c) t f read agrees = agrees
-  chain_told cells codes at (Number z) t f read agrees = absurd (⊎_elim (λ e. omega arith) (λ e. omega arith) t)
+  chain_told cells codes at (Number z) t f read agrees = absurd (t z refl)
   chain_told cells codes at (Tree from to) t f read agrees = absurd (omega (arith, f.some, f.kept))
 
   -- what is found without codes is plain

@@ -1,5 +1,6 @@
 // Plain rules: no term of theirs is an expression of several. A step of plain rules, as most are, is done without the codes.
 #![tactic(auto)]
+
 ghost use Rattle.std.specs.Prelude.{◌≡◌, ◌&&◌, ◌<◌, []};
 ghost use Rattle.register.specs.Cells.{cells_of};
 ghost use Rattle.register.specs.Shape.{Parts};
