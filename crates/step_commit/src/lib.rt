@@ -1,5 +1,6 @@
 // The working cells in the columns that a step writes become the register's, where all are in range.
 #![tactic(auto)]
+
 ghost use Rattle.std.specs.Prelude.{◌+◌, ◌*◌, ◌≤◌, ◌<◌, length, ◌≡◌};
 ghost use Rattle.register.specs.File.{width, cell_count};
 ghost use Rattle.register.specs.Shape.{Limits};
