@@ -16,7 +16,7 @@ use Rattle.text_numerals.specs.Numeral.{is_digit, NumberForm, number_form, print
 use Rattle.text_numerals.proofs.Digits.{digit_low}
 use Rattle.text_numbers.specs.Numbers.{number_read}
 use Rattle.text_numbers.specs.declared.NumberRead.TheVariants.{Number, NoForm}
-use Rattle.text_syntax.specs.Lexing.{spelled, words, signs, First, none, fixed_token, number_token, first_token}
+use Rattle.text_syntax.specs.Lexing.{spelled, words, signs, First, fixed_token, number_token, first_token}
 use Rattle.text_syntax.proofs.Spellings.{letter-read}
 use Rattle.text_words.specs.Tokens.{token_code, sized_token, no_token, sized_first}
 use Rattle.text_words.specs.declared.token.Token.TheVariants as Token
