@@ -1,6 +1,7 @@
 // The passes of a loop: the column of its field as a pass began, kept in the scratch buffers from place `at` on, and the step
 // that comes next.
 #![tactic(auto)]
+
 ghost use Rattle.std.specs.Prelude.{◌≡◌, true, cond, ◌+◌, ◌*◌, ◌<◌, length};
 ghost use Rattle.register.specs.Cells.{cells_of};
 ghost use Rattle.register.specs.File.{cell_count, cells_of_file};
