@@ -1,5 +1,6 @@
 // The buffers that a caller lends to a run: what is asked of them before it, and the output behind it.
 #![tactic(auto)]
+
 ghost use Rattle.std.specs.Prelude.{◌≡◌, cond, ◌≤◌, eqb, length};
 ghost use Rattle.register.specs.Shape.{Limits};
 ghost use Rattle.machine.specs.Run.{scratch};
