@@ -1,6 +1,7 @@
 // The exchanges of a step: the messages (document 01's letters) of its plan's lines, round by round. Line i and origin u have
 // place i × n + u of the scratch buffers.
 #![tactic(auto)]
+
 ghost use Rattle.std.specs.Prelude.{◌≡◌, ◌≤◌, length};
 ghost use Rattle.register.specs.Cells.{cells_of};
 ghost use Rattle.register.specs.Shape.{Parts, Valid};
