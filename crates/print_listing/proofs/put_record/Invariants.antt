@@ -1,4 +1,5 @@
 -- `print_listing::put_record` meets its contract. The loop's invariant: the page keeps its length, and the fields passed stand
+-- behind the record's number.
 use Prim.Native.Nat.{◌-◌, ◌≤◌}
 use mathlib.Core.Path.{◌≡◌}
 use lib.ListN.{length}

@@ -1,4 +1,5 @@
 -- `print_listing::put_records` meets its contract. The loop's invariant: the page keeps its length, and the lines of the records
+-- passed stand on it.
 use Prim.Native.Nat.{◌-◌, ◌≤◌}
 use mathlib.Core.Path.{◌≡◌}
 use lib.ListN.{length}
