@@ -1,5 +1,6 @@
 // Why a line is refused: the lowest number that applies to it where the reader stands, and to the end of the text.
 #![tactic(auto)]
+
 ghost use Rattle.std.specs.Prelude.{◌≡◌};
 ghost use Rattle.laws.specs.Outcome.{or_else};
 ghost use Rattle.text_refusals.specs.Refusal.{checks_refusal, rule_refusal, step_refusal, end_refusal, misplaced, loop_refusal, done_refusal, refusal_of, last_refusal};
