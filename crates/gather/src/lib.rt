@@ -1,5 +1,6 @@
 // The readings of a step: the places of its plan's Read lines, filled by following references or by messages.
 #![tactic(auto)]
+
 ghost use Rattle.std.specs.Prelude.{length, ◌≡◌};
 ghost use Rattle.register.specs.Cells.{cells_of};
 ghost use Rattle.register.specs.File.{cells_of_file};
