@@ -1,5 +1,6 @@
 // A plan's lines as the three arrays of the C interface.
 #![tactic(auto)]
+
 ghost use Rattle.std.specs.Prelude.{◌≡◌, map, ◌<◌, get_or};
 ghost use Rattle.chain.specs.Word.{unpack};
 ghost use Rattle.plan_keys.specs.Keys.{fact_of};
