@@ -1,5 +1,6 @@
 // A path's hops as the four arrays of the C interface.
 #![tactic(auto)]
+
 ghost use Rattle.std.specs.Prelude.{◌≡◌};
 ghost use Rattle.register.specs.Cells.{value_of, mark_of};
 ghost use Rattle.chain_path.specs.Path.{hops_of, HoldsPath};
