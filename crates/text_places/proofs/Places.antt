@@ -97,32 +97,28 @@ colon_read CloseRound ts rest l e h = absurd (omega (arith, l, e))
 colon_read Unknown ts rest l e h = absurd (omega (arith, l, e))
 colon_read LineEnd ts rest l e h = absurd (omega (arith, l, e))
 
--- the numbers of the other variants
-abbrev pub other_tags : List ℕ
-other_tags = 0 ∷ 1 ∷ 2 ∷ 3 ∷ 4 ∷ 5 ∷ 6 ∷ 7 ∷ 8 ∷ 11 ∷ 12 ∷ 13 ∷ 14 ∷ 15 ∷ 16 ∷ 17 ∷ 18 ∷ 19 ∷ []
-
-pub colon_other : (k : Token) → OneOf other_tags (tag_of the_type k) → 0 ≡ colon_number k
+pub colon_other : (k : Token) → k ≢ Becomes → k ≢ Colon → 0 ≡ colon_number k
 unfolding colon_number
-colon_other Becomes h = absurd (told other_tags {k = Becomes} h tt refl)
-colon_other Colon h = absurd (told other_tags {k = Colon} h tt refl)
-colon_other Step h = refl
-colon_other End h = refl
-colon_other Done h = refl
-colon_other Loop h = refl
-colon_other If h = refl
-colon_other Remote h = refl
-colon_other Own h = refl
-colon_other (Letter v) h = refl
-colon_other (Number v) h = refl
-colon_other (Write k) h = refl
-colon_other (Operator o) h = refl
-colon_other (Compared c) h = refl
-colon_other OpenSquare h = refl
-colon_other CloseSquare h = refl
-colon_other OpenRound h = refl
-colon_other CloseRound h = refl
-colon_other Unknown h = refl
-colon_other LineEnd h = refl
+colon_other Becomes n m = absurd (n refl)
+colon_other Colon n m = absurd (m refl)
+colon_other Step n m = refl
+colon_other End n m = refl
+colon_other Done n m = refl
+colon_other Loop n m = refl
+colon_other If n m = refl
+colon_other Remote n m = refl
+colon_other Own n m = refl
+colon_other (Letter v) n m = refl
+colon_other (Number v) n m = refl
+colon_other (Write k) n m = refl
+colon_other (Operator o) n m = refl
+colon_other (Compared c) n m = refl
+colon_other OpenSquare n m = refl
+colon_other CloseSquare n m = refl
+colon_other OpenRound n m = refl
+colon_other CloseRound n m = refl
+colon_other Unknown n m = refl
+colon_other LineEnd n m = refl
 
 colon_number_lem : (n : ℕ) → 8 ≤ n → n ≤ 9 → colon_number (token_code (mark_token n)) ≡ n
 unfolding colon_number token_code

@@ -1,4 +1,5 @@
 // Single tokens at a place of a line, and the place behind them.
 #![tactic(auto)]
+
 pub mod place;
 pub mod word;
