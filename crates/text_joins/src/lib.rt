@@ -1,5 +1,6 @@
 // What operators of a rank join, element by element.
 #![tactic(auto)]
+
 ghost use Rattle.std.specs.Prelude.{◌≤◌, length};
 ghost use Rattle.text_syntax.specs.Grammar.{is_sum, is_smaller};
 ghost use Rattle.text_joins.specs.Join.{RankedAt, rank_of, NextAt, ReadyFor, JoinedBy, EndInside, GroupedBy};
