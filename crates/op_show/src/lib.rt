@@ -1,5 +1,6 @@
 // The lines of a plan after round t, as document 01's look shows them.
 #![tactic(auto)]
+
 ghost use Rattle.std.specs.Prelude.{◌≡◌, ◌+◌, ◌*◌, ◌≤◌, min, length};
 ghost use Rattle.register.specs.File.{cell_count, cells_of_file};
 ghost use Rattle.register.specs.Shape.{Valid};

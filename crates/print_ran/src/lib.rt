@@ -1,5 +1,6 @@
 // What is printed of a run: the listing of its output, or its refusal.
 #![tactic(auto)]
+
 ghost use Rattle.std.specs.Prelude.{◌≡◌};
 ghost use Rattle.register.specs.File.{sizes_of};
 ghost use Rattle.print_page.specs.Put.{PageRoom, PagePut};

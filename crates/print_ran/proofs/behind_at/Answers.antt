@@ -1,13 +1,11 @@
 -- `print_ran::behind_at` meets its contract: each way out of the match decides the tests of `behind_at`.
--- Assumes nothing.
 use Prim.Native.Nat.{ℕ, ◌≤◌, ◌<◌}
 use mathlib.Core.Path.{◌≡◌}
 use mathlib.Core.Bool.{true, false}
 use native.Mathlib.Omega.{arith}
 use borrow.Author.Tests.{le-leb, lt-leb}
 use Rattle.print_ran.specs.Behind.{among, behind_at}
-use Rattle.print_ran.proofs.behind_at.Statement.{statement}
-use Rattle.print_ran.proofs.behind_at.Tie as tie
+use Rattle.print_ran.proofs.behind_at.Goals as goal
 
 -- a number among a to b, below them, above them
 module _ (a b k : ℕ) where
@@ -21,50 +19,47 @@ module _ (a b k : ℕ) where
   above h l = simp (le-leb a k h, lt-leb k b l)
 
 -- 20 and 21
-returns : tie.Need-returns
+pub returns-in-20 : goal.returns-in-20
 unfolding behind_at
-returns c =
-    let k = c.before.before.before.before.args.refusal in
+returns-in-20 c =
+    let k = c.args.refusal in
     rw (above 6 15 k (omega arith) (omega arith), below 24 25 k (omega arith), inside 20 21 k (omega arith) (omega arith))
 
 -- 6 to 15
-returns-2 : tie.Need-returns-2
+pub returns-in-6-to-15 : goal.returns-in-6-to-15
 unfolding behind_at
-returns-2 c =
-    let k = c.before.before.args.refusal in
+returns-in-6-to-15 c =
+    let k = c.args.refusal in
     rw (inside 6 15 k (omega arith) (omega arith))
 
 -- 24 and 25
-returns-3 : tie.Need-returns-3
+pub returns-in-6-to-15-2 : goal.returns-in-6-to-15-2
 unfolding behind_at
-returns-3 c =
-    let k = c.before.before.before.before.before.before.args.refusal in
+returns-in-6-to-15-2 c =
+    let k = c.args.refusal in
     rw (above 6 15 k (omega arith) (omega arith), inside 24 25 k (omega arith) (omega arith))
 
 -- all others
-returns-4 : tie.Need-returns-4
+pub returns-in_default : goal.returns-in_default
 unfolding behind_at
-returns-4 c =
-    let k = c.before.args.refusal in
+returns-in_default c =
+    let k = c.args.refusal in
     rw (below 6 15 k (omega arith), below 24 25 k (omega arith), below 20 21 k (omega arith))
 
-returns-5 : tie.Need-returns-5
+pub returns-in_default-2 : goal.returns-in_default-2
 unfolding behind_at
-returns-5 c =
-    let k = c.before.before.before.args.refusal in
+returns-in_default-2 c =
+    let k = c.args.refusal in
     rw (above 6 15 k (omega arith) (omega arith), below 24 25 k (omega arith), below 20 21 k (omega arith))
 
-returns-6 : tie.Need-returns-6
+pub returns-in_default-3 : goal.returns-in_default-3
 unfolding behind_at
-returns-6 c =
-    let k = c.before.before.before.before.before.args.refusal in
+returns-in_default-3 c =
+    let k = c.args.refusal in
     rw (above 6 15 k (omega arith) (omega arith), below 24 25 k (omega arith), above 20 21 k (omega arith) (omega arith))
 
-returns-7 : tie.Need-returns-7
+pub returns-in_default-4 : goal.returns-in_default-4
 unfolding behind_at
-returns-7 c =
-    let k = c.before.before.before.before.before.before.args.refusal in
+returns-in_default-4 c =
+    let k = c.args.refusal in
     rw (above 6 15 k (omega arith) (omega arith), above 24 25 k (omega arith) (omega arith), above 20 21 k (omega arith) (omega arith))
-
-pub behind-at-spec : {M : Type 1} → statement M
-behind-at-spec = tie.close (tie.spec returns returns-2 returns-3 returns-4 returns-5 returns-6 returns-7)
