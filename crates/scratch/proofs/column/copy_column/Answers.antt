@@ -42,7 +42,7 @@ loop-u-preserved c =
     let p = c in
     let i = p in
     let k = i in
-    let bytes : (b : ℕ) → get_or k.args.cells.now b 0 < 256 = λ b. let f = k.shared_slice_known-1.given b in f.fits in
+    let bytes : (b : ℕ) → get_or k.args.cells.now b 0 < 256 = λ b. let f = c.type_inv.cells b in f.fits in
     rw (p.copy_cell.ensures.0, p.copy_cell.ensures.1) (
       omega arith,
       stored_more k.loop-u.invariant.1
