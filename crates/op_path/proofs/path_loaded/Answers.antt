@@ -33,7 +33,7 @@ marks_part-filled-requires c = loaded_shape _ _ c.requires
 pub path_at_record-requires : goal.path_at_record-requires
 unfolding chain_outcome
 path_at_record-requires c =
-    let bytes : Bytes c.args.file.now = (λ i. let f = c.shared_slice_known-1.given i in f.fits) in
+    let bytes : Bytes c.args.file.now = (λ i. let f = c.type_inv.file i in f.fits) in
     let word : (let a = c.args in word_of_form a.sizes (form a.text.now) ≡ done (unpack c.in-Chain.chain)) = sym c.chain_of.ensures ∙ ap chain_outcome c.in-Chain.is in
     let k = c in
     let p = loaded-parts _ _ k.requires (bytes) c.values_part-cells.ensures c.marks_part-filled.ensures in
