@@ -1,5 +1,6 @@
 // An expression in one pass, at any depth of groups.
 #![tactic(auto)]
+
 ghost use Rattle.std.specs.Prelude.{◌≡◌, true, false, ◌≤◌, length};
 ghost use Rattle.register.specs.Shape.{Limits};
 ghost use Rattle.text_places.specs.Place.{NoOperator};
