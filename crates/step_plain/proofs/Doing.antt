@@ -1,13 +1,12 @@
 -- What a plain rule stores and sends, by whether its test holds.
 use Prim.Native.Nat.{ℕ, ◌<◌}
 use mathlib.Core.Path.{◌≡◌, refl, sym, ap, ap₂, ◌∙◌}
-use mathlib.Core.Bool.{Bool, true, false, cond, not, ◌&&◌, ◌||◌}
+use mathlib.Core.Bool.{Bool, true, false, cond, ◌&&◌, ◌||◌}
 use mathlib.Core.List.{List, []}
 use lib.IntN.{ℤ}
 use lib.Signed.{mag}
 use mir.Syntax.{w32}
 use mir.Val.{to_z, of_z}
-use borrow.Author.Tests.{not-true, not-false}
 use Rattle.laws.proofs.Bools.{true_false}
 use Rattle.chain.specs.declared.reading.Reading.{Reading}
 use Rattle.chain.specs.declared.reading.Reading.TheVariants.{Missing, Value}
@@ -25,7 +24,7 @@ use Rattle.machine.specs.Local.{offends}
 use Rattle.machine.specs.Remote.{sent_by, rule_messages}
 use Rattle.step_operations.specs.declared.operation.Evaluated.TheVariants as E
 use Rattle.step_operations.specs.declared.comparison.Tested.{Tested}
-use Rattle.step_operations.specs.declared.comparison.Tested.TheVariants.{Holds, Fails, OutOfRange}
+use Rattle.step_operations.specs.declared.comparison.Tested.TheVariants.{Holds, Fails}
 use Rattle.step_operations.specs.Evaluated.{of_reading, of_sum, joined, evaluated}
 use Rattle.step_operations.specs.Tests.{answered, tested}
 use Rattle.step_tests.specs.Plain.{is_plain, plain_test, plain_rule}
@@ -84,13 +83,13 @@ module _ (read : List ℕ → Reading) (k : List ℕ) where
 
     -- a rule, by whether its test holds
     module _ {b : Bool} (ran : b ≡ holds read (test_in k x.test)) where
-      pub send_unheld : not b ≡ true → [] ≡ rule_messages read (rule_in k x)
+      pub send_unheld : b ≡ false → [] ≡ rule_messages read (rule_in k x)
       unfolding rule_messages rule_in
-      send_unheld h = sym (simp (sym ran ∙ not-true b h))
+      send_unheld h = sym (simp (sym ran ∙ h))
 
-      pub send_held : not b ≡ false → {r : Rule} → x.rule ≡ r → sent_by read (target_in r) (value read (expression_in k r)) ≡ rule_messages read (rule_in k x)
+      pub send_held : b ≡ true → {r : Rule} → x.rule ≡ r → sent_by read (target_in r) (value read (expression_in k r)) ≡ rule_messages read (rule_in k x)
       unfolding rule_messages rule_in
-      send_held h is = sym (simp (sym ran ∙ not-false b h) (ap (λ (r : Rule). sent_by read (target_in r) (value read (expression_in k r))) is))
+      send_held h is = sym (simp (sym ran ∙ h) (ap (λ (r : Rule). sent_by read (target_in r) (value read (expression_in k r))) is))
 
       -- no sum of a plain test leaves the range
       module _ (plain : plain_test x.test ≡ true) where
@@ -98,14 +97,14 @@ module _ (read : List ℕ → Reading) (k : List ℕ) where
         unfolding tested
         answer_is = sym (simp (plain-tested read k x.test plain) (ap answered (sym ran)))
 
-        pub write_unheld : not b ≡ true → W.Nothing ≡ write_of read (rule_in k x)
+        pub write_unheld : b ≡ false → W.Nothing ≡ write_of read (rule_in k x)
         unfolding answered
-        write_unheld h = write_fails answer_is (ap answered (not-true b h))
+        write_unheld h = write_fails answer_is (ap answered h)
 
-        pub write_held : not b ≡ false → {r : Rule} → x.rule ≡ r → done_by (target_in r) (evaluated read (expression_in k r)) ≡ write_of read (rule_in k x)
+        pub write_held : b ≡ true → {r : Rule} → x.rule ≡ r → done_by (target_in r) (evaluated read (expression_in k r)) ≡ write_of read (rule_in k x)
         unfolding answered
         write_held h is =
-            sym (ap (λ (r : Rule). done_by (target_in r) (evaluated read (expression_in k r))) is) ∙ write_done answer_is (ap answered (not-false b h))
+            sym (ap (λ (r : Rule). done_by (target_in r) (evaluated read (expression_in k r))) is) ∙ write_done answer_is (ap answered h)
 
   -- a plain term is stored
   pub plain-stored : (f : ℕ) (x : Term) → is_plain x ≡ true → done_by (own f) (of_reading (value read (term_in k x))) ≡ done_by (own f) (evaluated read (term_in k x))

@@ -1,5 +1,6 @@
 // What a plain rule stores and sends. No sum of its test leaves the range, nor does one of its terms, so that these are readings.
 #![tactic(auto)]
+
 ghost use Rattle.std.specs.Prelude.{◌≡◌, ◌<◌, []};
 ghost use Rattle.register.specs.Cells.{cells_of};
 ghost use Rattle.register.specs.Shape.{Parts};
