@@ -58,6 +58,25 @@ mark_byte_lem n l h =
     go (suc (suc (suc (suc (suc (suc zero)))))) h b = record { read = λ due r. refl; bytes_are = refl }
     go (suc (suc (suc (suc (suc (suc (suc m))))))) h b = absurd (omega (arith, h))
 
+-- the numbers of the others
+abbrev pub NoByte : ℕ → Type 0
+NoByte n = ((((Unit {0} × (n ≢ 7)) × (n ≢ 10)) × (n ≢ 11)) × (n ≢ 12)) × (n ≢ 13)
+
+pub no_byte : (n : ℕ) → 7 ≤ n → n ≤ 13 → NoByte n → 0 ≡ mark_byte n
+no_byte n l h other =
+    let e : n - 7 + 7 ≡ n = omega (arith, l) in
+    subst (λ (k : ℕ). NoByte k → 0 ≡ mark_byte k) e (go (n - 7) (omega (arith, h))) other
+  where
+    go : (m : ℕ) → m ≤ 6 → NoByte (m + 7) → 0 ≡ mark_byte (m + 7)
+    go zero h o = absurd (o.0.0.0.0.1 refl)
+    go (suc zero) h o = refl
+    go (suc (suc zero)) h o = refl
+    go (suc (suc (suc zero))) h o = absurd (o.0.0.0.1 refl)
+    go (suc (suc (suc (suc zero)))) h o = absurd (o.0.0.1 refl)
+    go (suc (suc (suc (suc (suc zero))))) h o = absurd (o.0.1 refl)
+    go (suc (suc (suc (suc (suc (suc zero)))))) h o = absurd (o.1 refl)
+    go (suc (suc (suc (suc (suc (suc (suc m))))))) h o = absurd (omega (arith, h))
+
 -- `:=` and `:` have none
 pub byte_none : (n : ℕ) → 7 ≤ n → n ≤ 13 → mark_byte n ≡ 0 → (8 ≤ n) × (n ≤ 9)
 byte_none n l h =

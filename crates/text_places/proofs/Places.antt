@@ -97,6 +97,10 @@ colon_read CloseRound ts rest l e h = absurd (omega (arith, l, e))
 colon_read Unknown ts rest l e h = absurd (omega (arith, l, e))
 colon_read LineEnd ts rest l e h = absurd (omega (arith, l, e))
 
+-- the numbers of the other variants
+abbrev pub other_tags : List ℕ
+other_tags = 0 ∷ 1 ∷ 2 ∷ 3 ∷ 4 ∷ 5 ∷ 6 ∷ 7 ∷ 8 ∷ 11 ∷ 12 ∷ 13 ∷ 14 ∷ 15 ∷ 16 ∷ 17 ∷ 18 ∷ 19 ∷ []
+
 pub colon_other : (k : Token) → k ≢ Becomes → k ≢ Colon → 0 ≡ colon_number k
 unfolding colon_number
 colon_other Becomes n m = absurd (n refl)
