@@ -14,7 +14,6 @@ use Rattle.text_syntax.specs.Kind.{kind, fixed_in, same, is}
 use Rattle.text_syntax.specs.Form.{Form, formed, unformed, past, then, then_or}
 use Rattle.text_syntax.specs.Written.{Term, Expression, term}
 use Rattle.text_syntax.specs.Grammar.{expression}
-use Rattle.text_syntax.specs.Parts.{operators}
 use Rattle.text_syntax.specs.Flat as F
 use Rattle.text_syntax.specs.Flat.{empty, summary, merged, with_operator, scan_from}
 use Rattle.text_syntax.proofs.Scans.{scan_due, scan_term, scan_open, scan_operator, scan_close, scan-end, scan-expression}

@@ -24,7 +24,7 @@ use Rattle.text_terms.specs.declared.chains.ChainRead.TheVariants.{Chain, NoForm
 use Rattle.text_places.specs.Word.{NoLetter}
 use Rattle.text_places.specs.Place.{tokens_from, Behind, begins, Passing, Absent}
 use Rattle.text_terms.specs.Chain.{Opens, NoChain, Closes, Unclosed, ChainFormed, ChainAt, ClosedBy, EndsInside, PackedSmall}
-use Rattle.text_places.proofs.Places.{behind-behind, absent, past-absent, letter-capital}
+use Rattle.text_places.proofs.Places.{behind-behind, past-absent, letter-capital}
 
 -- what a chain begins with: a letter and `[`, a letter alone, and neither a letter nor `u`
 module _ (due : Bool) (line : List ℕ) (at i : ℕ) {l : ℕ} (text : tokens_from due line at ≡ letter l ∷ tokens_from false line i) where

@@ -6,7 +6,7 @@ use Rattle.integers.specs.declared.Sum.TheVariants.{InRange, OutOfRange}
 use Rattle.chain_text.specs.declared.letters.Letters.{Letters}
 use Rattle.program.specs.Code.{chain_code, number_code}
 use Rattle.text_syntax.specs.Form.{formed, unformed}
-use Rattle.text_syntax.specs.Written.{Term, chain, number}
+use Rattle.text_syntax.specs.Written.{Term, chain}
 use Rattle.text_syntax.specs.Grammar.{chain_form, term_form}
 use Rattle.text_terms.specs.declared.chains.ChainRead.{ChainRead}
 use Rattle.text_terms.specs.declared.chains.ChainRead.TheVariants.{Chain, NoForm}

@@ -1,5 +1,4 @@
 -- `text_scan::scan` meets its contract.
-use Prim.Native.Nat.{◌-◌}
 use mathlib.Core.Path.{subst}
 use native.Mathlib.Omega.{arith}
 use Rattle.text_scan.specs.Scan.{Turns, TurnAt}

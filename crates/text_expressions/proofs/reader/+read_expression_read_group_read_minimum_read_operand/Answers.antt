@@ -1,6 +1,6 @@
 -- The readers of expressions, of what `<?` joins, of operands and of groups meet their contracts: each calls the next, and the reader of
 -- groups that of expressions, with one group less remaining.
-use Prim.Native.Nat.{◌+◌, ◌-◌, ◌<◌}
+use Prim.Native.Nat.{◌-◌}
 use mathlib.Core.Path.{subst}
 use mathlib.Core.Bool.{true}
 use native.Mathlib.Omega.{arith}

@@ -1,5 +1,4 @@
 -- `text_terms::chains::overlong` meets its contract.
-use Prim.Native.Nat.{◌-◌}
 use mathlib.Core.Path.{subst}
 use mathlib.Core.Bool.{false}
 use native.Mathlib.Omega.{arith}

@@ -1,5 +1,4 @@
 -- `text_terms::term::read_chain` meets its contract.
-use Prim.Native.Nat.{◌-◌}
 use mathlib.Core.Path.{sym, subst}
 use mathlib.Core.Bool.{false}
 use native.Mathlib.Omega.{arith}
