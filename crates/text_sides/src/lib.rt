@@ -2,5 +2,6 @@
 // tokens alone (specs/Expression, `ExpressionAt`), and the codes of an expression that passes are those of its tree
 // (proofs/Whole, `whole-postfix`).
 #![tactic(auto)]
+
 pub mod expression;
 pub mod side;
