@@ -11,8 +11,9 @@ use mir.Syntax.{w32}
 use mir.Val.{SFits}
 use lib.Signed.{non_neg}
 use Rattle.integers.proofs.Complement.{index_is}
-use Rattle.register.specs.File.{cell_count, cell_index}
-use Rattle.register.specs.Shape.{Limits}
+use Rattle.register.specs.Cells.{cells_of}
+use Rattle.register.specs.File.{cell_count, cell_index, values_part, marks_part, cells_of_file}
+use Rattle.register.specs.Shape.{Limits, Parts}
 use Rattle.register.specs.declared.Sizes.{Sizes}
 use Rattle.register.specs.declared.cells.Cell.{Cell}
 use Rattle.register.proofs.Bounds.{cell_index-below}
@@ -40,6 +41,15 @@ use Rattle.step_rules.specs.Delivered.{Addresses, Delivers, Delivered, RuleSends
 use Rattle.step_cells.proofs.Working.{same_refl, same_then, same-put, holds-put, held_at, small_put}
 use Rattle.step_rules.proofs.Locals.{rule_at, rules-more, all_at, in_range-at}
 use Rattle.step_cells.proofs.Merging.{merged-below}
+
+-- the parts of a register, by other names
+pub parts_as : {s : Sizes} {b b' f f' : List ℕ} → b ≡ b' → f ≡ f' → Parts s b' f' → Parts s b f
+parts_as e q p = rw (e, q) p
+
+-- the cells of a file, by its parts
+pub cells_as : (s : Sizes) (file : List ℕ) {b f : List ℕ} → b ≡ values_part s file → f ≡ marks_part s file → cells_of b f ≡ cells_of_file s file
+unfolding cells_of_file
+cells_as s file e q = ap₂ cells_of e q
 
 -- a target within the register names a record
 within-names : (n : ℕ) (x : Reading) → Within n x → Names x
