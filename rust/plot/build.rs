@@ -1,6 +1,6 @@
 //! Says where the proved library is: target/staticlib of the project, or the folder that
-//! the environment variable PLOT_LIB_DIR names. There it is libc_api.a, as `rt staticlib`
-//! makes it, or libplot.a, as it is installed.
+//! the environment variable PLOT_LIB_DIR names. There it is libc_api.a, as
+//! `scripts/static_library` makes it, or libplot.a, as it is installed.
 
 use std::env;
 use std::path::PathBuf;
@@ -23,8 +23,8 @@ fn main() {
     if there.is_none() && !is_clippy() {
         println!(
             "cargo::error=The proved library is missing: {} has neither libc_api.a nor libplot.a. \
-             Set PLOT_LIB_DIR to the folder that has it, or make it: `rt staticlib c_api` in the \
-             repository, or `bash install PREFIX`, which puts it into PREFIX/lib.",
+             Set PLOT_LIB_DIR to the folder that has it, or make it: `scripts/static_library` in \
+             the repository, or `bash install PREFIX`, which puts it into PREFIX/lib.",
             folder.display()
         );
         return;

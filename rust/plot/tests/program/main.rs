@@ -16,7 +16,7 @@ fn program() -> PathBuf {
     let program = Path::new(env!("CARGO_MANIFEST_DIR")).join("../../target/bin/plotprint");
     assert!(
         program.is_file(),
-        "{} is not there: `rt check plotprint` makes it",
+        "{} is not there: `scripts/printing_program` makes it",
         program.display()
     );
     program
