@@ -1,6 +1,7 @@
 // A turn of the run's loop but for the rules of its step: whether there is one; the pass entered and the readings gathered; the
 // cells committed to the register, the step counted and the next one found.
 #![tactic(auto)]
+
 ghost use Rattle.std.specs.Prelude.{◌≡◌, ◌*◌, ◌≤◌, length};
 ghost use Rattle.register.specs.File.{cells_of_file};
 ghost use Rattle.register.specs.Shape.{Register};
