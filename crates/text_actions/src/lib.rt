@@ -1,3 +1,4 @@
 // Rules without their test, to the end of the line.
 #![tactic(auto)]
+
 pub mod action;
