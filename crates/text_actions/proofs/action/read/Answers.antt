@@ -26,44 +26,30 @@ read_target-requires c =
 
 pub read_sent-requires : goal.read_sent-requires
 read_sent-requires c =
-    let k = c in
-    let r = k in
-    let s = r in
-    let i = s in
-    let p = i.requires in
-    let w = lexed _ _ _ i.requires.1 s.next_token-first.ensures in
-    let t = subst (TargetAt _ _ _) c.in-Target.is k.read_target.ensures in
-    (p.0, t.behind.inside, t.capital, omega (arith, (goes_on_lem w _ r.in-Remote.is tt).onward, t.behind.onward, p.2), p.3)
+    let p = c.requires in
+    let w = lexed _ _ _ c.requires.1 c.next_token-first.ensures in
+    let t = subst (TargetAt _ _ _) c.in-Target.is c.read_target.ensures in
+    (p.0, t.behind.inside, t.capital, omega (arith, (goes_on_lem w _ c.in-Remote.is tt).onward, t.behind.onward, p.2), p.3)
 
 pub returns-in-Letter : goal.returns-in-Letter
 returns-in-Letter c =
-    let k = c in
-    let s = k in
-    let i = s in
-    let w = lexed _ _ _ i.requires.1 s.next_token-first.ensures in
-    let e = k.in-Letter.is in
+    let w = lexed _ _ _ c.requires.1 c.next_token-first.ensures in
+    let e = c.in-Letter.is in
     let r = c.read_local in
     action_from _ _ _ _ _ (goes_on_lem w _ e tt) (ap action_form (passed w e) ∙ action_local _ _) r.result r.ensures
 
 pub returns-in-Target : goal.returns-in-Target
 returns-in-Target c =
-    let k = c in
-    let s = k in
-    let i = s in
-    let n = i in
-    let j = n in
-    let w = lexed _ _ _ j.requires.1 n.next_token-first.ensures in
-    let e = i.in-Remote.is in
-    let t = subst (TargetAt _ _ _) k.in-Target.is s.read_target.ensures in
+    let w = lexed _ _ _ c.requires.1 c.next_token-first.ensures in
+    let e = c.in-Remote.is in
+    let t = subst (TargetAt _ _ _) c.in-Target.is c.read_target.ensures in
     let r = c.read_sent in
     action_from _ _ _ _ _ (behind-behind (goes_on_lem w _ e tt) t.behind)
     (ap action_form (passed w e) ∙ action_remote _ ∙ target-then t.form_is) r.result (r.ensures t.inner t.parts_are)
 
 pub returns-in-NoForm : goal.returns-in-NoForm
 returns-in-NoForm c =
-    let k = c in
-    let r = k in
-    let w = lexed _ _ _ r.requires.1 k.next_token-first.ensures in
+    let w = lexed _ _ _ c.requires.1 c.next_token-first.ensures in
     let t = subst (TargetAt _ _ _) c.in-NoForm.is c.read_target.ensures in
     no_action (ap action_form (passed w c.in-Remote.is) ∙ action_remote _ ∙ t.none)
 

@@ -22,11 +22,8 @@ read-requires c =
 
 pub returns-in_default-read : goal.returns-in_default-read
 returns-in_default-read c =
-    let k = c in
-    let r = k in
-    let s = r in
-    let v = subst (PassesAssigned _ _) r.in-At.is s.assigned.ensures in
-    no_action (local-none _ v (subst (ExpressionAt _ _ _ _ _ _) c.in_default-read.is k.read.ensures))
+    let v = subst (PassesAssigned _ _) c.in-At.is c.assigned.ensures in
+    no_action (local-none _ v (subst (ExpressionAt _ _ _ _ _ _) c.in_default-read.is c.read.ensures))
 
 pub ends-requires : goal.ends-requires
 ends-requires c =
@@ -35,53 +32,34 @@ ends-requires c =
 
 pub returns-then-not-ends : goal.returns-then-not-ends
 returns-then-not-ends c =
-    let k = c in
-    let r = k in
-    let s = r in
-    let v = subst (PassesAssigned _ _) r.in-At.is s.assigned.ensures in
-    let w = subst (ExpressionAt _ _ _ _ _ _) c.in-Parts.is k.read.ensures in
+    let v = subst (PassesAssigned _ _) c.in-At.is c.assigned.ensures in
+    let w = subst (ExpressionAt _ _ _ _ _ _) c.in-Parts.is c.read.ensures in
     record { none = whole-more _ (local-formed _ v w.form_is) (sym c.ends.ensures ∙ c.if-not-ends.true) }
 
 pub field_of-field-requires : goal.field_of-field-requires
 field_of-field-requires c =
-    let k = c in
-    capital-low _ k.requires.2
+    capital-low _ c.requires.2
 
 pub set_in-held-requires : goal.set_in-held-requires
 set_in-held-requires c =
-    let k = c in
-    let r = k in
-    let s = r in
-    let w = subst (ExpressionAt _ _ _ _ _ _) k.in-Parts.is r.read.ensures in
-    codes-inside w (omega (arith, s.requires.4, r.read.auto.codes))
+    let w = subst (ExpressionAt _ _ _ _ _ _) c.in-Parts.is c.read.ensures in
+    codes-inside w (omega (arith, c.requires.4, c.read.auto.codes))
 
 pub names_field-requires : goal.names_field-requires
 names_field-requires c =
-    let k = c in
-    let l = k.requires.0 in (l.references≤, l.measures≤)
+    let l = c.requires.0 in (l.references≤, l.measures≤)
 
 pub codes_behind_set-requires : goal.codes_behind_set-requires
 codes_behind_set-requires c =
-    let k = c in
-    let r = k in
-    let s = r in
-    let w = subst (ExpressionAt _ _ _ _ _ _) k.in-Parts.is r.read.ensures in
-    (codes-inside w (omega (arith, s.requires.4, r.read.auto.codes))).0
+    let w = subst (ExpressionAt _ _ _ _ _ _) c.in-Parts.is c.read.ensures in
+    (codes-inside w (omega (arith, c.requires.4, c.read.auto.codes))).0
 
 pub shape_of-codes : goal.shape_of-codes
 shape_of-codes c = c.read.auto.codes
 
 pub returns : goal.returns
 returns c =
-    let k = c in
-    let r = k in
-    let s = r in
-    let i = s in
-    let n = i in
-    let j = n in
-    let q = j in
-    let u = q in
-    let v = subst (PassesAssigned _ _) j.in-At.is q.assigned.ensures in
-    let w = subst (ExpressionAt _ _ _ _ _ _) i.in-Parts.is n.read.ensures in
-    local-read u.requires.0 _ v w (sym s.ends.ensures ∙ r.if-not-ends.false) k.field_of-field.ensures
+    let v = subst (PassesAssigned _ _) c.in-At.is c.assigned.ensures in
+    let w = subst (ExpressionAt _ _ _ _ _ _) c.in-Parts.is c.read.ensures in
+    local-read c.requires.0 _ v w (sym c.ends.ensures ∙ c.if-not-ends.false) c.field_of-field.ensures
     c.set_in-held.ensures c.names_field.ensures c.local-asked.ensures c.codes_behind_set.ensures

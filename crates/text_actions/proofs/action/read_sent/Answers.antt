@@ -19,11 +19,8 @@ read-requires c =
 
 pub returns-in_default-read : goal.returns-in_default-read
 returns-in_default-read c chain e =
-    let k = c in
-    let r = k in
-    let s = r in
-    let v = subst (PassesWrite _ _) r.in-Write.is s.write.ensures in
-    no_action (sent-none _ chain v (subst (SideAt _ _ _ _ _ _) c.in_default-read.is k.read.ensures))
+    let v = subst (PassesWrite _ _) c.in-Write.is c.write.ensures in
+    no_action (sent-none _ chain v (subst (SideAt _ _ _ _ _ _) c.in_default-read.is c.read.ensures))
 
 pub ends-requires : goal.ends-requires
 ends-requires c =
@@ -32,36 +29,24 @@ ends-requires c =
 
 pub returns-then-not-ends : goal.returns-then-not-ends
 returns-then-not-ends c chain e =
-    let k = c in
-    let r = k in
-    let s = r in
-    let v = subst (PassesWrite _ _) r.in-Write.is s.write.ensures in
-    let w = subst (SideAt _ _ _ _ _ _) c.in-Side.is k.read.ensures in
+    let v = subst (PassesWrite _ _) c.in-Write.is c.write.ensures in
+    let w = subst (SideAt _ _ _ _ _ _) c.in-Side.is c.read.ensures in
     record { none = whole-more _ (sent-formed _ chain v w.form_is) (sym c.ends.ensures ∙ c.if-not-ends.true) }
 
 pub field_of-requires : goal.field_of-requires
 field_of-requires c =
-    let k = c in
-    capital-low _ k.requires.2
+    capital-low _ c.requires.2
 
 pub names_field-named-requires : goal.names_field-named-requires
 names_field-named-requires c =
-    let k = c in
-    let l = k.requires.0 in (l.references≤, l.measures≤)
+    let l = c.requires.0 in (l.references≤, l.measures≤)
 
 pub shape_of-codes : goal.shape_of-codes
 shape_of-codes c = c.read.auto.codes
 
 pub returns : goal.returns
 returns c chain e =
-    let k = c in
-    let r = k in
-    let s = r in
-    let i = s in
-    let n = i in
-    let j = n in
-    let q = j in
-    let v = subst (PassesWrite _ _) n.in-Write.is j.write.ensures in
-    let w = subst (SideAt _ _ _ _ _ _) s.in-Side.is i.read.ensures in
-    sent-read q.requires.0 _ chain _ e v w (sym r.ends.ensures ∙ k.if-not-ends.false)
+    let v = subst (PassesWrite _ _) c.in-Write.is c.write.ensures in
+    let w = subst (SideAt _ _ _ _ _ _) c.in-Side.is c.read.ensures in
+    sent-read c.requires.0 _ chain _ e v w (sym c.ends.ensures ∙ c.if-not-ends.false)
     c.field_of.ensures c.chain.ensures c.names_field-named.ensures c.remote.ensures

@@ -22,8 +22,7 @@ mark-requires c =
 pub returns-in_default-mark : goal.returns-in_default-mark
 unfolding operand_behind
 returns-in_default-mark c =
-    let s = c in
-    let l = subst (PassesLetter false _ _) s.in-Letter.is (s.letter.ensures false) in
+    let l = subst (PassesLetter false _ _) c.in-Letter.is (c.letter.ensures false) in
     target_unopened l.passing
     (subst (Passes false false openSquare _ _) c.in_default-mark.is c.mark.ensures)
 
@@ -36,10 +35,8 @@ read_chain-requires c =
 pub returns-in_default-read_chain : goal.returns-in_default-read_chain
 unfolding operand_behind
 returns-in_default-read_chain c =
-    let i = c in
-    let s = i in
-    let l = subst (PassesLetter false _ _) s.in-Letter.is (s.letter.ensures false) in
-    let o = subst (Passes false false openSquare _ _) i.in-At.is i.mark.ensures in
+    let l = subst (PassesLetter false _ _) c.in-Letter.is (c.letter.ensures false) in
+    let o = subst (Passes false false openSquare _ _) c.in-At.is c.mark.ensures in
     target_unread l.passing o (subst (ChainPartsAt _ false _ _) c.in_default-read_chain.is c.read_chain.ensures)
 
 pub mark-requires-2 : goal.mark-requires-2
@@ -50,26 +47,19 @@ mark-requires-2 c =
 pub returns-in_default-mark-2 : goal.returns-in_default-mark-2
 unfolding operand_behind
 returns-in_default-mark-2 c =
-    let p = c in
-    let i = p in
-    let s = i in
-    let l = subst (PassesLetter false _ _) s.in-Letter.is (s.letter.ensures false) in
-    let o = subst (Passes false false openSquare _ _) i.in-At.is i.mark.ensures in
-    let w = subst (ChainPartsAt _ false _ _) p.in-Parts.is p.read_chain.ensures in
+    let l = subst (PassesLetter false _ _) c.in-Letter.is (c.letter.ensures false) in
+    let o = subst (Passes false false openSquare _ _) c.in-At.is c.mark.ensures in
+    let w = subst (ChainPartsAt _ false _ _) c.in-Parts.is c.read_chain.ensures in
     target_unclosed l.passing o w.form_is
     (subst (Passes false false closeSquare _ _) c.in_default-mark-2.is c.mark-2.ensures)
 
 pub returns : goal.returns
 unfolding operand_behind
 returns c =
-    let e = c in
-    let p = e in
-    let i = p in
-    let s = i in
-    let l = subst (PassesLetter false _ _) s.in-Letter.is (s.letter.ensures false) in
-    let o = subst (Passes false false openSquare _ _) i.in-At.is i.mark.ensures in
-    let w = subst (ChainPartsAt _ false _ _) p.in-Parts.is p.read_chain.ensures in
-    let x = subst (Passes false false closeSquare _ _) e.in-At-mark.is e.mark-2.ensures in
+    let l = subst (PassesLetter false _ _) c.in-Letter.is (c.letter.ensures false) in
+    let o = subst (Passes false false openSquare _ _) c.in-At.is c.mark.ensures in
+    let w = subst (ChainPartsAt _ false _ _) c.in-Parts.is c.read_chain.ensures in
+    let x = subst (Passes false false closeSquare _ _) c.in-At-mark.is c.mark-2.ensures in
     record {
       inner = w.letters;
       form_is = target-closed l.passing o w.form_is x;

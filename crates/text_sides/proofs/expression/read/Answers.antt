@@ -9,28 +9,20 @@ use Rattle.text_sides.proofs.expression.read.Goals as goal
 
 pub read_expression-requires : goal.read_expression-requires
 read_expression-requires c =
-    let k = c in
-    let p = k.requires in record { limits = (p.0, omega arith, p.1, nothing_few c.nothing-before.ensures _); roomy = p.2 }
+    let p = c.requires in record { limits = (p.0, omega arith, p.1, nothing_few c.nothing-before.ensures _); roomy = p.2 }
 
 pub returns-in-Read : goal.returns-in-Read
 returns-in-Read c =
-    let k = c in
-    let r = k in
-    let s = r in
-    whole-read r.nothing-before.ensures s.requires.2
-    (subst (ReadingAt expression _ _ _ _ _ _ _ _) c.in-Read.is k.read_expression.ensures)
+    whole-read c.nothing-before.ensures c.requires.2
+    (subst (ReadingAt expression _ _ _ _ _ _ _ _) c.in-Read.is c.read_expression.ensures)
 
 pub returns-in-NoForm : goal.returns-in-NoForm
 returns-in-NoForm c = subst (ReadingAt expression _ _ _ _ _ _ _ _) c.in-NoForm.is c.read_expression.ensures
 
 pub returns-in-Scanned : goal.returns-in-Scanned
 returns-in-Scanned c =
-    let k = c in
-    let r = k in
-    let s = r in
-    let e = r in
-    whole-passed s.requires.2 e.read_expression.auto.codes
-    (subst (ReadingAt expression _ _ _ _ _ _ _ _) k.in-Deep.is e.read_expression.ensures)
+    whole-passed c.requires.2 c.read_expression.auto.codes
+    (subst (ReadingAt expression _ _ _ _ _ _ _ _) c.in-Deep.is c.read_expression.ensures)
     (subst (ScanAt _ _ _) c.in-Scanned.is c.scan.ensures)
 
 pub returns-in-NoForm-scan : goal.returns-in-NoForm-scan

@@ -10,14 +10,10 @@ returns-in_default c = subst (ExpressionAt _ _ _ _ _ _) c.in_default.is c.read.e
 
 pub term_in-term-requires : goal.term_in-term-requires
 term_in-term-requires c =
-    let r = c in
-    codes-inside (subst (ExpressionAt _ _ _ _ _ _) c.in-Parts.is r.read.ensures)
-    (omega (arith, c.requires.3, r.read.auto.codes))
+    codes-inside (subst (ExpressionAt _ _ _ _ _ _) c.in-Parts.is c.read.ensures)
+    (omega (arith, c.requires.3, c.read.auto.codes))
 
 pub returns : goal.returns
 returns c =
-    let k = c in
-    let r = k in
-    let s = r in
-    side_formed (subst (ExpressionAt _ _ _ _ _ _) k.in-Parts.is r.read.ensures) s.requires.0
+    side_formed (subst (ExpressionAt _ _ _ _ _ _) c.in-Parts.is c.read.ensures) c.requires.0
     c.term_in-term.ensures c.codes_left.ensures
