@@ -1,0 +1,25 @@
+-- `text_lines::line::read_loop` meets its contract.
+use mathlib.Core.Bool.{false}
+use mathlib.Core.Path.{subst}
+use Rattle.chain_text.proofs.Steps.{capital-low}
+use Rattle.text_places.specs.Word.{PassesLetter}
+use Rattle.text_lines.proofs.Lines.{no_letter, loop_letter}
+use Rattle.text_lines.proofs.line.read_loop.Goals as goal
+
+pub returns-in_default : goal.returns-in_default
+returns-in_default c = no_letter _ _ (let p = subst (PassesLetter false _ _) c.in_default.is (c.letter.ensures false) in p.none)
+
+pub field_of-field-requires : goal.field_of-field-requires
+field_of-field-requires c = capital-low _
+    (let p = subst (PassesLetter false _ _) c.in-Letter.is (c.letter.ensures false) in p.capital)
+
+pub word_line-requires : goal.word_line-requires
+word_line-requires c =
+    let p = subst (PassesLetter false _ _) c.in-Letter.is (c.letter.ensures false) in
+    p.passing.behind.inside
+
+pub returns : goal.returns
+returns c =
+    let p = subst (PassesLetter false _ _) c.in-Letter.is
+    (c.letter.ensures false) in
+    loop_letter _ p.passing c.field_of-field.ensures c.names_field.ensures c.word_line.ensures
