@@ -1,5 +1,6 @@
 // The functions for programs in other languages, which c_api_c exports.
 #![tactic(auto)]
+
 pub mod check;
 pub mod inspection;
 pub mod path;

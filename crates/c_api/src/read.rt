@@ -6,13 +6,7 @@ ghost use Rattle.c_api.specs.Answer.{ReadAnswer};
 use api_read::reading;
 
 // The reading of a chain at record u: the refusal number, 0 for none. On a refusal the value stays as it was.
-pub fn plot_read(
-    file: &[u8],
-    text: &[u8],
-    u: u64,
-    value: &mut i64,
-    answer: &mut [u64; 8],
-) -> u32
+pub fn plot_read(file: &[u8], text: &[u8], u: u64, value: &mut i64, answer: &mut [u64; 8]) -> u32
     ensures { ReadAnswer (read_numbers (reading file.now text.now u))
         value.old result value.new answer.new }
 {

@@ -1,5 +1,6 @@
 // The page that is printed for a register file and a rules text, from the library's run.
 #![tactic(auto)]
+
 ghost use Rattle.std.specs.Prelude.{◌≡◌, ◌≤◌, length, take};
 ghost use Rattle.io.specs.Counts.{IsPrefixLen};
 ghost use Rattle.print_listing.specs.Room.{page_room};
