@@ -1,5 +1,6 @@
 // The first line of a text from a place on: where it ends, and its reading.
 #![tactic(auto)]
+
 ghost use Rattle.std.specs.Prelude.{◌≡◌, ◌+◌, ◌≤◌, ◌<◌, length, drop};
 ghost use Rattle.register.specs.Shape.{Limits};
 ghost use Rattle.text_next.specs.Front.{line_goes_on, line_bytes, first_form, CodeRoom, LineNext};
