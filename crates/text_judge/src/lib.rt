@@ -1,5 +1,6 @@
 // The next line of a text, read and judged where the reader stands.
 #![tactic(auto)]
+
 ghost use Rattle.std.specs.Prelude.{◌≤◌, ◌<◌, length};
 ghost use Rattle.register.specs.Shape.{Limits};
 ghost use Rattle.text_next.specs.Front.{CodeRoom};
