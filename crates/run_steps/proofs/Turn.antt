@@ -13,7 +13,7 @@ use Rattle.laws.proofs.Bools.{and_both}
 use Rattle.laws.proofs.Lists.{each_append}
 use Rattle.step_tests.specs.Plain.{plain_slot}
 use Rattle.register.specs.File.{cell_count, cells_of_file}
-use Rattle.register.specs.Shape.{Limits}
+use Rattle.register.specs.Shape.{Limits, Register}
 use Rattle.register.specs.declared.Sizes.{Sizes}
 use Rattle.register.specs.declared.cells.Cell.{Cell}
 use Rattle.plan_lines.specs.Held.{facts}
@@ -24,7 +24,7 @@ use Rattle.program.specs.Passed.{SettingPasses, RulesPass, StepPasses, ProgramPa
 use Rattle.program.specs.Location.{LocatedAmong}
 use Rattle.program.specs.Stored.{rule_in, rules_in}
 use Rattle.program.specs.declared.frame.Frame.{Frame}
-use Rattle.program.specs.Kept.{program_of, Complete}
+use Rattle.program.specs.Kept.{steps_in, program_of, Complete}
 use Rattle.program.specs.declared.Program as R
 use Rattle.machine.proofs.Readings.{readings_pass, step-promised}
 use Rattle.machine.proofs.Running.{running_passes}
@@ -41,12 +41,13 @@ use Rattle.step_cells.specs.declared.stop.Stop.TheVariants.{Nowhere}
 use Rattle.run_loop.specs.Column.{Space}
 use Rattle.run_turn.specs.declared.Progress.{Progress}
 use Rattle.run_turn.specs.declared.Begun.{Begun}
-use Rattle.run_turn.specs.Turned.{TurnBegun}
+use Rattle.run_turn.specs.Turned.{GoesOn, TurnBegun}
 use Rattle.gather_exchanges.specs.Lines.{StepPlanned}
+use Rattle.run_steps.specs.Answer.{Scratch}
 use Rattle.run_steps.proofs.Arrays.{no_frame, StepAt, step-at, slots_at, slots_length, slot_at, taken_next}
 use Rattle.run_steps.proofs.Finding.{followed, LinesHold, filled-lines, all_ready, all_agree}
 use Rattle.run_steps.proofs.Loops.{Taken, LocalsLeft}
-use Rattle.run_steps.proofs.Standing.{no_step, Stands, here, comes}
+use Rattle.run_steps.proofs.Standing.{no_step, Stands, StandsBy, here, comes}
 
 -- no step has more lines than the most
 lines-most : (xs : Program) (i : ℕ) (d : Step) → i < length xs → length (step_plan (get_or xs i d).rules) ≤ most_lines xs
@@ -102,6 +103,28 @@ pub record Turn (m : Machine) (s : Sizes) (codes : List ℕ) (p : R.Program) (bu
   pub stands : Stands m s (program_of codes p) (p.lines * s.records) budget file run.step run.first run.finished run.counts out values marks
   pub more : run.step < p.steps
   pub later : run.finished < budget
+
+-- the loop goes on, and this is the frame of the step that comes next
+pub turn_at : {m : Machine} {s : Sizes} {codes : List ℕ} {p : R.Program} {budget : ℕ} {file : List ℕ} {run : Progress}
+    {out : List ℕ} {values values₀ : List ℤ} {marks marks₀ : List ℕ} {f : Frame} {goes : Bool}
+    → Register s file → Scratch s p.lines values₀ marks₀ → Complete codes p → ProgramPasses s (program_of codes p)
+    → StandsBy m s (steps_in codes p.slots (take p.steps p.frames)) (p.lines * s.records) budget file run out values marks
+    → GoesOn run p.steps budget goes → goes ≡ true → f ≡ get_or p.frames run.step no_frame → Turn m s codes p budget file run out values marks f
+unfolding program_of
+turn_at register scratch complete passes by going goes held =
+    let nowhere = going.nowhere goes in
+    let stands = by.stands nowhere in
+    record {
+      nowhere = nowhere;
+      held = held;
+      complete = complete;
+      passes = passes;
+      few-lines = scratch.lines≤;
+      whole = register.whole;
+      stands = stands;
+      more = going.left goes;
+      later = omega (arith, stands.running.within, going.allowed goes);
+    }
 
 module _ {m : Machine} {s : Sizes} {codes : List ℕ} {p : R.Program} {budget : ℕ} {file : List ℕ} {run : Progress}
     {out : List ℕ} {values : List ℤ} {marks : List ℕ} {f : Frame} (a : Turn m s codes p budget file run out values marks f) where

@@ -1,5 +1,6 @@
 // The run of a program, by either machine: step after step, within the budget.
 #![tactic(auto)]
+
 ghost use Rattle.std.specs.Prelude.{◌+◌, ◌*◌};
 ghost use Rattle.register.specs.File.{cells_of_file};
 ghost use Rattle.register.specs.Shape.{Register};
