@@ -1,6 +1,7 @@
 // The text reader: one loop over the lines that holds the program and the open step's plan. The array for the codes of
 // expressions is lent to it.
 #![tactic(auto)]
+
 ghost use Rattle.std.specs.Prelude.{◌≡◌, ◌≤◌, length};
 ghost use Rattle.register.specs.Shape.{Limits};
 ghost use Rattle.text_rules.specs.Text.{lines, start as start_of, read_from};
@@ -14,7 +15,7 @@ use text_rules::scope::Scope;
 use text_state::state;
 
 // A program, where the refusal is 0; otherwise the refusal's number and its line.
-#[derive(Clone, Copy)]
+#[derive(Drop)]
 pub struct Checked {
     pub refusal: u32,
     pub line: usize,
