@@ -8,7 +8,7 @@ use lib.ListN.{length, get_or, take, drop, set, length-drop}
 use lib.Seq.{drop-drop, get_or-take, get_or-drop, length-take-le, take-suc, take-suc-set}
 use Rattle.program.specs.declared.location.Located.{Located}
 use Rattle.program.specs.declared.setting.Setting.TheVariants.{Single}
-use Rattle.program.specs.Program.{Step, Program}
+use Rattle.program.specs.Program.{Step}
 use Rattle.program.specs.Stored.{rules_in}
 use Rattle.program.specs.declared.frame.Frame.{Frame}
 use Rattle.laws.specs.Lists.{Each}

@@ -1,5 +1,4 @@
 -- `op_ready::copy` meets its contract. The loop's invariant: the bytes passed are copied.
-use Prim.Native.Nat.{◌-◌}
 use mathlib.Core.Path.{refl, sym, ◌∙◌}
 use native.Mathlib.Omega.{arith}
 use lib.ListN.{length-set}

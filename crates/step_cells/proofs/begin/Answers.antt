@@ -1,12 +1,10 @@
 -- `step_cells::begin` meets its contract. The loop's invariant: the places passed hold their cells, and nothing below `base` has changed.
-use Prim.Native.Nat.{ℕ, ◌+◌, ◌-◌, ◌*◌}
-use mathlib.Core.Path.{◌≡◌, ◌∙◌}
+use Prim.Native.Nat.{ℕ, ◌+◌}
+use mathlib.Core.Path.{◌∙◌}
 use mathlib.Core.List.{List}
 use native.Mathlib.Omega.{arith}
 use borrow.Author.Count.{below_none, below_more}
-use lib.IntN.{ℤ}
-use lib.ListN.{length, get_or}
-use Rattle.integers.specs.Bytes.{value_at}
+use lib.ListN.{length}
 use Rattle.register.specs.Shape.{Parts}
 use Rattle.register.proofs.Loading.{file-parts}
 use Rattle.register.proofs.Roundtrip.{register-value, register_mark}

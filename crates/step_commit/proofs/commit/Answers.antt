@@ -1,6 +1,6 @@
 -- `step_commit::commit` meets its contract. The loop's invariant: the columns passed, where they are written, are in range and in the
 -- file.
-use Prim.Native.Nat.{◌-◌, ◌≤◌, ◌<◌}
+use Prim.Native.Nat.{◌<◌}
 use mathlib.Core.Path.{◌∙◌}
 use native.Mathlib.Omega.{arith}
 use Rattle.register.specs.File.{width}

@@ -1,5 +1,4 @@
 -- `step_commit::commit_column` meets its contract. The loop's invariant: the records passed are in range and written.
-use Prim.Native.Nat.{◌-◌, ◌≤◌}
 use mathlib.Core.Path.{◌∙◌}
 use native.Mathlib.Omega.{arith}
 use Rattle.register.proofs.Bounds.{cell_index-below}

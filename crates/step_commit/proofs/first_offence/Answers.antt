@@ -1,5 +1,4 @@
 -- `step_commit::first_offence` meets its contract. The loop's invariant: no column of the records passed is out of range.
-use Prim.Native.Nat.{◌-◌, ◌≤◌}
 use mathlib.Core.Path.{sym}
 use native.Mathlib.Omega.{arith}
 use borrow.Author.Count.{below_none, below_more}

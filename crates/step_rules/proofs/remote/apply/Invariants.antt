@@ -1,6 +1,5 @@
 -- `step_rules::remote::apply` meets its contract: the messages of all rules at all records are delivered and counted, and no total leaves 64 bits.
 use Prim.Native.Nat.{◌*◌, ◌-◌, ◌≤◌}
-use borrow.Author.Rules.{rules}
 use Rattle.register.specs.File.{cells_of_file}
 use Rattle.program.specs.Stored.{rules_in}
 use Rattle.machine.specs.Remote.{messages, record_messages}
