@@ -11,7 +11,6 @@ use Rattle.register.specs.Shape.{Limits}
 use Rattle.register.specs.declared.Sizes.{Sizes}
 use Rattle.program.specs.declared.term.Term.{Term}
 use Rattle.program.specs.Code.{postfix, codes_in, SameBelow}
-use Rattle.text_syntax.specs.Parts.{depth}
 use Rattle.text_syntax.specs.Tree.{tree_of}
 use Rattle.text_syntax.specs.Flat as F
 use Rattle.text_syntax.specs.Flat.{summary}

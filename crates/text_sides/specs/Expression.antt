@@ -1,5 +1,5 @@
 -- The expression at a place of a line, with what is asked of it and its codes.
-use Rattle.std.specs.Prelude.{ℕ, ◌+◌, ◌-◌, ◌≤◌, ◌≡◌, true, false, List, length}
+use Rattle.std.specs.Prelude.{ℕ, ◌+◌, ◌≤◌, ◌≡◌, true, false, List, length}
 use Rattle.register.specs.declared.Sizes.{Sizes}
 use Rattle.text_syntax.specs.Form.{formed}
 use Rattle.text_syntax.specs.Written.{Expression}

@@ -1,5 +1,5 @@
 -- `text_next::line_end` meets its contract. The loop's invariant: from here on the line ends where it ends from its beginning on.
-use Prim.Native.Nat.{◌-◌, ◌<◌}
+use Prim.Native.Nat.{◌<◌}
 use mathlib.Core.Path.{◌≡◌, refl, sym, ◌∙◌}
 use mathlib.Core.Bool.{true}
 use native.Mathlib.Omega.{arith}

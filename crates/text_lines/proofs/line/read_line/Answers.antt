@@ -1,8 +1,6 @@
 -- `text_lines::line::read_line` meets its contract.
-use Prim.Native.Nat.{ℕ}
 use mathlib.Core.Path.{refl, ap, ◌∙◌}
 use mathlib.Core.Bool.{false}
-use mathlib.Core.List.{List, ◌∷◌}
 use native.Mathlib.Omega.{arith}
 use Rattle.text_syntax.specs.Token.{stepWord, end_word, doneWord, loopWord, ifWord}
 use Rattle.text_syntax.specs.Lexing.{tokens}
