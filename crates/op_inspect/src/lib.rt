@@ -1,5 +1,6 @@
 // Document 01's look: a single step of a text over the register as loaded, after its round t.
 #![tactic(auto)]
+
 ghost use Rattle.std.specs.Prelude.{◌≡◌, length};
 ghost use Rattle.op_inspect.specs.Inspection.{inspection};
 ghost use Rattle.op_inspect.specs.Answer.{inspect_refusal, InspectAnswered};
