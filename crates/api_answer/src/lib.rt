@@ -1,5 +1,6 @@
 // The eight places of the C interface's answer array, for a run and for a look.
 #![tactic(auto)]
+
 ghost use Rattle.std.specs.Prelude.{◌≡◌};
 ghost use Rattle.api_answer.specs.Numbers.{run_numbers, inspect_numbers};
 
