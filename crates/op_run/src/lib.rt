@@ -1,5 +1,6 @@
 // Document 01's runs of a rules text over a register file, in buffers that the caller lends.
 #![tactic(auto)]
+
 ghost use Rattle.std.specs.Prelude.{◌≡◌};
 ghost use Rattle.machine_messages.specs.declared.Machine.TheVariants.{Direct, Messages};
 ghost use Rattle.op_run.specs.Direct.{direct_run};
