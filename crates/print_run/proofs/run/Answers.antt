@@ -1,11 +1,10 @@
 -- `print_run::run` meets its contract: the working arrays have enough places.
 use Prim.Native.Nat.{ℕ}
-use mathlib.Core.Path.{◌≡◌, refl}
+use mathlib.Core.Path.{refl}
 use mathlib.Core.List.{List}
 use lib.IntN.{pos}
 use lib.ListN.{replicate}
 use native.Mathlib.Omega.{arith}
-use borrow.Author.Rules.{rules}
 use Rattle.op_run.specs.Answer.{lengths}
 use Rattle.print_run.proofs.Enough.{run-printed}
 use Rattle.print_run.proofs.run.Goals as goal
