@@ -79,7 +79,7 @@ run_program-answer-requires c =
     let r : Readied (scratch (sizes_of a.file.now) (most_lines program)) a.file.now a.out.now a.values.now a.marks.now c.ready-refusal.new.out c.ready-refusal.new.values c.ready-refusal.new.marks c.ready-refusal.result =
     rw (← c.sizes_of-sizes.ensures, ← complete.lines_are) c.ready-refusal.ensures in
     let copied : c.ready-refusal.new.out ≡ a.file.now = ready-copied r c.if-refusal-ne0.false in
-    let bytes : Bytes a.file.now = λ i. (c.shared_slice_known-1.given i).fits in
+    let bytes : Bytes a.file.now = λ i. (c.type_inv.file i).fits in
     let e = c.sizes_of-sizes.ensures in (
       copy_register e copied (register a.file.now a.text.now checked bytes),
       scratch-ready e complete.lines_are r.values_same r.marks_same line_limit (ready-room r c.if-refusal-ne0.false),
