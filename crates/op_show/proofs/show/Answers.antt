@@ -26,7 +26,7 @@ returns c =
     let a = c.args in
     let pre = c.requires in
     let last_is : c.last_round.result ≡ last_round (facts_in a.keys.now a.count) =
-        c.last_round.ensures.last-is _ (planned_count pre.2) (planned-rounds pre.2) in
+    c.last_round.ensures.last-is _ (planned_count pre.2) (planned-rounds pre.2) in
     shown pre.2 pre.0 c.exchanges-last.ensures last_is c.clear.ensures
     (rw (parts-cells a.sizes a.file.now c.values_part-cells.ensures c.marks_part-filled.ensures) at
     c.exchange_to.ensures)
