@@ -4,7 +4,6 @@ ghost use Rattle.op_read.specs.Reading.{reading_outcome};
 ghost use Rattle.laws.specs.Outcome.{done, refused as refused_with};
 ghost use Rattle.api_read.specs.Numbers.{read_numbers};
 
-use chain::reading::Reading;
 use op_read::ReadingAnswer;
 
 // The numbers of a reading's answer.
@@ -27,17 +26,17 @@ fn refused(number: u32, line: u64) -> ReadNumbers
     }
 }
 
-fn read(reading: Reading) -> ReadNumbers
+fn read(reading: Option<i32>) -> ReadNumbers
     ensures { result ≡ read_numbers (done reading) }
 {
     match reading {
-        Reading::Missing => ReadNumbers {
+        None => ReadNumbers {
             number: 0,
             line: 0,
             value: 0,
             filled: 0,
         },
-        Reading::Value(value) => ReadNumbers {
+        Some(value) => ReadNumbers {
             number: 0,
             line: 0,
             value: integers::widen(value),

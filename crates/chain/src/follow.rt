@@ -5,7 +5,6 @@ ghost use Rattle.register.specs.File.{width, cell_count, cell_index};
 ghost use Rattle.register.specs.Shape.{Limits, Parts, Valid};
 ghost use Rattle.chain.specs.Word.{has_field, column as columnOf, field_at, field_cell, read_cell, readable, unpack, value_at_record};
 
-use crate::reading::Reading;
 use crate::{packed, reading};
 use register::cells::Cell;
 use register::{Sizes, cells};
@@ -51,7 +50,7 @@ pub fn field_cell(cells: &[u8], filled: &[u8], sizes: Sizes, u: usize, field: us
 }
 
 // What is read of the cell of record u and a field.
-pub fn read_cell(cells: &[u8], filled: &[u8], sizes: Sizes, u: usize, field: usize) -> Reading
+pub fn read_cell(cells: &[u8], filled: &[u8], sizes: Sizes, u: usize, field: usize) -> Option<i32>
     requires { Parts sizes cells.now filled.now × (u < sizes.records) × (has_field sizes field ≡ true) }
     ensures { result ≡ read_cell sizes (cells_of cells.now filled.now) u field }
 {
@@ -59,15 +58,15 @@ pub fn read_cell(cells: &[u8], filled: &[u8], sizes: Sizes, u: usize, field: usi
 }
 
 // The value of a packed chain at record u.
-pub fn follow(cells: &[u8], filled: &[u8], sizes: Sizes, chain: u64, u: usize) -> Reading
+pub fn follow(cells: &[u8], filled: &[u8], sizes: Sizes, chain: u64, u: usize) -> Option<i32>
     requires { Parts sizes cells.now filled.now × Valid sizes (cells_of cells.now filled.now) × (u < sizes.records) × (readable sizes (unpack chain) ≡ true) }
     ensures { result ≡ value_at_record sizes (cells_of cells.now filled.now) (unpack chain) u }
 {
-    let mut reading = Reading::Value(integers::of_index(u));
+    let mut reading = Some(integers::of_index(u));
     let mut rest = chain;
     while rest != 0 {
-        let Reading::Value(value) = reading else {
-            return Reading::Missing;
+        let Some(value) = reading else {
+            return None;
         };
         let field = packed::first_hop(rest) as usize;
         reading = read_cell(cells, filled, sizes, integers::index(value), field);

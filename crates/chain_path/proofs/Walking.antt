@@ -1,4 +1,5 @@
 -- The path of a packed chain, hop by hop.
+use Rattle.std.specs.Prelude.{None, Some}
 use Prim.Native.Nat.{ℕ, ◌+◌, ◌≤◌, ◌<◌}
 use mathlib.Core.Path.{◌≡◌, refl, sym, ap, ◌∙◌}
 use mathlib.Core.List.{List, [], ◌∷◌, ◌++◌, append-nil, append_assoc}
@@ -11,8 +12,7 @@ use Rattle.laws.specs.Lists.{Each}
 use Rattle.laws.proofs.Lists.{each_append}
 use Rattle.register.specs.declared.Sizes.{Sizes}
 use Rattle.register.specs.declared.cells.Cell.{Cell}
-use Rattle.chain.specs.declared.reading.Reading.{Reading}
-use Rattle.chain.specs.declared.reading.Reading.TheVariants.{Missing, Value}
+use Rattle.chain.specs.Reading.{Reading}
 use Rattle.chain.specs.Word.{field_cell, read_of, read_cell}
 use Rattle.chain_path.specs.declared.Hop.{Hop}
 use Rattle.chain_path.specs.declared.Path.{Path}
@@ -33,23 +33,23 @@ pub field-read : (s : Sizes) (cells : List Cell) (u f : ℕ) {c : Cell} → c �
 unfolding read_cell
 field-read s cells u f e = ap read_of e
 
-path_missing : (s : Sizes) (cells : List Cell) (w : List ℕ) → path s cells Missing w ≡ []
+path_missing : (s : Sizes) (cells : List Cell) (w : List ℕ) → path s cells None w ≡ []
 unfolding path
 path_missing s cells [] = refl
 path_missing s cells (f ∷ w) = refl
 
 -- the next hop: its record, its field, its cell, and the path behind it
-path-next : (s : Sizes) (cells : List Cell) {x : Reading} {z : ℤ} {k f : ℕ} {c : Cell} (w : List ℕ) → x ≡ Value z → k ≡ nat_abs z → c ≡ field_cell s cells k f
+path-next : (s : Sizes) (cells : List Cell) {x : Reading} {z : ℤ} {k f : ℕ} {c : Cell} (w : List ℕ) → x ≡ Some z → k ≡ nat_abs z → c ≡ field_cell s cells k f
     → path s cells x (f ∷ w) ≡ record { u = k; field = f; cell = c } ∷ path s cells (read_of c) w
 unfolding path read_cell
 path-next s cells w e q r = rw (e, ← q, r) refl
 
 module _ {s : Sizes} {cells : List Cell} where
-  pub walking_first : {p : Path} (w : List ℕ) (u : ℕ) → HoldsPath p [] → length w ≤ 16 → Walking s cells (path_at_record s cells w u) w (Value (pos u)) p
+  pub walking_first : {p : Path} (w : List ℕ) (u : ℕ) → HoldsPath p [] → length w ≤ 16 → Walking s cells (path_at_record s cells w u) w (Some (pos u)) p
   unfolding path_at_record
   walking_first w u h short =
       record {
-        listed = ap (λ (l : List Hop). l ++ path s cells (Value (pos u)) w) h.hops_are;
+        listed = ap (λ (l : List Hop). l ++ path s cells (Some (pos u)) w) h.hops_are;
         places = h.places;
         room = omega (arith, short, holds_count h);
         lettered = h.lettered;
@@ -57,7 +57,7 @@ module _ {s : Sizes} {cells : List Cell} where
 
   module _ {goal : List Hop} {x : Reading} {w : List ℕ} {p : Path} (h : Walking s cells goal w x p) where
     -- one hop on
-    pub walking_next : {z : ℤ} {k f : ℕ} {c : Cell} {y : Reading} {r : List ℕ} → f < 16 → w ≡ f ∷ r → x ≡ Value z → k ≡ nat_abs z
+    pub walking_next : {z : ℤ} {k f : ℕ} {c : Cell} {y : Reading} {r : List ℕ} → f < 16 → w ≡ f ∷ r → x ≡ Some z → k ≡ nat_abs z
         → c ≡ field_cell s cells k f → y ≡ read_of c
         → Walking s cells goal r y (record { hops = set p.hops p.count (record { u = k; field = f; cell = c }); count = p.count + 1 })
     walking_next {k = k} {f} {c} {y} {r} letter split e q d o =
@@ -88,5 +88,5 @@ module _ {s : Sizes} {cells : List Cell} where
     unfolding path
     walking_last e = walking_end (ap (path s cells x) e)
 
-    pub walking_missing : x ≡ Missing → HoldsPath p goal
+    pub walking_missing : x ≡ None → HoldsPath p goal
     walking_missing e = walking_end (ap (λ (x : Reading). path s cells x w) e ∙ path_missing s cells w)

@@ -7,7 +7,6 @@ ghost use Rattle.register.specs.Shape.{Parts, Valid};
 ghost use Rattle.chain.specs.Word.{Passes, unpack};
 ghost use Rattle.chain_path.specs.Path.{path_at_record, HoldsPath};
 
-use chain::reading::Reading;
 use chain::{follow, packed, reading};
 use register::Sizes;
 use register::cells::Cell;
@@ -48,10 +47,10 @@ pub fn path_at_record(cells: &[u8], filled: &[u8], sizes: Sizes, chain: u64, u: 
     ensures { HoldsPath result (path_at_record sizes (cells_of cells.now filled.now) (unpack chain) u) }
 {
     let mut path = no_hops();
-    let mut reading = Reading::Value(integers::of_index(u));
+    let mut reading = Some(integers::of_index(u));
     let mut rest = chain;
     while rest != 0 {
-        let Reading::Value(value) = reading else {
+        let Some(value) = reading else {
             return path;
         };
         let field = packed::first_hop(rest) as usize;

@@ -1,4 +1,5 @@
 -- Exchanges at the places: one more line of a round, one more round, and places that are cleared.
+use Rattle.std.specs.Prelude.{None}
 use Prim.Native.Nat.{ℕ, suc, ◌+◌, ◌*◌, ◌≤◌, ◌<◌}
 use mathlib.Core.Path.{◌≡◌, refl, sym, ap₂, ◌∙◌}
 use mathlib.Core.List.{List}
@@ -11,8 +12,7 @@ use mir.Syntax.{w32}
 use mir.Val.{SFits}
 use Rattle.register.specs.declared.Sizes.{Sizes}
 use Rattle.register.specs.declared.cells.Cell.{Cell}
-use Rattle.chain.specs.declared.reading.Reading.{Reading}
-use Rattle.chain.specs.declared.reading.Reading.TheVariants.{Missing}
+use Rattle.chain.specs.Reading.{Reading}
 use Rattle.chain.specs.Word.{reading_value}
 use Rattle.plan_lines.specs.Held.{line_at}
 use Rattle.plan_lines.specs.declared.Plan.{Plan}
@@ -135,20 +135,20 @@ module _ (values : List ℤ) (marks : List ℕ) where
   clear_none = record { values_length = refl; marks_length = refl; missing = λ j h. absurd (omega arith); behind = λ j h. kept_same }
 
   pub clear_next : {values' : List ℤ} {marks' : List ℕ} (k : ℕ) → k < length values → k < length marks
-      → Cleared k values marks values' marks' → SFits w32 (reading_value Missing)
-      → Cleared (k + 1) values marks (set values' k (reading_value Missing)) (set marks' k (reading_mark Missing))
+      → Cleared k values marks values' marks' → SFits w32 (reading_value None)
+      → Cleared (k + 1) values marks (set values' k (reading_value None)) (set marks' k (reading_mark None))
   clear_next {values'} {marks'} k room room' c fits =
-      let other : (j : ℕ) → j ≢ k → Kept j values' marks' (set values' k (reading_value Missing)) (set marks' k (reading_mark Missing)) =
-      kept-other values' marks' k (reading_value Missing) (reading_mark Missing) in
+      let other : (j : ℕ) → j ≢ k → Kept j values' marks' (set values' k (reading_value None)) (set marks' k (reading_mark None)) =
+      kept-other values' marks' k (reading_value None) (reading_mark None) in
       record {
-        values_length = length-set values' k (reading_value Missing) ∙ c.values_length;
-        marks_length = length-set marks' k (reading_mark Missing) ∙ c.marks_length;
+        values_length = length-set values' k (reading_value None) ∙ c.values_length;
+        marks_length = length-set marks' k (reading_mark None) ∙ c.marks_length;
         missing = λ j h.
             ⊎_elim
             (λ (b : j < k). stored-kept (c.missing j b) (other j (λ q. omega arith)))
             (λ (b : k ≤ j).
             let q : j ≡ k = omega arith in
-            rw q (stored-set values' marks' k Missing (omega (arith, c.values_length)) (omega (arith, c.marks_length)) fits))
+            rw q (stored-set values' marks' k None (omega (arith, c.values_length)) (omega (arith, c.marks_length)) fits))
             (lt_or_le j k);
         behind = λ j h. kept_again (c.behind j (omega arith)) (other j (λ q. omega arith));
       }

@@ -13,7 +13,6 @@ ghost use Rattle.gather_exchanges.specs.Lines.{field_of, PlanReady};
 ghost use Rattle.gather_exchanges.specs.Exchanged.{ExchangeReady, Exchanged, ExchangedTo, Cleared};
 
 use chain::packed;
-use chain::reading::Reading;
 use gather_line;
 use plan_keys::key;
 use plan_keys::key::ONE_HOP;
@@ -146,6 +145,6 @@ pub fn clear(values: &mut [i64], marks: &mut [u8], places: usize)
     ensures { Cleared places values.old marks.old values.new marks.new }
 {
     for j in 0..places {
-        scratch::put_reading(values, marks, j, Reading::Missing);
+        scratch::put_reading(values, marks, j, None);
     }
 }

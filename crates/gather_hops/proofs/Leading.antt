@@ -1,4 +1,5 @@
 -- Where the reading at a place leads.
+use Rattle.std.specs.Prelude.{None, Some}
 use Prim.Native.Nat.{ℕ}
 use mathlib.Core.Path.{◌≡◌, refl, sym, ap, ◌∙◌}
 use mathlib.Core.Logic.{◌≢◌}
@@ -9,8 +10,7 @@ use Rattle.register.specs.File.{cell_index}
 use Rattle.register.specs.declared.Sizes.{Sizes}
 use Rattle.register.specs.declared.cells.Cell.{Cell}
 use Rattle.register.specs.declared.cells.Cell.TheVariants.{Missing as Unfilled}
-use Rattle.chain.specs.declared.reading.Reading.{Reading}
-use Rattle.chain.specs.declared.reading.Reading.TheVariants.{Missing, Value}
+use Rattle.chain.specs.Reading.{Reading}
 use Rattle.chain.specs.Word.{column, read_of, read_cell, hop}
 use Rattle.scratch.specs.Places.{place_at}
 use Rattle.scratch.proofs.Placed.{place_at_missing, place_at-value}
@@ -19,8 +19,8 @@ use Rattle.gather_hops.specs.Hopped.{referred}
 -- a hop is to the column of its field
 pub hop-referred : (s : Sizes) (cells : List Cell) (f : ℕ) (x : Reading) → referred s cells (column s f) x ≡ hop s cells x f
 unfolding referred hop read_cell
-hop-referred s cells f Missing = refl
-hop-referred s cells f (Value z) = refl
+hop-referred s cells f None = refl
+hop-referred s cells f (Some z) = refl
 
 module _ (values : List ℤ) (marks : List ℕ) (j : ℕ) where
   -- where the reading at place j leads in a column, by its mark

@@ -11,7 +11,6 @@ ghost use Rattle.chain.specs.Word.{has_field, readable, unpack, value_at_record,
 ghost use Rattle.scratch.specs.Places.{place_at, StoredFrom};
 ghost use Rattle.gather_hops.specs.Hopped.{referred, Referring, Hopped};
 
-use chain::reading::Reading;
 use chain::{follow, packed};
 use register::Sizes;
 use scratch;
@@ -74,12 +73,12 @@ fn two_hops(
     u: usize,
     field: usize,
     next: usize,
-) -> Reading
+) -> Option<i32>
     requires { Parts sizes cells.now filled.now × Valid sizes (cells_of cells.now filled.now) × (u < sizes.records) × (readable sizes (field ∷ next ∷ []) ≡ true) }
     ensures { result ≡ value_at_record sizes (cells_of cells.now filled.now) (field ∷ next ∷ []) u }
 {
-    let Reading::Value(number) = follow::read_cell(cells, filled, sizes, u, field) else {
-        return Reading::Missing;
+    let Some(number) = follow::read_cell(cells, filled, sizes, u, field) else {
+        return None;
     };
     let v = integers::index(number);
     follow::read_cell(cells, filled, sizes, v, next)

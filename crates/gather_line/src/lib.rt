@@ -8,7 +8,6 @@ ghost use Rattle.machine_messages.specs.Counts.{is_sent};
 ghost use Rattle.gather_line.specs.Written.{places_of, writer_at, known_at, message_at, ReadHeld, BackHeld, LineReady, LineSent};
 
 use chain::follow;
-use chain::reading::Reading;
 use register::Sizes;
 use scratch;
 
@@ -16,12 +15,12 @@ use scratch;
 const NO_LINE: usize = 64;
 
 // Who writes for origin u: u itself, or the addressee of the message of line `back`; missing where that was not sent.
-fn writer(values: &[i64], marks: &[u8], sizes: Sizes, u: usize, back: usize) -> Reading
+fn writer(values: &[i64], marks: &[u8], sizes: Sizes, u: usize, back: usize) -> Option<i32>
     requires { (sizes.records ≤ 4096) × (u < sizes.records) × BackHeld sizes values.now marks.now back }
     ensures { result ≡ writer_at (places_of sizes values.now marks.now) back u }
 {
     if back == NO_LINE {
-        return Reading::Value(integers::of_index(u));
+        return Some(integers::of_index(u));
     }
     scratch::read_at(values, marks, back * sizes.records + u)
 }
@@ -37,7 +36,7 @@ fn known(
     v: usize,
     read: usize,
     field: usize,
-) -> Reading
+) -> Option<i32>
     requires { Parts sizes cells.now filled.now × (v < sizes.records) × ReadHeld sizes values.now marks.now read field }
     ensures { result ≡ known_at sizes (cells_of cells.now filled.now)
         (places_of sizes values.now marks.now) read field v }
@@ -59,26 +58,26 @@ fn message(
     back: usize,
     read: usize,
     field: usize,
-) -> Reading
+) -> Option<i32>
     requires { Parts sizes cells.now filled.now × (u < sizes.records) × BackHeld sizes values.now marks.now back
         × ReadHeld sizes values.now marks.now read field }
     ensures { result ≡ message_at sizes (cells_of cells.now filled.now)
         (places_of sizes values.now marks.now) back read field u }
 {
-    let Reading::Value(number) = writer(values, marks, sizes, u, back) else {
-        return Reading::Missing;
+    let Some(number) = writer(values, marks, sizes, u, back) else {
+        return None;
     };
     let v = integers::index(number);
     known(cells, filled, values, marks, sizes, v, read, field)
 }
 
 // 1 for a message, also one to oneself, and 0 for none.
-fn is_sent(message: Reading) -> usize
+fn is_sent(message: Option<i32>) -> usize
     ensures { result ≡ is_sent message }
 {
     match message {
-        Reading::Missing => 0,
-        Reading::Value(_) => 1,
+        None => 0,
+        Some(_) => 1,
     }
 }
 

@@ -5,7 +5,7 @@ use Rattle.register.specs.File.{cells_of_file}
 use Rattle.register.specs.Load.{load}
 use Rattle.register.specs.declared.Sizes.{Sizes}
 use Rattle.register.specs.declared.cells.Cell.{Cell}
-use Rattle.chain.specs.declared.reading.Reading.{Reading}
+use Rattle.chain.specs.Reading.{Reading}
 use Rattle.chain_text.specs.Text.{form}
 use Rattle.chain_path.specs.Path.{path_at_record, shows, hops_of, HoldsPath}
 use Rattle.chain_path.specs.declared.Hop.{Hop}

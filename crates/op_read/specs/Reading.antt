@@ -6,7 +6,7 @@ use Rattle.register.specs.Load.{load}
 use Rattle.register_check.specs.Number.{refusal_number as register-number}
 use Rattle.register.specs.declared.Sizes.{Sizes}
 use Rattle.register.specs.declared.cells.Cell.{Cell}
-use Rattle.chain.specs.declared.reading.Reading.{Reading}
+use Rattle.chain.specs.Reading.{Reading}
 use Rattle.chain_text.specs.declared.letters.Letters.{Letters}
 use Rattle.op_read.specs.declared.Refusal.{Refusal}
 use Rattle.op_read.specs.declared.Refusal.TheVariants.{Form as BadForm, Field, Kind, Hops}

@@ -9,7 +9,6 @@ ghost use Rattle.chain_text.specs.Text.{form};
 ghost use Rattle.op_read.specs.Reading.{word_of_form, reading_loaded, reading as reading_of, chain_outcome, reading_outcome, chain_refusal_number, judged_of};
 
 use chain::follow;
-use chain::reading::Reading;
 use chain_text::letters::Letters;
 use chain_text::text;
 use chain_text::text::Scanned;
@@ -47,7 +46,7 @@ pub enum ChainAnswer {
 // A reading, or why it is refused: by the register, by the chain, or by the record number (refusal 16).
 #[derive(Clone, Copy)]
 pub enum ReadingAnswer {
-    Read(Reading),
+    Read(Option<i32>),
     Register(register_check::Refusal),
     Chain(Refusal),
     Record,

@@ -12,24 +12,23 @@ ghost use Rattle.machine.specs.Run.{same_reading as sameReadingOf, begins};
 ghost use Rattle.run_loop.specs.Column.{Space, HasColumn, SameAs, HasPass, Entered, NextIs};
 
 use chain::follow;
-use chain::reading::Reading;
 use program::setting::Setting;
 use register::{Sizes, cells};
 use scratch;
 use scratch::column;
 
 // Whether the same is read, value and whether filled: "not 1 against 2" (M-107).
-fn same_reading(x: Reading, y: Reading) -> bool
+fn same_reading(x: Option<i32>, y: Option<i32>) -> bool
     ensures { result ≡ sameReadingOf x y }
 {
     match x {
-        Reading::Missing => match y {
-            Reading::Missing => true,
-            Reading::Value(_) => false,
+        None => match y {
+            None => true,
+            Some(_) => false,
         },
-        Reading::Value(a) => match y {
-            Reading::Missing => false,
-            Reading::Value(b) => integers::equal(a, b),
+        Some(a) => match y {
+            None => false,
+            Some(b) => integers::equal(a, b),
         },
     }
 }

@@ -16,7 +16,7 @@ use Rattle.register.specs.File.{width, cell_index}
 use Rattle.register.specs.Shape.{Parts}
 use Rattle.register.specs.declared.Sizes.{Sizes}
 use Rattle.register.specs.declared.cells.Cell.TheVariants.{Missing}
-use Rattle.chain.specs.declared.reading.Reading.{Reading}
+use Rattle.chain.specs.Reading.{Reading}
 use Rattle.chain.specs.Word.{read_of}
 use Rattle.register.proofs.Arrays.{cells_of-at}
 use Rattle.register.proofs.Bounds.{cell_index-below}

@@ -1,4 +1,5 @@
 -- What a rule stores and sends, by what the code found for its test.
+use Rattle.std.specs.Prelude.{None, Some}
 use Prim.Native.Nat.{ℕ, ◌<◌}
 use mathlib.Core.Path.{◌≡◌, refl, sym, ap, ap₂, ◌∙◌}
 use mathlib.Core.Bool.{Bool, true, false, cond}
@@ -9,8 +10,7 @@ use lib.Signed.{mag}
 use mir.Syntax.{w32}
 use mir.Val.{to_z, of_z}
 use Rattle.integers.proofs.Complement.{kept}
-use Rattle.chain.specs.declared.reading.Reading.{Reading}
-use Rattle.chain.specs.declared.reading.Reading.TheVariants.{Missing, Value}
+use Rattle.chain.specs.Reading.{Reading}
 use Rattle.program.specs.declared.term.Term.{Term}
 use Rattle.program.specs.declared.rule.Rule.{Rule}
 use Rattle.program.specs.declared.rule.Rule.TheVariants.{Remote}
@@ -36,7 +36,7 @@ use Rattle.step_effects.specs.Answers.{target_write, done_by, effect_of, write_o
 use Rattle.step_effects.specs.declared.stored.Write.TheVariants as W
 
 -- a missing value stores nothing
-pub missing_unstored : (t : Target) → W.Nothing ≡ target_write t Missing
+pub missing_unstored : (t : Target) → W.Nothing ≡ target_write t None
 unfolding target_write
 missing_unstored (own f) = refl
 missing_unstored (remote k f w) = refl
@@ -52,10 +52,10 @@ unfolding done_by
 nothing_done t = record { value = E.Missing; is = missing_unstored t }
 
 -- a value that is told where a test holds
-value-held : (h : Bool) (w : Reading) {z : ℤ} → E.Value z ≡ cond h (of_reading w) E.Missing → (h ≡ true) × (w ≡ Value z)
+value-held : (h : Bool) (w : Reading) {z : ℤ} → E.Value z ≡ cond h (of_reading w) E.Missing → (h ≡ true) × (w ≡ Some z)
 unfolding of_reading
-value-held true (Value b) e = (refl, cc)
-value-held true Missing e = absurd (let q : ◌≡◌ {A = ℕ} 0 1 = cc in omega arith)
+value-held true (Some b) e = (refl, cc)
+value-held true None e = absurd (let q : ◌≡◌ {A = ℕ} 0 1 = cc in omega arith)
 value-held false w e = absurd (let q : ◌≡◌ {A = ℕ} 0 1 = cc in omega arith)
 
 -- what one record, which reads this, makes of a rule
@@ -87,8 +87,8 @@ module _ (read : List ℕ → Reading) (k : List ℕ) where
         go : (t : Target) (o h : Bool) (v : Reading)
             → done_by t (cond o E.OutOfRange (cond h (of_reading v) E.Missing)) ≡ cond o (W.OutOfRange (target_field t)) (cond h (target_write t v) W.Nothing)
         go t true h v = refl
-        go t false true Missing = refl
-        go t false true (Value z) = refl
+        go t false true None = refl
+        go t false true (Some z) = refl
         go t false false v = sym (missing_unstored t)
 
     -- a remote rule
@@ -100,7 +100,7 @@ module _ (read : List ℕ → Reading) (k : List ℕ) where
       unfolding rule_messages rule_in target_in expression_in sent_by
       messages_are = sym (ap (λ (r : Rule). cond (holds read (test_in k x.test)) (sent_by read (target_in r) (value read (expression_in k r))) []) is)
 
-      pub sent_nowhere : read (unpack c) ≡ Missing → [] ≡ rule_messages read (rule_in k x)
+      pub sent_nowhere : read (unpack c) ≡ None → [] ≡ rule_messages read (rule_in k x)
       unfolding sent_to
       sent_nowhere e = go (holds read (test_in k x.test)) ∙ messages_are
         where
@@ -116,7 +116,7 @@ module _ (read : List ℕ → Reading) (k : List ℕ) where
 
         -- a value is one message, and no value is none
         pub sent-one : {z : ℤ} → v ≡ E.Value z
-            → (value read (term_in k y) ≡ Value z) × (sent_to sort f (read (unpack c)) (value read (term_in k y)) ≡ rule_messages read (rule_in k x))
+            → (value read (term_in k y) ≡ Some z) × (sent_to sort f (read (unpack c)) (value read (term_in k y)) ≡ rule_messages read (rule_in k x))
         sent-one e = let (h, w) = value-held (holds read (test_in k x.test)) (value read (term_in k y)) (sym e ∙ comes_to) in (w, sym (ap sent h) ∙ messages_are)
 
         pub sent-none : ((z : ℤ) → v ≡ E.Value z → ⊥) → [] ≡ rule_messages read (rule_in k x)
@@ -125,5 +125,5 @@ module _ (read : List ℕ → Reading) (k : List ℕ) where
           where
             go : (h : Bool) → holds read (test_in k x.test) ≡ h → (w : Reading) → value read (term_in k y) ≡ w → [] ≡ sent (holds read (test_in k x.test))
             go false p w q = sym (ap sent p)
-            go true p Missing q = both-second _ _ (read (unpack c)) q ∙ sym (ap sent p)
-            go true p (Value z) q = absurd (none_told z (comes_to ∙ ap₂ (λ (h : Bool) (w : Reading). cond h (of_reading w) E.Missing) p q))
+            go true p None q = both-second _ _ (read (unpack c)) q ∙ sym (ap sent p)
+            go true p (Some z) q = absurd (none_told z (comes_to ∙ ap₂ (λ (h : Bool) (w : Reading). cond h (of_reading w) E.Missing) p q))

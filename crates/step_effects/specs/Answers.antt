@@ -1,7 +1,7 @@
 -- What the answers of the code mean.
+use Rattle.std.specs.Prelude.{None, Some}
 use Rattle.std.specs.Prelude.{◌≡◌, cond, List, [], ◌∷◌, ℕ, ◌<◌}
-use Rattle.chain.specs.declared.reading.Reading.{Reading}
-use Rattle.chain.specs.declared.reading.Reading.TheVariants.{Missing, Value}
+use Rattle.chain.specs.Reading.{Reading}
 use Rattle.program.specs.Program.{Target, own, remote, Rule, target_field}
 use Rattle.machine.specs.declared.message.Message.{Message}
 use Rattle.machine.specs.Value.{value, holds}
@@ -16,14 +16,14 @@ use Rattle.step_effects.specs.declared.sent.Sent.TheVariants as S
 
 -- a reading for a target: a missing one stores nothing, and a remote rule stores nothing here
 unfoldable pub target_write : Target → Reading → Write
-target_write (own f) Missing = W.Nothing
-target_write (own f) (Value z) = W.Store f z
+target_write (own f) None = W.Nothing
+target_write (own f) (Some z) = W.Store f z
 target_write (remote k f w) x = W.Nothing
 
 -- the same for what an expression comes to
 unfoldable pub done_by : Target → Evaluated → Write
-done_by t E.Missing = target_write t Missing
-done_by t (E.Value z) = target_write t (Value z)
+done_by t E.Missing = target_write t None
+done_by t (E.Value z) = target_write t (Some z)
 done_by t E.OutOfRange = W.OutOfRange (target_field t)
 
 -- what a rule comes to: its expression where its test holds, or that a sum of either leaves the range

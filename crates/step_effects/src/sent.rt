@@ -11,7 +11,6 @@ ghost use Rattle.step_terms.specs.Found.{Told, SlotReaches, TargetFound, Within,
 ghost use Rattle.step_effects.specs.Answers.{messages_in, GoesTo};
 
 use crate::stored;
-use chain::reading::Reading;
 use machine::message::Message;
 use program::location::Located;
 use program::rule::Rule;
@@ -51,7 +50,7 @@ pub fn message_of(
     };
     let at = located.at.rule;
     let first = at.first;
-    let Reading::Value(to) = term::found_at(cells, filled, values, marks, sizes, u, first) else {
+    let Some(to) = term::found_at(cells, filled, values, marks, sizes, u, first) else {
         return Sent::Nothing;
     };
     let value = stored::effect(cells, filled, values, marks, sizes, u, codes, located);

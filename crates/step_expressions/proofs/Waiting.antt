@@ -16,7 +16,7 @@ use mir.Val.{to_z, of_z}
 use Rattle.laws.proofs.Cases.{lt_or_le}
 use Rattle.register.specs.declared.Sizes.{Sizes}
 use Rattle.register.specs.declared.cells.Cell.{Cell}
-use Rattle.chain.specs.declared.reading.Reading.{Reading}
+use Rattle.chain.specs.Reading.{Reading}
 use Rattle.program.specs.declared.rule.Operator.{Operator}
 use Rattle.program.specs.declared.rule.Operator.TheVariants.{Plus, Minus, Smaller}
 use Rattle.program.specs.Program.{Expression, reading, constant, operation, operators}

@@ -1,4 +1,5 @@
 -- Operations on values as the code holds them, and on answers.
+use Rattle.std.specs.Prelude.{None, Some}
 use Prim.Native.Nat.{ℕ, zero, suc, ◌≤◌, ◌<◌}
 use mathlib.Core.Path.{◌≡◌, refl, sym, ap, ap₂, ◌∙◌}
 use mathlib.Core.Logic.{◌≢◌}
@@ -16,8 +17,7 @@ use Rattle.integers.specs.Range.{in_range, sum_of}
 use Rattle.integers.specs.declared.Sum.{Sum}
 use Rattle.integers.specs.declared.Sum.TheVariants as S
 use Rattle.integers.proofs.Complement.{kept, mag_sum, range_fits, fits_range}
-use Rattle.chain.specs.declared.reading.Reading.{Reading}
-use Rattle.chain.specs.declared.reading.Reading.TheVariants as R
+use Rattle.chain.specs.Reading.{Reading}
 use Rattle.program.specs.declared.rule.Operator.{Operator}
 use Rattle.program.specs.declared.rule.Operator.TheVariants.{Plus, Minus, Smaller}
 use Rattle.program.specs.Code.{kind_of}
@@ -172,12 +172,12 @@ module _ (op : Operator) where
       ≡ joined op (cond o OutOfRange (of_reading x)) (cond p OutOfRange (of_reading y))
   unfolding combined both reading_in_range of_reading joined
   answers_joined true p x y = refl
-  answers_joined false true R.Missing y = refl
-  answers_joined false true (R.Value a) y = refl
-  answers_joined false false R.Missing R.Missing = refl
-  answers_joined false false R.Missing (R.Value b) = refl
-  answers_joined false false (R.Value a) R.Missing = refl
-  answers_joined false false (R.Value a) (R.Value b) = sum-answer (operate op a b)
+  answers_joined false true None y = refl
+  answers_joined false true (Some a) y = refl
+  answers_joined false false None None = refl
+  answers_joined false false None (Some b) = refl
+  answers_joined false false (Some a) None = refl
+  answers_joined false false (Some a) (Some b) = sum-answer (operate op a b)
 
   pub operation_joined : (read : List ℕ → Reading) (x y : Expression) → evaluated read (operation op x y) ≡ joined op (evaluated read x) (evaluated read y)
   unfolding evaluated value overflows

@@ -1,4 +1,5 @@
 -- Tests: their sides compared, as the code holds them, and what an answer tells of its test.
+use Rattle.std.specs.Prelude.{None, Some}
 use Prim.Native.Nat.{ℕ, ◌<◌}
 use mathlib.Core.Path.{◌≡◌, refl, sym, ap, ap₂, subst, ◌∙◌}
 use mathlib.Core.Bool.{Bool, true, false, cond, ◌||◌}
@@ -9,8 +10,7 @@ use mir.Syntax.{w32}
 use mir.Val.{to_z, of_z, SFits}
 use mir.Facts.{to_z-of_z}
 use Rattle.integers.proofs.Complement.{kept}
-use Rattle.chain.specs.declared.reading.Reading.{Reading}
-use Rattle.chain.specs.declared.reading.Reading.TheVariants as R
+use Rattle.chain.specs.Reading.{Reading}
 use Rattle.program.specs.declared.rule.Comparison.{Comparison}
 use Rattle.program.specs.Program.{Expression, Test, when}
 use Rattle.machine.specs.Value.{both, value, overflows, compare, compare_readings, holds}
@@ -38,12 +38,12 @@ answers_compared : (c : Comparison) (o p : Bool) (x y : Reading)
     → cond (o || p) OutOfRange (answered (compare_readings c x y)) ≡ compared c (cond o E.OutOfRange (of_reading x)) (cond p E.OutOfRange (of_reading y))
 unfolding compare_readings both of_reading compared answered
 answers_compared c true p x y = refl
-answers_compared c false true R.Missing y = refl
-answers_compared c false true (R.Value a) y = refl
-answers_compared c false false R.Missing R.Missing = refl
-answers_compared c false false R.Missing (R.Value b) = refl
-answers_compared c false false (R.Value a) R.Missing = refl
-answers_compared c false false (R.Value a) (R.Value b) = refl
+answers_compared c false true None y = refl
+answers_compared c false true (Some a) y = refl
+answers_compared c false false None None = refl
+answers_compared c false false None (Some b) = refl
+answers_compared c false false (Some a) None = refl
+answers_compared c false false (Some a) (Some b) = refl
 
 module _ (read : List ℕ → Reading) where
   pub test_compared : (x : Expression) (c : Comparison) (y : Expression) → compared c (evaluated read x) (evaluated read y) ≡ tested read (when x c y)

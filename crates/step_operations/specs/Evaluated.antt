@@ -1,11 +1,11 @@
 -- What an expression comes to at one record: unfilled, a value, or out of range where one of its sums is.
+use Rattle.std.specs.Prelude.{None, Some}
 use Rattle.std.specs.Prelude.{ℕ, ◌≡◌, cond, List, ℤ, pos}
 use Rattle.std.specs.Int.Signed.{lt_z}
 use Rattle.integers.specs.Range.{sum_of}
 use Rattle.integers.specs.declared.Sum.{Sum}
 use Rattle.integers.specs.declared.Sum.TheVariants as S
-use Rattle.chain.specs.declared.reading.Reading.{Reading}
-use Rattle.chain.specs.declared.reading.Reading.TheVariants as R
+use Rattle.chain.specs.Reading.{Reading}
 use Rattle.program.specs.declared.rule.Operator.{Operator}
 use Rattle.program.specs.Code.{kind_of}
 use Rattle.program.specs.Program.{Expression}
@@ -14,8 +14,8 @@ use Rattle.step_operations.specs.declared.operation.Evaluated.{Evaluated}
 use Rattle.step_operations.specs.declared.operation.Evaluated.TheVariants.{Missing, Value, OutOfRange}
 
 unfoldable pub of_reading : Reading → Evaluated
-of_reading R.Missing = Missing
-of_reading (R.Value z) = Value z
+of_reading None = Missing
+of_reading (Some z) = Value z
 
 unfoldable pub of_sum : Sum → Evaluated
 of_sum (S.InRange z) = Value z

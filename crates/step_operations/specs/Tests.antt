@@ -1,6 +1,6 @@
 -- What a test comes to at one record: it holds, it fails, or it is out of range where one of its sums is.
 use Rattle.std.specs.Prelude.{ℕ, Bool, cond, List}
-use Rattle.chain.specs.declared.reading.Reading.{Reading}
+use Rattle.chain.specs.Reading.{Reading}
 use Rattle.program.specs.declared.rule.Comparison.{Comparison}
 use Rattle.program.specs.Program.{Test}
 use Rattle.machine.specs.Value.{compare, holds}

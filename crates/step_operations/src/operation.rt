@@ -5,7 +5,6 @@ ghost use Rattle.program.specs.Code.{kind_of};
 ghost use Rattle.machine.specs.Value.{operate as operateOn};
 ghost use Rattle.step_operations.specs.Evaluated.{of_reading, of_sum, answer_of, joined, OperatesBy, JoinsBy};
 
-use chain::reading::Reading;
 use integers::Sum;
 use program::rule::Operator;
 
@@ -20,12 +19,12 @@ pub enum Evaluated {
     OutOfRange,
 }
 
-pub fn of_reading(reading: Reading) -> Evaluated
+pub fn of_reading(reading: Option<i32>) -> Evaluated
     ensures { result ≡ of_reading reading }
 {
     match reading {
-        Reading::Missing => Evaluated::Missing,
-        Reading::Value(value) => Evaluated::Value(value),
+        None => Evaluated::Missing,
+        Some(value) => Evaluated::Value(value),
     }
 }
 

@@ -1,4 +1,5 @@
 -- What a plain rule stores and sends, by whether its test holds.
+use Rattle.std.specs.Prelude.{None, Some}
 use Prim.Native.Nat.{ℕ, ◌<◌}
 use mathlib.Core.Path.{◌≡◌, refl, sym, ap, ap₂, ◌∙◌}
 use mathlib.Core.Bool.{Bool, true, false, cond, ◌&&◌, ◌||◌}
@@ -8,8 +9,7 @@ use lib.Signed.{mag}
 use mir.Syntax.{w32}
 use mir.Val.{to_z, of_z}
 use Rattle.laws.proofs.Bools.{true_false}
-use Rattle.chain.specs.declared.reading.Reading.{Reading}
-use Rattle.chain.specs.declared.reading.Reading.TheVariants.{Missing, Value}
+use Rattle.chain.specs.Reading.{Reading}
 use Rattle.program.specs.declared.term.Term.{Term}
 use Rattle.program.specs.declared.rule.Rule.{Rule}
 use Rattle.program.specs.declared.rule.Rule.TheVariants.{Set, Combine, Remote}
@@ -40,8 +40,8 @@ done-is : (t : Target) (o : Bool) (x : Reading)
     → done_by t (cond o E.OutOfRange (of_reading x)) ≡ cond o (W.OutOfRange (target_field t)) (target_write t x)
 unfolding done_by of_reading
 done-is t true x = refl
-done-is t false Missing = refl
-done-is t false (Value z) = refl
+done-is t false None = refl
+done-is t false (Some z) = refl
 
 -- what one record, which reads this, makes of a rule
 module _ (read : List ℕ → Reading) (k : List ℕ) where
@@ -124,23 +124,23 @@ module _ (read : List ℕ → Reading) (k : List ℕ) where
 
     missing_first : (v : Reading) → W.Nothing ≡ done_by (own f) (joined op E.Missing (of_reading v))
     unfolding joined of_reading done_by target_write
-    missing_first Missing = refl
-    missing_first (Value z) = refl
+    missing_first None = refl
+    missing_first (Some z) = refl
 
     missing_second : (v : Reading) → W.Nothing ≡ done_by (own f) (joined op (of_reading v) E.Missing)
     unfolding joined of_reading done_by target_write
-    missing_second Missing = refl
-    missing_second (Value z) = refl
+    missing_second None = refl
+    missing_second (Some z) = refl
 
-    pub sum_first : a ≡ Missing → W.Nothing ≡ done_by (own f) (evaluated read (operation op (term_in k x) (term_in k y)))
+    pub sum_first : a ≡ None → W.Nothing ≡ done_by (own f) (evaluated read (operation op (term_in k x) (term_in k y)))
     unfolding of_reading
     sum_first e = missing_first b ∙ sym (ap (λ (v : Reading). done_by (own f) (joined op (of_reading v) (of_reading b))) e) ∙ joined_is
 
-    pub sum_second : b ≡ Missing → W.Nothing ≡ done_by (own f) (evaluated read (operation op (term_in k x) (term_in k y)))
+    pub sum_second : b ≡ None → W.Nothing ≡ done_by (own f) (evaluated read (operation op (term_in k x) (term_in k y)))
     unfolding of_reading
     sum_second e = missing_second a ∙ sym (ap (λ (v : Reading). done_by (own f) (joined op (of_reading a) (of_reading v))) e) ∙ joined_is
 
-    pub sum_written : {v w : ℤ} {s : Sum} → a ≡ Value v → b ≡ Value w → mag v < 2147483648 → mag w < 2147483648
+    pub sum_written : {v w : ℤ} {s : Sum} → a ≡ Some v → b ≡ Some w → mag v < 2147483648 → mag w < 2147483648
         → s ≡ sum_of (operate op (to_z w32 (of_z w32 v)) (to_z w32 (of_z w32 w)))
         → done_by (own f) (of_sum s) ≡ done_by (own f) (evaluated read (operation op (term_in k x) (term_in k y)))
     unfolding of_reading

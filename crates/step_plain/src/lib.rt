@@ -12,7 +12,6 @@ ghost use Rattle.step_operations.specs.Evaluated.{of_reading, of_sum};
 ghost use Rattle.step_effects.specs.Answers.{done_by};
 ghost use Rattle.step_plain.specs.Done.{PlainDone, PlainSent, PlainWrite, PlainMessages};
 
-use chain::reading::Reading;
 use integers::Sum;
 use machine::message::Message;
 use program::location::{Located, Places};
@@ -35,12 +34,12 @@ fn is_remote(rule: Rule) -> bool
     }
 }
 
-fn write_reading(field: u64, reading: Reading) -> Write
+fn write_reading(field: u64, reading: Option<i32>) -> Write
     ensures { result ≡ done_by (own field) (of_reading reading) }
 {
     match reading {
-        Reading::Missing => Write::Nothing,
-        Reading::Value(value) => Write::Store(field, value),
+        None => Write::Nothing,
+        Some(value) => Write::Store(field, value),
     }
 }
 
@@ -71,12 +70,12 @@ fn combine(
     ensures { PlainDone sizes (cells_of cells.now filled.now) values.now marks.now u at (Combine field operator x y) result }
 {
     let first = at.first;
-    let Reading::Value(a) = step_tests::term_value(cells, filled, values, marks, sizes, u, x, first)
+    let Some(a) = step_tests::term_value(cells, filled, values, marks, sizes, u, x, first)
     else {
         return Write::Nothing;
     };
     let second = at.second;
-    let Reading::Value(b) = step_tests::term_value(
+    let Some(b) = step_tests::term_value(
         cells, filled, values, marks, sizes, u, y, second,
     ) else {
         return Write::Nothing;
@@ -142,11 +141,11 @@ fn send(
     ensures { PlainSent sizes (cells_of cells.now filled.now) values.now marks.now u at sort field target x result }
 {
     let first = at.first;
-    let Reading::Value(to) = term::found_at(cells, filled, values, marks, sizes, u, first) else {
+    let Some(to) = term::found_at(cells, filled, values, marks, sizes, u, first) else {
         return Sent::Nothing;
     };
     let second = at.second;
-    let Reading::Value(amount) = step_tests::term_value(
+    let Some(amount) = step_tests::term_value(
         cells, filled, values, marks, sizes, u, x, second,
     ) else {
         return Sent::Nothing;

@@ -1,4 +1,5 @@
 -- The remote writes of a step, record by record and rule by rule: what the working cells hold so far.
+use Rattle.std.specs.Prelude.{None, Some}
 use Prim.Native.Nat.{ℕ, suc, ◌+◌, ◌≤◌, ◌<◌}
 use mathlib.Core.Path.{◌≡◌, sym, ap, ap₂, subst, ◌∙◌}
 use mathlib.Core.Bool.{true, false}
@@ -17,8 +18,7 @@ use Rattle.register.specs.Shape.{Limits, Parts}
 use Rattle.register.specs.declared.Sizes.{Sizes}
 use Rattle.register.specs.declared.cells.Cell.{Cell}
 use Rattle.register.proofs.Bounds.{cell_index-below}
-use Rattle.chain.specs.declared.reading.Reading.{Reading}
-use Rattle.chain.specs.declared.reading.Reading.TheVariants.{Missing, Value}
+use Rattle.chain.specs.Reading.{Reading}
 use Rattle.chain.specs.Word.{has_field, column, refers_to}
 use Rattle.chain.proofs.Following.{column-below}
 use Rattle.program.specs.declared.location.Located.{Located}
@@ -54,8 +54,8 @@ cells_as s file e q = ap₂ cells_of e q
 -- a target within the register names a record
 within-names : (n : ℕ) (x : Reading) → Within n x → Names x
 unfolding refers_to
-within-names n Missing h = tt
-within-names n (Value z) h = go z (index_is n z h).0
+within-names n None h = tt
+within-names n (Some z) h = go z (index_is n z h).0
   where
     go : (z : ℤ) → z ≡ pos (nat_abs z) → T (non_neg z)
     go (pos k) e = tt

@@ -3,7 +3,7 @@ use Rattle.std.specs.Prelude.{◌≡◌, List, true, false, ℕ, ◌+◌, ◌*�
 use Rattle.register.specs.File.{cell_count}
 use Rattle.register.specs.declared.Sizes.{Sizes}
 use Rattle.register.specs.declared.cells.Cell.{Cell}
-use Rattle.chain.specs.declared.reading.Reading.{Reading}
+use Rattle.chain.specs.Reading.{Reading}
 use Rattle.chain.specs.Word.{has_field}
 use Rattle.program.specs.declared.location.Located.{Located}
 use Rattle.program.specs.Stored.{rule_in, rules_in}

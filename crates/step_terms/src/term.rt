@@ -5,7 +5,6 @@ ghost use Rattle.register.specs.Shape.{Parts};
 ghost use Rattle.step_terms.specs.Found.{found_at, Reaches};
 
 use chain::follow;
-use chain::reading::Reading;
 use program::location::Location;
 use register::Sizes;
 use scratch;
@@ -19,12 +18,12 @@ pub fn found_at(
     sizes: Sizes,
     u: usize,
     at: Location,
-) -> Reading
+) -> Option<i32>
     requires { Parts sizes cells.now filled.now × (u < sizes.records) × Reaches sizes values.now marks.now u at }
     ensures { result ≡ found_at sizes (cells_of cells.now filled.now) values.now marks.now u at }
 {
     match at {
-        Location::Own => Reading::Value(integers::of_index(u)),
+        Location::Own => Some(integers::of_index(u)),
         Location::Cell(field) => follow::read_cell(cells, filled, sizes, u, field as usize),
         Location::Line(line) => {
             scratch::read_at(values, marks, line as usize * sizes.records + u)

@@ -8,7 +8,6 @@ ghost use Rattle.machine.specs.Value.{compare_readings};
 ghost use Rattle.step_terms.specs.Found.{TermReaches, TestReaches};
 ghost use Rattle.step_tests.specs.Plain.{is_plain, plain_test, plain_rule, plain_slot, PlainValue, PlainHolds};
 
-use chain::reading::Reading;
 use program::location::{Located, Location, Places};
 use program::rule::{Comparison, Rule, Test};
 use program::term::Term;
@@ -80,24 +79,24 @@ pub fn term_value(
     u: usize,
     term: Term,
     at: Location,
-) -> Reading
+) -> Option<i32>
     requires { Parts sizes cells.now filled.now × (u < sizes.records) × TermReaches sizes values.now marks.now u [] at term }
     ensures { PlainValue sizes (cells_of cells.now filled.now) values.now marks.now u at term result }
 {
     let Term::Number(value) = term else {
         return term::found_at(cells, filled, values, marks, sizes, u, at);
     };
-    Reading::Value(value)
+    Some(value)
 }
 
 // Two sides: an unfilled one never holds.
-fn compare_readings(x: Reading, comparison: Comparison, y: Reading) -> bool
+fn compare_readings(x: Option<i32>, comparison: Comparison, y: Option<i32>) -> bool
     ensures { result ≡ compare_readings comparison x y }
 {
-    let Reading::Value(a) = x else {
+    let Some(a) = x else {
         return false;
     };
-    let Reading::Value(b) = y else {
+    let Some(b) = y else {
         return false;
     };
     compare(comparison, a, b)

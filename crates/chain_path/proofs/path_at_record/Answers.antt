@@ -32,19 +32,19 @@ returns-in_default c = walking_missing c.loop-rest.invariant.2 c.in_default.is
 
 pub index-at-requires : goal.index-at-requires
 index-at-requires c =
-    let value : ℤ = c.in-Value.value in
+    let value : ℤ = c.in-Some.value in
     let names : refers_to c.args.sizes.records c.loop-rest.reading ≡ true = c.loop-rest.invariant.1.refers (first_some_lem c.first_hop-field.ensures) in
     let value-is : to_z w32 (of_z w32 (value)) ≡ value = kept (value) (search rules) in
-    rw (value-is) (named-index _ _ c.in-Value.is (names))
+    rw (value-is) (named-index _ _ c.in-Some.is (names))
 
 pub field_cell-cell-requires : goal.field_cell-cell-requires
 field_cell-cell-requires c =
-    let value : ℤ = c.in-Value.value in
+    let value : ℤ = c.in-Some.value in
     let names : refers_to c.args.sizes.records c.loop-rest.reading ≡ true = c.loop-rest.invariant.1.refers (first_some_lem c.first_hop-field.ensures) in
     let value-is : to_z w32 (of_z w32 (value)) ≡ value = kept (value) (search rules) in
     let index_is : c.index-at.result ≡ nat_abs (value) = c.index-at.ensures ∙ ap nat_abs (value-is) in
     let h = c in
-    let below = named-below _ _ h.in-Value.is (names) in
+    let below = named-below _ _ h.in-Some.is (names) in
     (h.requires.0, rw (index_is) below, readable-field _ h.first_hop-field.ensures.splits h.loop-rest.invariant.0)
 
 pub offset_bounds-path-path : goal.offset_bounds-path-path
@@ -69,14 +69,14 @@ loop-rest-smaller c =
 
 pub loop-rest-preserved : goal.loop-rest-preserved
 loop-rest-preserved c =
-    let value : ℤ = c.in-Value.value in
+    let value : ℤ = c.in-Some.value in
     let value-is : to_z w32 (of_z w32 (value)) ≡ value = kept (value) (search rules) in
     let index_is : c.index-at.result ≡ nat_abs (value) = c.index-at.ensures ∙ ap nat_abs (value-is) in
     let apart : (let h = c in unpack h.loop-rest.rest ≡ h.first_hop-field.result ∷ unpack c.rest_hops-rest.result) = taken_apart c.first_hop-field.ensures c.rest_hops-rest.ensures in
     let i = c in
     let h = i in
     let inv = h.loop-rest.invariant in
-    let reached = h.in-Value.is in
+    let reached = h.in-Some.is in
     let cell = c.field_cell-cell.ensures in
     let read = c.read_of-reading.ensures in (
       readable-rest _ (apart) inv.0,

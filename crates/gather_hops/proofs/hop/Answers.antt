@@ -1,4 +1,5 @@
 -- `gather_hops::hop` meets its contract: by its mark, the place is left or the cell that it leads to is copied.
+use Rattle.std.specs.Prelude.{Some}
 use Prim.Native.Nat.{ℕ, ◌<◌}
 use mathlib.Core.Path.{◌≡◌, sym, ap, ◌∙◌}
 use lib.IntN.{pos, nat_abs}
@@ -8,7 +9,6 @@ use mir.Val.{to_z, of_z}
 use mir.Facts.{to_z-of_z, sfits_widen}
 use Rattle.integers.proofs.Complement.{kept}
 use Rattle.register.specs.File.{cell_index}
-use Rattle.chain.specs.declared.reading.Reading.TheVariants.{Value}
 use Rattle.chain.proofs.Following.{named-index, named-below}
 use Rattle.scratch.specs.Places.{place_at}
 use Rattle.scratch.proofs.Placed.{place_at-value}
@@ -24,13 +24,13 @@ returns-then-marks-j-eq0 c =
 pub index-v-requires : goal.index-v-requires
 index-v-requires c =
     let value-is : (let a = c.args in to_z w32 (of_z w32 c.narrow.result) ≡ get_or a.values.now a.j (pos 0)) = kept c.narrow.result c.narrow.type_inv ∙ c.narrow.ensures ∙ to_z-of_z {w = w64} (sfits_widen tt c.requires.4) in
-    let place-value : (let a = c.args in place_at a.values.now a.marks.now a.j ≡ Value (get_or a.values.now a.j (pos 0))) = sym (place_at-value _ _ _ c.if-marks-j-eq0.false) in
+    let place-value : (let a = c.args in place_at a.values.now a.marks.now a.j ≡ Some (get_or a.values.now a.j (pos 0))) = sym (place_at-value _ _ _ c.if-marks-j-eq0.false) in
     rw (value-is) (named-index _ _ (place-value) c.requires.5)
 
 pub cell_index-requires : goal.cell_index-requires
 cell_index-requires c =
     let value-is : (let a = c.args in to_z w32 (of_z w32 c.narrow.result) ≡ get_or a.values.now a.j (pos 0)) = kept c.narrow.result c.narrow.type_inv ∙ c.narrow.ensures ∙ to_z-of_z {w = w64} (sfits_widen tt c.requires.4) in
-    let place-value : (let a = c.args in place_at a.values.now a.marks.now a.j ≡ Value (get_or a.values.now a.j (pos 0))) = sym (place_at-value _ _ _ c.if-marks-j-eq0.false) in
+    let place-value : (let a = c.args in place_at a.values.now a.marks.now a.j ≡ Some (get_or a.values.now a.j (pos 0))) = sym (place_at-value _ _ _ c.if-marks-j-eq0.false) in
     let below : (let a = c.args in nat_abs (get_or a.values.now a.j (pos 0)) < a.sizes.records) = named-below _ _ (place-value) c.requires.5 in
     let index_is : (let a = c.args in c.index-v.result ≡ nat_abs (get_or a.values.now a.j (pos 0))) = c.index-v.ensures ∙ ap nat_abs (value-is) in
     let s = c in
@@ -39,7 +39,7 @@ cell_index-requires c =
 pub copy_cell-requires : goal.copy_cell-requires
 copy_cell-requires c =
     let value-is : (let a = c.args in to_z w32 (of_z w32 c.narrow.result) ≡ get_or a.values.now a.j (pos 0)) = kept c.narrow.result c.narrow.type_inv ∙ c.narrow.ensures ∙ to_z-of_z {w = w64} (sfits_widen tt c.requires.4) in
-    let place-value : (let a = c.args in place_at a.values.now a.marks.now a.j ≡ Value (get_or a.values.now a.j (pos 0))) = sym (place_at-value _ _ _ c.if-marks-j-eq0.false) in
+    let place-value : (let a = c.args in place_at a.values.now a.marks.now a.j ≡ Some (get_or a.values.now a.j (pos 0))) = sym (place_at-value _ _ _ c.if-marks-j-eq0.false) in
     let below : (let a = c.args in nat_abs (get_or a.values.now a.j (pos 0)) < a.sizes.records) = named-below _ _ (place-value) c.requires.5 in
     let index_is : (let a = c.args in c.index-v.result ≡ nat_abs (get_or a.values.now a.j (pos 0))) = c.index-v.ensures ∙ ap nat_abs (value-is) in
     let place : (let a = c.args in c.cell_index.result ≡ cell_index a.sizes (nat_abs (get_or a.values.now a.j (pos 0))) a.column) = rw (index_is) at c.cell_index.ensures in
@@ -52,7 +52,7 @@ copy_cell-requires c =
 pub returns : goal.returns
 returns c =
     let value-is : (let a = c.args in to_z w32 (of_z w32 c.narrow.result) ≡ get_or a.values.now a.j (pos 0)) = kept c.narrow.result c.narrow.type_inv ∙ c.narrow.ensures ∙ to_z-of_z {w = w64} (sfits_widen tt c.requires.4) in
-    let place-value : (let a = c.args in place_at a.values.now a.marks.now a.j ≡ Value (get_or a.values.now a.j (pos 0))) = sym (place_at-value _ _ _ c.if-marks-j-eq0.false) in
+    let place-value : (let a = c.args in place_at a.values.now a.marks.now a.j ≡ Some (get_or a.values.now a.j (pos 0))) = sym (place_at-value _ _ _ c.if-marks-j-eq0.false) in
     let below : (let a = c.args in nat_abs (get_or a.values.now a.j (pos 0)) < a.sizes.records) = named-below _ _ (place-value) c.requires.5 in
     let index_is : (let a = c.args in c.index-v.result ≡ nat_abs (get_or a.values.now a.j (pos 0))) = c.index-v.ensures ∙ ap nat_abs (value-is) in
     let place : (let a = c.args in c.cell_index.result ≡ cell_index a.sizes (nat_abs (get_or a.values.now a.j (pos 0))) a.column) = rw (index_is) at c.cell_index.ensures in

@@ -4,7 +4,7 @@ use Prim.Native.Nat.{ℕ, ◌-◌}
 use mathlib.Core.Path.{◌≡◌, ◌∙◌}
 use native.Mathlib.Omega.{arith}
 use Rattle.register.specs.Cells.{cells_of}
-use Rattle.chain.specs.declared.reading.Reading.{Reading}
+use Rattle.chain.specs.Reading.{Reading}
 use Rattle.gather_line.specs.Written.{places_of, message_at}
 use Rattle.gather_line.proofs.Writing.{read_kept, back-kept, message-kept, line-none, line-next}
 use Rattle.gather_line.proofs.Sent.{sent_le, line-below}

@@ -6,23 +6,23 @@ use Rattle.machine.specs.Run.{same_reading}
 use borrow.Author.Rules.{rules}
 use Rattle.run_loop.proofs.same_reading.Goals as goal
 
-pub returns-in-Missing-y : goal.returns-in-Missing-y
+pub returns-in-None-y : goal.returns-in-None-y
 unfolding same_reading
-returns-in-Missing-y c = sym (ap₂ same_reading c.in-Missing.is c.in-Missing-y.is)
+returns-in-None-y c = sym (ap₂ same_reading c.in-None.is c.in-None-y.is)
 
-pub returns-in-Value-y : goal.returns-in-Value-y
+pub returns-in-Some-y : goal.returns-in-Some-y
 unfolding same_reading
-returns-in-Value-y c = sym (ap₂ same_reading c.in-Missing.is c.in-Value-y.is)
+returns-in-Some-y c = sym (ap₂ same_reading c.in-None.is c.in-Some-y.is)
 
-pub returns-in-Missing-y-2 : goal.returns-in-Missing-y-2
+pub returns-in-None-y-2 : goal.returns-in-None-y-2
 unfolding same_reading
-returns-in-Missing-y-2 c = sym (ap₂ same_reading c.in-Value.is c.in-Missing-y-2.is)
+returns-in-None-y-2 c = sym (ap₂ same_reading c.in-Some.is c.in-None-y-2.is)
 
-pub returns-in-Value-y-2 : goal.returns-in-Value-y-2
+pub returns-in-Some-y-2 : goal.returns-in-Some-y-2
 unfolding same_reading
-returns-in-Value-y-2 c =
+returns-in-Some-y-2 c =
     let y = c in
     let x = y in
     c.equal.ensures
     ∙ ap₂ eq_z (kept _ (search rules)) (kept _ (search rules))
-    ∙ sym (ap₂ same_reading x.in-Value.is y.in-Value-y-2.is)
+    ∙ sym (ap₂ same_reading x.in-Some.is y.in-Some-y-2.is)

@@ -42,7 +42,7 @@ returns c =
           let m = y in
           let x = y in
           let (p, q) = plain in
-          let a = sym (x.term_value.ensures codes read agrees.0) ∙ m.in-Value.is in
-          let b = sym (y.term_value-2.ensures codes read agrees.1) ∙ l.in-Value-term_value.is in
+          let a = sym (x.term_value.ensures codes read agrees.0) ∙ m.in-Some.is in
+          let b = sym (y.term_value-2.ensures codes read agrees.1) ∙ l.in-Some-term_value.is in
           c.write_sum.ensures ∙ sum_written _ _ _ _ _ _ p q a b (search rules) (search rules) c.operate.ensures,
     )

@@ -22,16 +22,16 @@ returns-in_default-term_value c = (
 )
 
 pub index-requires : goal.index-requires
-index-requires c = named (sym c.found_at.ensures ∙ c.in-Value.is) (search rules) c.requires.names
+index-requires c = named (sym c.found_at.ensures ∙ c.in-Some.is) (search rules) c.requires.names
 
 -- both
 pub returns : goal.returns
 unfolding sent_to messages_in
 returns c =
-    let fits : mag c.in-Value.to < 2147483648 = search rules in
-    let found = sym c.found_at.ensures ∙ c.in-Value.is in (
+    let fits : mag c.in-Some.to < 2147483648 = search rules in
+    let found = sym c.found_at.ensures ∙ c.in-Some.is in (
       (refl, named-within found fits c.index.ensures),
       λ codes read agrees.
-          let amount = sym (c.term_value.ensures codes read agrees.1) ∙ c.in-Value-term_value.is in
+          let amount = sym (c.term_value.ensures codes read agrees.1) ∙ c.in-Some-term_value.is in
           rw c.index.ensures (both_values _ _ (sym agrees.0 ∙ found) amount fits (search rules)),
     )

@@ -18,4 +18,4 @@ unfolding compare_readings
 returns c =
     let l = c in
     let k = l in
-    c.compare.ensures ∙ both_values _ _ k.in-Value.is l.in-Value-y.is (search rules) (search rules)
+    c.compare.ensures ∙ both_values _ _ k.in-Some.is l.in-Some-y.is (search rules) (search rules)

@@ -1,7 +1,7 @@
 -- `step_tests::term_value` meets its contract.
+use Rattle.std.specs.Prelude.{Some}
 use mathlib.Core.Path.{ap, ◌∙◌}
 use Rattle.integers.proofs.Complement.{kept}
-use Rattle.chain.specs.declared.reading.Reading.TheVariants.{Value}
 use Rattle.program.specs.Stored.{term_in}
 use Rattle.machine.specs.Value.{value}
 use Rattle.step_tests.proofs.Plainly.{chain_reaches, chain_told}
@@ -22,4 +22,4 @@ returns-in_default c codes read agrees =
 
 pub returns : goal.returns
 unfolding term_in value
-returns c codes read agrees = rw c.in-Number.is (ap Value (kept _ (search rules)))
+returns c codes read agrees = rw c.in-Number.is (ap Some (kept _ (search rules)))

@@ -5,7 +5,7 @@ use lib.IntN.{ℤ}
 use mir.Syntax.{w64}
 use mir.Facts.{to_z-of_z}
 use Rattle.laws.specs.Outcome.{done}
-use Rattle.chain.specs.declared.reading.Reading.{Reading}
+use Rattle.chain.specs.Reading.{Reading}
 use Rattle.integers.proofs.Complement.{kept}
 use Rattle.api_read.specs.declared.reading.ReadNumbers.{ReadNumbers}
 use Rattle.api_read.specs.Numbers.{read_numbers}
@@ -14,12 +14,12 @@ use Rattle.api_read.proofs.reading.read.Goals as goal
 abbrev filled : ℤ → ReadNumbers
 filled z = record { number = 0; line = 0; value = z; filled = 1 }
 
-pub returns-in-Missing : goal.returns-in-Missing
+pub returns-in-None : goal.returns-in-None
 unfolding read_numbers
-returns-in-Missing c = sym (ap (λ (x : Reading). read_numbers (done x)) c.in-Missing.is)
+returns-in-None c = sym (ap (λ (x : Reading). read_numbers (done x)) c.in-None.is)
 
-pub returns-in-Value : goal.returns-in-Value
+pub returns-in-Some : goal.returns-in-Some
 unfolding read_numbers
-returns-in-Value c =
-    let e = to_z-of_z {w = w64} (record { sfits = c.widen.type_inv }) ∙ c.widen.ensures ∙ kept c.in-Value.value (search rules) in
-    ap filled e ∙ sym (ap (λ (x : Reading). read_numbers (done x)) c.in-Value.is)
+returns-in-Some c =
+    let e = to_z-of_z {w = w64} (record { sfits = c.widen.type_inv }) ∙ c.widen.ensures ∙ kept c.in-Some.value (search rules) in
+    ap filled e ∙ sym (ap (λ (x : Reading). read_numbers (done x)) c.in-Some.is)

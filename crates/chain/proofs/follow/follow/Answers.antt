@@ -27,19 +27,19 @@ returns-in_default c = underway_missing c.loop-rest.invariant.1 c.in_default.is
 
 pub index-requires : goal.index-requires
 index-requires c =
-    let value : ℤ = c.in-Value.value in
+    let value : ℤ = c.in-Some.value in
     let names : refers_to c.args.sizes.records c.loop-rest.reading ≡ true = c.loop-rest.invariant.1.refers (first_some_lem c.first_hop-field.ensures) in
     let value-is : to_z w32 (of_z w32 value) ≡ value = kept value (search rules) in
-    rw value-is (named-index _ _ c.in-Value.is names)
+    rw value-is (named-index _ _ c.in-Some.is names)
 
 pub read_cell-reading-requires : goal.read_cell-reading-requires
 read_cell-reading-requires c =
-    let value : ℤ = c.in-Value.value in
+    let value : ℤ = c.in-Some.value in
     let names : refers_to c.args.sizes.records c.loop-rest.reading ≡ true = c.loop-rest.invariant.1.refers (first_some_lem c.first_hop-field.ensures) in
     let value-is : to_z w32 (of_z w32 value) ≡ value = kept value (search rules) in
     let index_is : c.index.result ≡ nat_abs value = c.index.ensures ∙ ap nat_abs value-is in
     let h = c in
-    let below = named-below _ _ h.in-Value.is names in
+    let below = named-below _ _ h.in-Some.is names in
     (h.requires.0, rw index_is below, readable-field _ h.first_hop-field.ensures.splits h.loop-rest.invariant.0)
 
 pub loop-rest-smaller : goal.loop-rest-smaller
@@ -49,13 +49,13 @@ loop-rest-smaller c =
 
 pub loop-rest-preserved : goal.loop-rest-preserved
 loop-rest-preserved c =
-    let value : ℤ = c.in-Value.value in
+    let value : ℤ = c.in-Some.value in
     let value-is : to_z w32 (of_z w32 value) ≡ value = kept value (search rules) in
     let index_is : c.index.result ≡ nat_abs value = c.index.ensures ∙ ap nat_abs value-is in
     let apart : (let h = c in unpack h.loop-rest.rest ≡ h.first_hop-field.result ∷ unpack c.rest_hops-rest.result) = taken_apart c.first_hop-field.ensures c.rest_hops-rest.ensures in
     let h = c in
     let inv = h.loop-rest.invariant in
-    let hopped = c.read_cell-reading.ensures ∙ hop-value _ _ _ h.in-Value.is index_is in
+    let hopped = c.read_cell-reading.ensures ∙ hop-value _ _ _ h.in-Some.is index_is in
     (readable-rest _ apart inv.0, underway-next inv.1 h.requires.1 apart inv.0 hopped)
 
 pub returns : goal.returns

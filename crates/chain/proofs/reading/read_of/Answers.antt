@@ -1,8 +1,8 @@
 -- `chain::reading::read_of` meets its contract.
+use Rattle.std.specs.Prelude.{Some}
 use mathlib.Core.Path.{sym, ap, ◌∙◌}
 use borrow.Author.Rules.{rules}
 use Rattle.integers.proofs.Complement.{kept}
-use Rattle.chain.specs.declared.reading.Reading.TheVariants.{Value}
 use Rattle.chain.specs.Word.{read_of}
 use Rattle.chain.proofs.reading.read_of.Goals as goal
 
@@ -13,9 +13,9 @@ returns-in-Missing c = sym (ap read_of c.in-Missing.is)
 pub returns-in-Measured : goal.returns-in-Measured
 unfolding read_of
 returns-in-Measured c =
-    ap Value (kept c.in-Measured.value (search rules)) ∙ sym (ap read_of c.in-Measured.is)
+    ap Some (kept c.in-Measured.value (search rules)) ∙ sym (ap read_of c.in-Measured.is)
 
 pub returns-in-WorkedOut : goal.returns-in-WorkedOut
 unfolding read_of
 returns-in-WorkedOut c =
-    ap Value (kept c.in-WorkedOut.value (search rules)) ∙ sym (ap read_of c.in-WorkedOut.is)
+    ap Some (kept c.in-WorkedOut.value (search rules)) ∙ sym (ap read_of c.in-WorkedOut.is)

@@ -6,10 +6,10 @@ use Rattle.step_operations.specs.Evaluated.{of_reading}
 use borrow.Author.Rules.{rules}
 use Rattle.step_operations.proofs.operation.of_reading.Goals as goal
 
-pub returns-in-Missing : goal.returns-in-Missing
+pub returns-in-None : goal.returns-in-None
 unfolding of_reading
-returns-in-Missing c = sym (ap of_reading c.in-Missing.is)
+returns-in-None c = sym (ap of_reading c.in-None.is)
 
-pub returns-in-Value : goal.returns-in-Value
+pub returns-in-Some : goal.returns-in-Some
 unfolding of_reading
-returns-in-Value c = ap Value (kept _ (search rules)) ∙ sym (ap of_reading c.in-Value.is)
+returns-in-Some c = ap Value (kept _ (search rules)) ∙ sym (ap of_reading c.in-Some.is)

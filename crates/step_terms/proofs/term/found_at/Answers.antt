@@ -1,8 +1,8 @@
 -- `step_terms::term::found_at` meets its contract.
+use Rattle.std.specs.Prelude.{Some}
 use mathlib.Core.Path.{ap, ◌∙◌}
 use native.Mathlib.Omega.{arith}
 use Rattle.integers.proofs.Complement.{kept}
-use Rattle.chain.specs.declared.reading.Reading.TheVariants.{Value}
 use Rattle.step_terms.specs.Found.{found_at}
 use Rattle.step_terms.proofs.term.found_at.Goals as goal
 
@@ -28,7 +28,7 @@ read_at-requires c =
 
 pub returns-in-Own : goal.returns-in-Own
 unfolding found_at
-returns-in-Own c = rw c.in-Own.is (ap Value (kept c.of_index.result c.of_index.type_inv ∙ c.of_index.ensures))
+returns-in-Own c = rw c.in-Own.is (ap Some (kept c.of_index.result c.of_index.type_inv ∙ c.of_index.ensures))
 
 pub returns-in-Cell : goal.returns-in-Cell
 unfolding found_at
