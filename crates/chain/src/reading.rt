@@ -5,13 +5,6 @@ ghost use Rattle.chain.specs.Word.{read_of};
 
 use register::cells::Cell;
 
-// What is read: nothing where a cell on the way is missing, or a value.
-#[derive(Clone, Copy)]
-pub enum Reading {
-    Missing,
-    Value(i32),
-}
-
 // What is read of a stored cell.
 pub fn read_of(cell: Cell) -> Option<i32>
     ensures { result ≡ read_of cell }

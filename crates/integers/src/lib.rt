@@ -10,13 +10,6 @@ ghost use Rattle.integers.specs.Bytes.{four_bytes, word_at, value_at, value_byte
 ghost use Rattle.integers.specs.Factor.{factor};
 ghost use Rattle.integers.specs.Range.{sum_of, eq_z, is_index};
 
-// A sum, or that it leaves the range of a value.
-#[derive(Clone, Copy)]
-pub enum Sum {
-    InRange(i32),
-    OutOfRange,
-}
-
 pub fn word(a: u8, b: u8, c: u8, d: u8) -> u32
     ensures { result ≡ four_bytes a b c d }
 {
@@ -71,13 +64,13 @@ pub fn unsigned(value: i32) -> u32
     }
 }
 
-pub fn add(a: i32, b: i32) -> Sum
+pub fn add(a: i32, b: i32) -> Option<i32>
     ensures { result ≡ sum_of (a +ℤ b) }
 {
     in_range(a as i64 + b as i64)
 }
 
-pub fn subtract(a: i32, b: i32) -> Sum
+pub fn subtract(a: i32, b: i32) -> Option<i32>
     ensures { result ≡ sum_of (a -ℤ b) }
 {
     in_range(a as i64 - b as i64)
@@ -91,15 +84,16 @@ pub fn times_mark(value: i32, mark: u8) -> i32
     value * (mark != 0) as i32
 }
 
-pub fn in_range(sum: i64) -> Sum
+// A sum as a value, none where it leaves the range of one.
+pub fn in_range(sum: i64) -> Option<i32>
     ensures { result ≡ sum_of sum }
 {
     if -2147483648 <= sum {
         if sum <= 2147483647 {
-            return Sum::InRange(sum as i32);
+            return Some(sum as i32);
         }
     }
-    Sum::OutOfRange
+    None
 }
 
 pub fn less(a: i32, b: i32) -> bool

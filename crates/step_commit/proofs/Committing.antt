@@ -1,4 +1,5 @@
 -- The working cells as they are written to the file, column by column, up to one that is out of range.
+use Rattle.std.specs.Prelude.{None, Some}
 use Prim.Native.Nat.{ℕ, zero, suc, ◌+◌, ◌/◌, ◌%◌, ◌≤◌, ◌<◌}
 use mathlib.Core.Path.{◌≡◌, refl, sym, ap, subst, ◌∙◌}
 use mathlib.Core.Logic.{◌⊎◌, inl, inr, ⊎_elim}
@@ -13,8 +14,7 @@ use lib.IntN.{ℤ, pos}
 use lib.ListN.{length, get_or, set, length-set}
 use lib.Seq.{get_or-set_same, get_or-set_other, ext_get_or}
 use Rattle.integers.specs.Range.{in_range, sum_of}
-use Rattle.integers.specs.declared.Sum.{Sum}
-use Rattle.integers.specs.declared.Sum.TheVariants.{InRange, OutOfRange}
+use Rattle.std.specs.Prelude.{Option, ℤ}
 use Rattle.laws.proofs.Bools.{true_false}
 use Rattle.register.specs.File.{width, cell_count, cell_index, file_of, cells_of_file, put_cell}
 use Rattle.register.specs.Cells.{cell_of, Canonical}
@@ -40,15 +40,15 @@ use Rattle.step_commit.specs.Committed.{OneCommitted, working, put_column, is_wr
 use Rattle.step_commit.specs.Committed.{value_in_range, offence_of}
 
 -- what the answer for a total tells
-abbrev Told : ℤ → Sum → Type 0
-Told z (InRange v) = (in_range z ≡ true) × (v ≡ z)
-Told z OutOfRange = in_range z ≡ false
+abbrev Told : ℤ → Option ℤ → Type 0
+Told z (Some v) = (in_range z ≡ true) × (v ≡ z)
+Told z None = in_range z ≡ false
 
 pub total-told : (z : ℤ) → Told z (sum_of z)
 unfolding sum_of
 total-told z = go (in_range z) refl
   where
-    go : (t : Bool) → in_range z ≡ t → Told z (cond t (InRange z) OutOfRange)
+    go : (t : Bool) → in_range z ≡ t → Told z (cond t (Some z) None)
     go true h = (h, refl)
     go false h = h
 

@@ -9,7 +9,6 @@ ghost use Rattle.step_cells.specs.Work.{Room, CanonicalCells};
 ghost use Rattle.step_commit.specs.Committed.{value_in_range, offence_of, OneCommitted, ColumnCommitted, Committed};
 
 use chain::follow;
-use integers::Sum;
 use register::{Sizes, cells};
 use step_cells::stop::Stop;
 
@@ -27,11 +26,11 @@ fn commit_cell(
     ensures { OneCommitted sizes base j values.now marks.now out.old out.new result }
 {
     match integers::in_range(values[base + j]) {
-        Sum::InRange(value) => {
+        Some(value) => {
             cells::put_cell(out, sizes, j, value, marks[base + j]);
             true
         }
-        Sum::OutOfRange => false,
+        None => false,
     }
 }
 
@@ -64,7 +63,7 @@ fn record_offence(values: &[i64], sizes: Sizes, base: usize, u: usize) -> Stop
 {
     for column in 0..sizes.references + sizes.measures {
         let j = register::cell_index(sizes, u, column);
-        if let Sum::OutOfRange = integers::in_range(values[base + j]) {
+        if let None = integers::in_range(values[base + j]) {
             return Stop::At(u, column);
         }
     }

@@ -14,8 +14,7 @@ use mir.Val.{to_z, of_z, SFits}
 use mir.Facts.{to_z-of_z}
 use Rattle.laws.proofs.Bools.{and_both}
 use Rattle.integers.specs.Range.{in_range, sum_of}
-use Rattle.integers.specs.declared.Sum.{Sum}
-use Rattle.integers.specs.declared.Sum.TheVariants as S
+use Rattle.std.specs.Prelude.{Option, ℤ}
 use Rattle.integers.proofs.Complement.{kept, mag_sum, range_fits, fits_range}
 use Rattle.chain.specs.Reading.{Reading}
 use Rattle.program.specs.declared.rule.Operator.{Operator}
@@ -74,14 +73,14 @@ module _ {a b : ℤ} (ha : SFits w32 a) (hb : SFits w32 b) where
       go false = omega (arith, ha.sfits)
 
 -- a number of 64 bits is read back from its bits
-pub summed : {z : ℤ} → SFits w64 z → {s t : Sum} → s ≡ sum_of (to_z w64 (of_z w64 z)) → s ≡ t → sum_of z ≡ t
+pub summed : {z : ℤ} → SFits w64 z → {s t : Option ℤ} → s ≡ sum_of (to_z w64 (of_z w64 z)) → s ≡ t → sum_of z ≡ t
 summed h e k = ap sum_of (sym (to_z-of_z h)) ∙ sym e ∙ k
 
 pub read_back : (z : ℤ) → mag z < 9223372036854775808 → answer_of (to_z w64 (of_z w64 z)) ≡ answer_of z
 read_back z h = ap answer_of (to_z-of_z {w = w64} (record { sfits = h }))
 
 -- the sum of an operation's exact result, for the operator that was matched
-pub exact_sum : {k l : Operator} {a b z : ℤ} {s : Sum} → SFits w32 a → SFits w32 b → k ≡ l → mag z < 9223372036854775808
+pub exact_sum : {k l : Operator} {a b z : ℤ} {s : Option ℤ} → SFits w32 a → SFits w32 b → k ≡ l → mag z < 9223372036854775808
     → z ≡ operate l (to_z w32 (of_z w32 a)) (to_z w32 (of_z w32 b)) → s ≡ sum_of (to_z w64 (of_z w64 z)) → s ≡ sum_of (operate k a b)
 exact_sum {l} ha hb e h q p = p ∙ ap sum_of (to_z-of_z {w = w64} (record { sfits = h }) ∙ q ∙ ap₂ (operate l) (to_z-of_z ha) (to_z-of_z hb)) ∙ rw e
 
@@ -99,11 +98,11 @@ unfolding sum_of of_sum
 value-answer z h = small-answer z (omega arith) ∙ simp (fits_range z (record { sfits = h }))
 
 module _ (z : ℤ) where
-  in_range-is : {a : ℤ} → sum_of z ≡ S.InRange a → (in_range z ≡ true) × (z ≡ a)
+  in_range-is : {a : ℤ} → sum_of z ≡ Some a → (in_range z ≡ true) × (z ≡ a)
   unfolding sum_of
   in_range-is {a} = go (in_range z)
     where
-      go : (t : Bool) → cond t (S.InRange z) S.OutOfRange ≡ S.InRange a → (t ≡ true) × (z ≡ a)
+      go : (t : Bool) → cond t (Some z) None ≡ Some a → (t ≡ true) × (z ≡ a)
       go true e = (refl, cc)
       go false e = absurd (let q : ◌≡◌ {A = ℕ} 0 1 = cc in omega arith)
 
@@ -111,7 +110,7 @@ module _ (z : ℤ) where
   unfolding in_range
   in_range-fits e = let (low, high) = and_both _ _ e in range_fits z low high
 
-  pub in_range-answer : {a : ℤ} → sum_of z ≡ S.InRange a → answer_of z ≡ Value a
+  pub in_range-answer : {a : ℤ} → sum_of z ≡ Some a → answer_of z ≡ Value a
   in_range-answer e = let (t, q) = in_range-is e in value-answer z (in_range-fits t).sfits ∙ ap Value q
 
   pub unfilled-answer : lt_z z (pos 8589934592) ≡ false → answer_of z ≡ Missing
@@ -119,11 +118,11 @@ module _ (z : ℤ) where
   unfilled-answer l = simp l
 
   -- out of range: no value, and unfilled or not
-  without_value : sum_of z ≡ S.OutOfRange → answer_of z ≡ cond (lt_z z (pos 8589934592)) OutOfRange Missing
+  without_value : sum_of z ≡ None → answer_of z ≡ cond (lt_z z (pos 8589934592)) OutOfRange Missing
   unfolding answer_of of_sum
   without_value e = rw e
 
-  pub out_answer : sum_of z ≡ S.OutOfRange → lt_z z (pos 8589934592) ≡ true → answer_of z ≡ OutOfRange
+  pub out_answer : sum_of z ≡ None → lt_z z (pos 8589934592) ≡ true → answer_of z ≡ OutOfRange
   out_answer e l = without_value e ∙ simp l
 
 abbrev NotOut : Evaluated → Type 0
@@ -133,7 +132,7 @@ NotOut OutOfRange = ⊥
 
 -- two answers joined, by what each of them is
 module _ (op : Operator) where
-  pub values_joined : {x y : Evaluated} {a b : ℤ} {s : Sum} → x ≡ Value a → y ≡ Value b → mag a < 2147483648 → mag b < 2147483648
+  pub values_joined : {x y : Evaluated} {a b : ℤ} {s : Option ℤ} → x ≡ Value a → y ≡ Value b → mag a < 2147483648 → mag b < 2147483648
       → s ≡ sum_of (operate op (to_z w32 (of_z w32 a)) (to_z w32 (of_z w32 b))) → of_sum s ≡ joined op x y
   unfolding joined
   values_joined {a} {b} p q ha hb e = ap of_sum (e ∙ ap sum_of (ap₂ (operate op) (kept a ha) (kept b hb))) ∙ sym (ap₂ (joined op) p q)
@@ -146,7 +145,7 @@ module _ (op : Operator) where
       small-answer z small ∙ values_joined p q ha hb (ap sum_of e)
 
   -- beside an answer that is not out of range, what has no value stays
-  pub without_joined : {x : Evaluated} (f : Evaluated) → NotOut f → x ≡ f → (y : ℤ) → sum_of y ≡ S.OutOfRange → answer_of y ≡ joined op x (answer_of y)
+  pub without_joined : {x : Evaluated} (f : Evaluated) → NotOut f → x ≡ f → (y : ℤ) → sum_of y ≡ None → answer_of y ≡ joined op x (answer_of y)
   unfolding joined
   without_joined f h p y e = rw (p, without_value y e) (go f h (lt_z y (pos 8589934592)))
     where
@@ -163,7 +162,7 @@ module _ (op : Operator) where
   unfolding sum_of of_sum
   sum-answer z = go (in_range z)
     where
-      go : (t : Bool) → cond (not t) OutOfRange (Value z) ≡ of_sum (cond t (S.InRange z) S.OutOfRange)
+      go : (t : Bool) → cond (not t) OutOfRange (Value z) ≡ of_sum (cond t (Some z) None)
       go true = refl
       go false = refl
 

@@ -3,8 +3,7 @@ use Rattle.std.specs.Prelude.{None, Some}
 use Rattle.std.specs.Prelude.{ℕ, ◌≡◌, cond, List, ℤ, pos}
 use Rattle.std.specs.Int.Signed.{lt_z}
 use Rattle.integers.specs.Range.{sum_of}
-use Rattle.integers.specs.declared.Sum.{Sum}
-use Rattle.integers.specs.declared.Sum.TheVariants as S
+use Rattle.std.specs.Prelude.{Option, ℤ}
 use Rattle.chain.specs.Reading.{Reading}
 use Rattle.program.specs.declared.rule.Operator.{Operator}
 use Rattle.program.specs.Code.{kind_of}
@@ -17,9 +16,9 @@ unfoldable pub of_reading : Reading → Evaluated
 of_reading None = Missing
 of_reading (Some z) = Value z
 
-unfoldable pub of_sum : Sum → Evaluated
-of_sum (S.InRange z) = Value z
-of_sum S.OutOfRange = OutOfRange
+unfoldable pub of_sum : Option ℤ → Evaluated
+of_sum (Some z) = Value z
+of_sum None = OutOfRange
 
 -- the answer that a number of 64 bits stands for: that of a sum, or unfilled from 2 ^ 33 on, where no sum of two values reaches
 unfoldable pub answer_of : ℤ → Evaluated

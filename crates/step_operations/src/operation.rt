@@ -5,7 +5,6 @@ ghost use Rattle.program.specs.Code.{kind_of};
 ghost use Rattle.machine.specs.Value.{operate as operateOn};
 ghost use Rattle.step_operations.specs.Evaluated.{of_reading, of_sum, answer_of, joined, OperatesBy, JoinsBy};
 
-use integers::Sum;
 use program::rule::Operator;
 
 // From 2 ^ 33 on a number stands for an unfilled answer: no sum of two values reaches it.
@@ -28,12 +27,12 @@ pub fn of_reading(reading: Option<i32>) -> Evaluated
     }
 }
 
-fn of_sum(sum: Sum) -> Evaluated
+fn of_sum(sum: Option<i32>) -> Evaluated
     ensures { result ≡ of_sum sum }
 {
     match sum {
-        Sum::InRange(value) => Evaluated::Value(value),
-        Sum::OutOfRange => Evaluated::OutOfRange,
+        Some(value) => Evaluated::Value(value),
+        None => Evaluated::OutOfRange,
     }
 }
 
@@ -51,7 +50,7 @@ fn operate_by(kind: u8, a: i32, b: i32) -> i64
     if b < a { b as i64 } else { a as i64 }
 }
 
-pub fn operate(operator: Operator, a: i32, b: i32) -> Sum
+pub fn operate(operator: Operator, a: i32, b: i32) -> Option<i32>
     ensures { result ≡ sum_of (operateOn operator a b) }
 {
     match operator {
@@ -88,19 +87,19 @@ pub fn join_by(kind: u8, x: i64, y: i64) -> i64
     ensures { JoinsBy kind (answer_of x) (answer_of y) (answer_of result) }
 {
     match integers::in_range(x) {
-        Sum::InRange(a) => {
-            let Sum::InRange(b) = integers::in_range(y) else {
+        Some(a) => {
+            let Some(b) = integers::in_range(y) else {
                 return y;
             };
             operate_by(kind, a, b)
         }
-        Sum::OutOfRange => {
+        None => {
             if x < UNFILLED {
                 return x;
             }
             match integers::in_range(y) {
-                Sum::InRange(_) => x,
-                Sum::OutOfRange => y,
+                Some(_) => x,
+                None => y,
             }
         }
     }

@@ -18,7 +18,7 @@ use Rattle.program.specs.Program.{Target, own, operation, is_remote, target_fiel
 use Rattle.program.specs.Stored.{term_in, test_in, target_in, expression_in, rule_in}
 use Rattle.program.specs.declared.rule.Operator.{Operator}
 use Rattle.integers.specs.Range.{sum_of}
-use Rattle.integers.specs.declared.Sum.{Sum}
+use Rattle.std.specs.Prelude.{Option, ℤ}
 use Rattle.machine.specs.Value.{operate, value, overflows, holds}
 use Rattle.machine.specs.Local.{offends}
 use Rattle.machine.specs.Remote.{sent_by, rule_messages}
@@ -140,7 +140,7 @@ module _ (read : List ℕ → Reading) (k : List ℕ) where
     unfolding of_reading
     sum_second e = missing_second a ∙ sym (ap (λ (v : Reading). done_by (own f) (joined op (of_reading a) (of_reading v))) e) ∙ joined_is
 
-    pub sum_written : {v w : ℤ} {s : Sum} → a ≡ Some v → b ≡ Some w → mag v < 2147483648 → mag w < 2147483648
+    pub sum_written : {v w : ℤ} {s : Option ℤ} → a ≡ Some v → b ≡ Some w → mag v < 2147483648 → mag w < 2147483648
         → s ≡ sum_of (operate op (to_z w32 (of_z w32 v)) (to_z w32 (of_z w32 w)))
         → done_by (own f) (of_sum s) ≡ done_by (own f) (evaluated read (operation op (term_in k x) (term_in k y)))
     unfolding of_reading

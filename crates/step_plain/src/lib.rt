@@ -12,7 +12,6 @@ ghost use Rattle.step_operations.specs.Evaluated.{of_reading, of_sum};
 ghost use Rattle.step_effects.specs.Answers.{done_by};
 ghost use Rattle.step_plain.specs.Done.{PlainDone, PlainSent, PlainWrite, PlainMessages};
 
-use integers::Sum;
 use machine::message::Message;
 use program::location::{Located, Places};
 use program::rule::{Operator, Rule, Sort};
@@ -43,12 +42,12 @@ fn write_reading(field: u64, reading: Option<i32>) -> Write
     }
 }
 
-fn write_sum(field: u64, sum: Sum) -> Write
+fn write_sum(field: u64, sum: Option<i32>) -> Write
     ensures { result ≡ done_by (own field) (of_sum sum) }
 {
     match sum {
-        Sum::InRange(value) => Write::Store(field, value),
-        Sum::OutOfRange => Write::OutOfRange(field),
+        Some(value) => Write::Store(field, value),
+        None => Write::OutOfRange(field),
     }
 }
 

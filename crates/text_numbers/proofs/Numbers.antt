@@ -1,4 +1,5 @@
 -- What the reader of numbers answers.
+use Rattle.std.specs.Prelude.{None}
 use Prim.Native.Nat.{ℕ, ◌+◌, ◌-◌, ◌≤◌}
 use mathlib.Core.Path.{◌≡◌, refl, sym, ap, ap₂, ◌∙◌}
 use mathlib.Core.Logic.{◌≢◌}
@@ -15,7 +16,6 @@ use mir.Syntax.{w64}
 use mir.Val.{SFits, to_z}
 use mir.Facts.{to_z_pos}
 use Rattle.integers.specs.Range.{in_range, sum_of}
-use Rattle.integers.specs.declared.Sum.TheVariants.{OutOfRange}
 use Rattle.chain_text.specs.Scan.{starts_with}
 use Rattle.chain_text.proofs.Scanning.{first-at}
 use Rattle.text_numerals.specs.Numeral.{is_digit, digits, decimal, Numeral, whole, metres, printed_numeral, all_digits, whole_digits, centimetres, no_leading_zero, two_decimals, is_numeral, with_decimals, numeral, NumberForm, number, unformed, signed_form, number_form, signed_text, printed_number, signed_value, number_value, capped, capped_value}
@@ -213,7 +213,7 @@ unfolding signed_value
 plain_value n h = to_z_pos w64 (omega arith)
 
 -- capping changes neither whether a number is in range nor the value of one that is
-out_of_range : (negative : Bool) (n : ℕ) → 2147483649 ≤ n → sum_of (signed_value negative n) ≡ OutOfRange
+out_of_range : (negative : Bool) (n : ℕ) → 2147483649 ≤ n → sum_of (signed_value negative n) ≡ None
 unfolding signed_value sum_of in_range
 out_of_range true ℕ.zero h = absurd (omega arith)
 out_of_range true (ℕ.suc n) h = simp (lt-leb n 2147483647 (omega arith))

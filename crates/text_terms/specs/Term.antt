@@ -1,8 +1,8 @@
 -- What the reader of terms answers, by the tokens from a place on.
+use Rattle.std.specs.Prelude.{None, Some}
 use Rattle.std.specs.Prelude.{ℕ, ◌≡◌, Bool, true, false, not, List, ℤ, pos}
 use Rattle.register.specs.declared.Sizes.{Sizes}
-use Rattle.integers.specs.declared.Sum.{Sum}
-use Rattle.integers.specs.declared.Sum.TheVariants.{InRange, OutOfRange}
+use Rattle.std.specs.Prelude.{Option, ℤ}
 use Rattle.chain_text.specs.declared.letters.Letters.{Letters}
 use Rattle.program.specs.Code.{chain_code, number_code}
 use Rattle.text_syntax.specs.Form.{formed, unformed}
@@ -32,9 +32,9 @@ chain_parts x reference = record {
 abbrev pub plain_parts : ℤ → Bool → TermParts
 plain_parts z ranged = record { code = number_code z; named = true; kinded = true; reference = false; short = true; ranged = ranged }
 
-abbrev pub number_parts : Sum → TermParts
-number_parts (InRange z) = plain_parts z true
-number_parts OutOfRange = plain_parts (pos 0) false
+abbrev pub number_parts : Option ℤ → TermParts
+number_parts (Some z) = plain_parts z true
+number_parts None = plain_parts (pos 0) false
 
 -- a chain's answer as a term's
 abbrev pub chain_term : ChainRead → Bool → TermRead

@@ -9,7 +9,6 @@ use crate::chains;
 use crate::chains::{ChainRead, Link};
 use chain_text::letters;
 use chain_text::letters::Letters;
-use integers::Sum;
 use program::code;
 use register::Sizes;
 use text_codes::code::TermParts;
@@ -66,8 +65,8 @@ fn number_parts(value: i64) -> TermParts
     ensures { result ≡ number_parts (sum_of value) }
 {
     match integers::in_range(value) {
-        Sum::InRange(number) => plain_parts(number, true),
-        Sum::OutOfRange => plain_parts(0, false),
+        Some(number) => plain_parts(number, true),
+        None => plain_parts(0, false),
     }
 }
 

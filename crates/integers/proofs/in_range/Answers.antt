@@ -1,4 +1,5 @@
 -- `integers::in_range` meets its contract: its two tests are the two bounds of `inRange`.
+use Rattle.std.specs.Prelude.{Some}
 use mathlib.Core.Path.{◌≡◌, sym, ap, ◌∙◌}
 use mathlib.Core.Bool.{Bool}
 use lib.IntN.{ℤ, pos, negsuc}
@@ -7,7 +8,6 @@ use mir.Syntax.{w64}
 use mir.Val.{to_z, of_z}
 use mir.Facts.{to_z-of_z}
 use Rattle.integers.specs.Range.{in_range, sum_of}
-use Rattle.integers.specs.declared.Sum.TheVariants.{InRange}
 use Rattle.integers.proofs.Complement.{range_fits}
 use Rattle.integers.proofs.in_range.Lts as lts
 use Rattle.integers.proofs.in_range.Reads as reads
@@ -31,7 +31,7 @@ pub returns-then-sum-le2147483647 : goal.returns-then-sum-le2147483647
 unfolding sum_of in_range
 returns-then-sum-le2147483647 c =
     let s = c in
-    ap InRange (to_z-of_z (range_fits _ c.if-sum-geminus2147483648.true c.if-sum-le2147483647.true) ∙ read s.before.before)
+    ap Some (to_z-of_z (range_fits _ c.if-sum-geminus2147483648.true c.if-sum-le2147483647.true) ∙ read s.before.before)
     ∙ simp (low s.before.before c.if-sum-geminus2147483648.true, high s.before.before c.if-sum-le2147483647.true)
 
 pub returns-else-sum-le2147483647 : goal.returns-else-sum-le2147483647

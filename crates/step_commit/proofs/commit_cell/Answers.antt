@@ -24,9 +24,9 @@ put_cell-requires c =
     let p = (s).requires in
     (p.0, p.1, p.3, (proper).mark≤)
 
-pub returns-in-InRange : goal.returns-in-InRange
+pub returns-in-Some : goal.returns-in-Some
 unfolding stored_at
-returns-in-InRange c =
+returns-in-Some c =
     let s = c in
     let z : ℤ = get_or s.args.values.now (s.args.base + s.args.j) (pos 0) in
     let proper : Canonical z (get_or s.args.marks.now (s.args.base + s.args.j) 0) = s.requires.4.each s.args.j s.requires.3 in
@@ -37,19 +37,19 @@ returns-in-InRange c =
     let r = v in
     let a = (s).args in
     let mark = get_or a.marks.now (a.base + a.j) 0 in
-    let t = rw (sym (asked) ∙ v.in-InRange.is) at (total-told (z)) in (
+    let t = rw (sym (asked) ∙ v.in-Some.is) at (total-told (z)) in (
       cell_in_range_lem (z) mark (proper) ∙ t.0,
       p.put_cell.ensures
           ∙ ap (λ (y : ℤ). put_marked a.sizes a.j y mark a.out.now) (kept _ (search rules) ∙ t.1)
           ∙ put_marked_cell a.sizes a.j (z) mark a.out.now (proper).mark≤,
     )
 
-pub returns-in-OutOfRange : goal.returns-in-OutOfRange
+pub returns-in-None : goal.returns-in-None
 unfolding stored_at
-returns-in-OutOfRange c =
+returns-in-None c =
     let s = c in
     let z : ℤ = get_or s.args.values.now (s.args.base + s.args.j) (pos 0) in
     let proper : Canonical z (get_or s.args.marks.now (s.args.base + s.args.j) 0) = s.requires.4.each s.args.j s.requires.3 in
     let asked : c.in_range.result ≡ sum_of z = c.in_range.ensures ∙ ap sum_of (to_z-of_z {w = w64} {z = z} (search rules)) in
     let r = c in
-    (cell_in_range_lem (z) _ (proper) ∙ rw (sym (asked) ∙ c.in-OutOfRange.is) at (total-told (z)), refl)
+    (cell_in_range_lem (z) _ (proper) ∙ rw (sym (asked) ∙ c.in-None.is) at (total-told (z)), refl)

@@ -49,14 +49,14 @@ bounds-values-base c =
     let below : c.cell_index-j.result < cell_count (c).args.sizes = (let s = c in rw c.cell_index-j.ensures (cell_index-below s.args.sizes s.args.u _ s.requires.3 (inside))) in
     omega (arith, below, c.requires.2)
 
-pub returns-in-OutOfRange : goal.returns-in-OutOfRange
+pub returns-in-None : goal.returns-in-None
 unfolding in_record width
-returns-in-OutOfRange c =
+returns-in-None c =
     let inside : c.loop-column.column < width (c).args.sizes = c.loop-column-test.true in
     let z : ℤ = get_or c.args.values.now (c.args.base + cell_index c.args.sizes c.args.u c.loop-column.column) (pos 0) in
     let asked : c.in_range.result ≡ sum_of z = (let s = c in c.in_range.ensures ∙ ap sum_of (to_z-of_z {w = w64} {z = get_or c.args.values.now (c.args.base + c.cell_index-j.result) (pos 0)} (search rules)) ∙ ap (λ (j : ℕ). sum_of (get_or s.args.values.now (s.args.base + j) (pos 0))) c.cell_index-j.ensures) in
     let s = c in
-    let out = rw (sym (asked) ∙ c.in-OutOfRange.is) at (total-told (z)) in
+    let out = rw (sym (asked) ∙ c.in-None.is) at (total-told (z)) in
     sym (ap (in_record s.args.u) (total_column-at s.args.sizes _ s.args.u c.loop-column.column inside c.loop-column.invariant.0 out))
 
 pub overflow_step-column : goal.overflow_step-column

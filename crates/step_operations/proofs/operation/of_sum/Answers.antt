@@ -6,10 +6,10 @@ use Rattle.step_operations.specs.Evaluated.{of_sum}
 use borrow.Author.Rules.{rules}
 use Rattle.step_operations.proofs.operation.of_sum.Goals as goal
 
-pub returns-in-InRange : goal.returns-in-InRange
+pub returns-in-Some : goal.returns-in-Some
 unfolding of_sum
-returns-in-InRange c = ap Value (kept _ (search rules)) ∙ sym (ap of_sum c.in-InRange.is)
+returns-in-Some c = ap Value (kept _ (search rules)) ∙ sym (ap of_sum c.in-Some.is)
 
-pub returns-in-OutOfRange : goal.returns-in-OutOfRange
+pub returns-in-None : goal.returns-in-None
 unfolding of_sum
-returns-in-OutOfRange c = sym (ap of_sum c.in-OutOfRange.is)
+returns-in-None c = sym (ap of_sum c.in-None.is)

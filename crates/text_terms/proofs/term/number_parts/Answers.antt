@@ -9,15 +9,15 @@ use Rattle.integers.proofs.Complement.{kept}
 use Rattle.text_terms.specs.Term.{plain_parts, number_parts}
 use Rattle.text_terms.proofs.term.number_parts.Goals as goal
 
-pub returns-in-InRange : goal.returns-in-InRange
-returns-in-InRange c =
+pub returns-in-Some : goal.returns-in-Some
+returns-in-Some c =
     let s = c in
     c.plain_parts.ensures
-    ∙ ap (λ (z : ℤ). plain_parts z true) (kept c.in-InRange.number (search rules))
-    ∙ sym (ap number_parts (sym (s.in_range.ensures ∙ ap sum_of (to_z-of_z s.ranges.value)) ∙ c.in-InRange.is))
+    ∙ ap (λ (z : ℤ). plain_parts z true) (kept c.in-Some.number (search rules))
+    ∙ sym (ap number_parts (sym (s.in_range.ensures ∙ ap sum_of (to_z-of_z s.ranges.value)) ∙ c.in-Some.is))
 
-pub returns-in-OutOfRange : goal.returns-in-OutOfRange
-returns-in-OutOfRange c =
+pub returns-in-None : goal.returns-in-None
+returns-in-None c =
     let s = c in
-    c.plain_parts-in-OutOfRange.ensures
-    ∙ sym (ap number_parts (sym (s.in_range.ensures ∙ ap sum_of (to_z-of_z s.ranges.value)) ∙ c.in-OutOfRange.is))
+    c.plain_parts-in-None.ensures
+    ∙ sym (ap number_parts (sym (s.in_range.ensures ∙ ap sum_of (to_z-of_z s.ranges.value)) ∙ c.in-None.is))
