@@ -1,5 +1,5 @@
 -- What the reader of numbers answers.
-use Rattle.std.specs.Prelude.{None}
+use Rattle.std.specs.Prelude.{Some, None}
 use Prim.Native.Nat.{ℕ, ◌+◌, ◌-◌, ◌≤◌}
 use mathlib.Core.Path.{◌≡◌, refl, sym, ap, ap₂, ◌∙◌}
 use mathlib.Core.Logic.{◌≢◌}
@@ -22,7 +22,6 @@ use Rattle.text_numerals.specs.Numeral.{is_digit, digits, decimal, Numeral, whol
 use Rattle.text_numbers.specs.Numbers.{ReadsDigits, ReadsNumeral, digits_read, number_read}
 use Rattle.text_numbers.specs.declared.Digits.{Digits}
 use Rattle.text_numbers.specs.declared.Figures.{Figures}
-use Rattle.text_numbers.specs.declared.NumberRead.TheVariants.{Number, NoForm}
 use Rattle.text_numerals.proofs.Digits.{capped_small, capped_large, capped-decimal, decimal-append}
 use Rattle.text_numerals.proofs.Numerals.{numeral-whole, whole-bound}
 
@@ -166,12 +165,12 @@ numeral-empty negative t h = rw (numeral-whole t, go (digits t) h)
 
 -- the reader's answers
 module _ (at : ℕ) (negative : Bool) (t : List ℕ) where
-  pub read_unformed : is_numeral negative (numeral t) ≡ false → digits_read at (signed_form negative t) ≡ NoForm
+  pub read_unformed : is_numeral negative (numeral t) ≡ false → digits_read at (signed_form negative t) ≡ None
   unfolding digits_read
   read_unformed h = ap (digits_read at) (signed_unformed negative t h)
 
   pub read-formed : is_numeral negative (numeral t) ≡ true
-      → digits_read at (signed_form negative t) ≡ Number (signed_value negative (capped (centimetres (numeral t)))) (at + length (printed_numeral (numeral t)))
+      → digits_read at (signed_form negative t) ≡ Some (signed_value negative (capped (centimetres (numeral t))), at + length (printed_numeral (numeral t)))
   unfolding digits_read capped_value
   read-formed h = ap (digits_read at) (signed_formed negative t h)
 
@@ -183,7 +182,7 @@ read-minus at t h = go (is_numeral true (numeral (drop 1 t))) ∙ sym (ap (numbe
     formed = number true (numeral (drop 1 t)) (drop (length (printed_numeral (numeral (drop 1 t)))) (drop 1 t))
 
     go : (x : Bool) → digits_read (at + 1) (cond x formed unformed) ≡ number_read at (cond x formed unformed)
-    go true = ap (Number (capped_value true (numeral (drop 1 t)))) (omega arith)
+    go true = ap (λ (n : ℕ). Some (capped_value true (numeral (drop 1 t)), n)) (omega arith)
     go false = refl
 
 pub read_plain : (at : ℕ) (t : List ℕ) → starts_with 45 t ≡ false → digits_read at (signed_form false t) ≡ number_read at (number_form t)

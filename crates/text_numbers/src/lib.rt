@@ -111,27 +111,20 @@ fn signed_value(negative: bool, n: u64) -> i64
     n as i64
 }
 
-// A number, capped as its digits are, and the place behind it; or no number stands there.
-#[derive(Clone, Copy)]
-pub enum NumberRead {
-    Number(i64, usize),
-    NoForm,
-}
-
-// The number whose digits stand from `at` on, behind a minus or not.
-fn signed_digits(line: &[u8], at: usize, negative: bool) -> NumberRead
+// The number whose digits stand from `at` on, behind a minus or not: capped as its digits are, and the place behind it.
+fn signed_digits(line: &[u8], at: usize, negative: bool) -> Option<(i64, usize)>
     requires { at ≤ length line.now }
     ensures { result ≡ digits_read at (signed_form negative (drop at line.now)) }
 {
     let figures = numeral_at(line, at);
     if !is_numeral(line, at, figures, negative) {
-        return NumberRead::NoForm;
+        return None;
     }
-    NumberRead::Number(signed_value(negative, figures.value), figures.end)
+    Some((signed_value(negative, figures.value), figures.end))
 }
 
-// The number at `at`.
-pub fn read_number(line: &[u8], at: usize) -> NumberRead
+// The number at `at`, capped as its digits are, and the place behind it.
+pub fn read_number(line: &[u8], at: usize) -> Option<(i64, usize)>
     requires { at ≤ length line.now }
     ensures { result ≡ number_read at (number_form (drop at line.now)) }
 {
