@@ -6,7 +6,6 @@ ghost use Rattle.laws.specs.Outcome.{or_else};
 ghost use Rattle.text_refusals.specs.Refusal.{checks_refusal, rule_refusal, step_refusal, end_refusal, misplaced, loop_refusal, done_refusal, refusal_of, last_refusal};
 
 use program::rule::Rule;
-use text_rules::around;
 use text_rules::line::{Checks, LineRead};
 use text_state::state::State;
 use text_state::tally;
@@ -93,7 +92,7 @@ fn loop_refusal(state: State, named: bool) -> u32
     ensures { result ≡ loop_refusal state named }
 {
     let around = state.around;
-    let outside = around::is_outside(around);
+    let outside = around.is_outside();
     if is_misplaced(state, outside) {
         return 8;
     }
@@ -107,7 +106,7 @@ fn done_refusal(state: State) -> u32
     ensures { result ≡ done_refusal state }
 {
     let around = state.around;
-    let used = around::is_used(around);
+    let used = around.is_used();
     if is_misplaced(state, used) {
         return 8;
     }
@@ -136,7 +135,7 @@ fn last_refusal(state: State) -> u32
     ensures { result ≡ last_refusal state }
 {
     let around = state.around;
-    if is_misplaced(state, around::is_outside(around)) {
+    if is_misplaced(state, around.is_outside()) {
         return 8;
     }
     0

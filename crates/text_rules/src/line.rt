@@ -14,6 +14,7 @@ pub struct Checks {
 }
 
 // A line: a loop's field and whether the register has it, a rule and what is asked of it; or no line of document 01.
+// No Option of five forms: who asks for one tells all six apart in one match, which an Option would only nest.
 #[derive(Clone, Copy)]
 pub enum LineRead {
     Step,

@@ -53,7 +53,7 @@ pub fn open_frame(state: State, plan: Plan, wanted: [bool; 64]) -> Frame
         rules: tally.rules,
         remote: tally.remote,
         fields,
-        setting: around::setting_in(around),
+        setting: around.setting_in(),
         plan,
         wanted,
     }
@@ -92,7 +92,7 @@ fn behind_end(state: State, n: usize) -> State
     State {
         steps: state.steps + 1,
         lines: larger(state.lines, n),
-        around: around::with_step(around),
+        around: around.with_step(),
         in_step: false,
         tally: tally::no_rules(),
     }
