@@ -1,10 +1,9 @@
 -- A fact added to a plan: its needs' lines first, then its own, as long as there is room.
 use Prim.Native.Nat.{ℕ, ◌≤◌, ◌<◌}
-use mathlib.Core.Path.{◌≡◌, sym, ap, ◌∙◌}
+use mathlib.Core.Path.{◌≡◌, sym, ◌∙◌}
 use mathlib.Core.Bool.{true, false}
 use mathlib.Core.List.{List, [], ◌∷◌, ◌++◌}
 use native.Mathlib.Omega.{arith}
-use lib.Dec.{ltb}
 use lib.ListN.{length, length-append}
 use borrow.Author.Tests.{lt-ltb, le-ltb, ltb-true, ltb-false}
 use Rattle.plan_theory.specs.Plan.{Fact, read, hops, line_from, back_need, read_need, line_index, add, plan}
@@ -12,7 +11,7 @@ use Rattle.plan_theory.proofs.Facts.{back_need-shorter, read_need-shorter}
 use Rattle.plan_theory.proofs.Lines.{add-one, add-both, grows_length, add_grows, add-next, plan-more}
 use Rattle.plan_theory.specs.Promise.{Next}
 use Rattle.plan_keys.specs.Keys.{fact_of, NeedsOf}
-use Rattle.plan_lines.specs.Held.{facts, settled, HoldsLines, Extended, ExtendedTo, Added}
+use Rattle.plan_lines.specs.Held.{facts, settled, HoldsLines, Extended, Added}
 use Rattle.plan_lines.specs.declared.Plan.{Plan}
 use Rattle.plan_keys.specs.declared.key.Needs.{Needs}
 use Rattle.plan_lines.proofs.Appending.{holds_count}
@@ -34,8 +33,8 @@ extended-more {l} m e y h =
 pub extended-same : {p : Plan} {l : List Fact} → HoldsLines p l → Extended l (record { plan = p; full = false })
 extended-same {p} {l} h = record { full_is = sym (le-ltb 64 (length l) (omega (arith, holds_count h, h.keyed))); holds = λ k. h }
 
-pub extended-settled : {p : Plan} {l : List Fact} (f : Fact) → HoldsLines p l → settled l f ≡ true → ExtendedTo (add l f) p
-extended-settled {p} {l} f h s = rw (settled_adds l f s) (record { full_is = ap (ltb 64) (sym (holds_count h)); holds = λ k. h })
+pub extended-settled : {p : Plan} {l : List Fact} (f : Fact) → HoldsLines p l → settled l f ≡ true → Extended (add l f) (record { plan = p; full = false })
+extended-settled {p} {l} f h s = rw (settled_adds l f s) (extended-same h)
 
 add-length : (l : List Fact) (f : Fact) → length l ≤ length (add l f)
 add-length l f = grows_length (add_grows l f)

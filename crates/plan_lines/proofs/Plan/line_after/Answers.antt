@@ -1,12 +1,12 @@
--- `plan_lines::lines::line_after` meets its contract.
+-- `plan_lines::Plan::line_after` meets its contract.
 use mathlib.Core.Path.{refl}
 use Rattle.plan_lines.proofs.Appending.{back_round<, read_round<, line-both}
-use Rattle.plan_lines.proofs.lines.line_after.Goals as goal
+use Rattle.plan_lines.proofs.Plan.line_after.Goals as goal
 
 pub round_after-round-requires : goal.round_after-round-requires
 round_after-round-requires c =
     let q = c.requires in
-    (q.2.places, rw c.index_of-back.ensures (back_round< q.2 q.3), rw c.index_of-read.ensures (read_round< q.2 q.3))
+    (rw c.index_of-back.ensures (back_round< q.2 q.3), rw c.index_of-read.ensures (read_round< q.2 q.3))
 
 pub returns : goal.returns
 returns c =
