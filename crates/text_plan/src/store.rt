@@ -12,7 +12,6 @@ use program::rule::{Rule, Slot, Test};
 use program::setting::Setting;
 use program::term::Term;
 use text_rules::line::LineRead;
-use text_state::state;
 use text_state::state::State;
 
 // A rule at its place; the frame of a step that the line closes, or marks as the last of its loop; or nothing.
@@ -78,7 +77,7 @@ pub fn plan_line(
     match read {
         LineRead::Rule(slot, _) => {
             let at = plan_rule(keys, rounds, backs, reads, count, wanted, codes, slot);
-            Store::Rule(state::place(state), Located { slot, at })
+            Store::Rule(state.place(), Located { slot, at })
         }
         LineRead::End => Store::Close(state.steps),
         LineRead::Done => Store::Last(state.steps - 1),

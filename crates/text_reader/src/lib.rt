@@ -13,6 +13,7 @@ use text_plan::store;
 use text_plan::store::Store;
 use text_rules::scope::Scope;
 use text_state::state;
+use text_state::state::State;
 
 // A program, where the refusal is 0; otherwise the refusal's number and its line.
 #[derive(Drop)]
@@ -36,7 +37,7 @@ pub fn read_lines(text: &[u8], scope: Scope, codes: &mut [u64]) -> Checked
     let mut wanted = [false; 64];
     let mut slots = [store::empty_slot(); 1024];
     let mut frames = [store::empty_frame(); 32];
-    let mut state = state::start();
+    let mut state = State::start();
     let mut used = 0;
     let mut at = 0;
     let mut line = 1;
@@ -64,14 +65,14 @@ pub fn read_lines(text: &[u8], scope: Scope, codes: &mut [u64]) -> Checked
             Store::Rule(place, located) => slots[place] = located,
             Store::Close(step) => {
                 let plan = store::plan_of(&keys, &rounds, &backs, &reads, count);
-                frames[step] = state::open_frame(state, plan, wanted);
+                frames[step] = state.open_frame(plan, wanted);
                 count = 0;
                 wanted = [false; 64];
             }
             Store::Last(step) => frames[step] = state::last_frame(frames[step]),
             Store::Nothing => {}
         }
-        state = state::advance(state, lines, read);
+        state = state.advance(lines, read);
         used = next.used;
         at = next.end + 1;
         line += 1;

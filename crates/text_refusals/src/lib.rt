@@ -8,7 +8,6 @@ ghost use Rattle.text_refusals.specs.Refusal.{checks_refusal, rule_refusal, step
 use program::rule::Rule;
 use text_rules::line::{Checks, LineRead};
 use text_state::state::State;
-use text_state::tally;
 
 // The first of 9 to 12, 24 and 25.
 fn checks_refusal(checks: Checks) -> u32
@@ -50,7 +49,7 @@ fn rule_refusal(state: State, rule: Rule, checks: Checks) -> u32
     if 32 <= tally.rules {
         return 13;
     }
-    if tally::is_other_sort(tally, rule) {
+    if tally.is_other_sort(rule) {
         return 14;
     }
     0
