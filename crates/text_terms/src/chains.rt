@@ -3,7 +3,6 @@ ghost use Rattle.std.specs.Prelude.{false, ◌+◌, ◌-◌, ◌*◌, ◌^◌, �
 ghost use Rattle.register.specs.Shape.{Limits};
 ghost use Rattle.text_terms.specs.Chain.{LinkAt, ChainAt, ClosesAt, EndsInside, ClosedBy};
 
-use chain_text::letters;
 use chain_text::letters::Letters;
 use register::Sizes;
 use text_places::word::LetterRead;
@@ -71,7 +70,7 @@ fn overlong(line: &[u8], at: usize, sizes: Sizes, letters: Letters) -> ChainRead
     loop {
         match first_link(line, i, false) {
             Link::Letter(letter, end) => {
-                seen = letters::step(sizes, 0, seen, letter);
+                seen = seen.step(sizes, 0, letter);
                 i = end;
                 hops += 1;
             }
@@ -111,7 +110,7 @@ pub fn read(line: &[u8], at: usize, sizes: Sizes, letters: Letters, room: usize)
         Link::Own(end) => ChainRead::Chain(letters, end),
         Link::Nothing => ChainRead::NoForm,
         Link::Letter(letter, end) => {
-            let next = letters::step(sizes, room, letters, letter);
+            let next = letters.step(sizes, room, letter);
             if room == 0 {
                 return closed(line, overlong(line, end, sizes, next));
             }

@@ -7,7 +7,6 @@ ghost use Rattle.text_terms.specs.Term.{chain_parts, chain_term, plain_parts, nu
 
 use crate::chains;
 use crate::chains::{ChainRead, Link};
-use chain_text::letters;
 use chain_text::letters::Letters;
 use program::code;
 use register::Sizes;
@@ -97,7 +96,7 @@ pub fn read_chain(line: &[u8], at: usize, due: bool, sizes: Sizes) -> TermRead
     match chains::first_link(line, at, due) {
         Link::Own(end) => TermRead::Parts(chain_parts(start, true), end),
         Link::Letter(letter, end) => {
-            let next = letters::step(sizes, 16, start, letter);
+            let next = start.step(sizes, 16, letter);
             let read = chains::closed(line, chains::read(line, end, sizes, next, 15));
             chain_term(read, letter < b'M')
         }
