@@ -1,5 +1,6 @@
 -- The messages of a line, counted.
-use Rattle.std.specs.Prelude.{None, Some}
+use Rattle.std.specs.Prelude.{None, Some, Bool, is_some}
+use Rattle.std.specs.Int.{from_bool}
 use Prim.Native.Nat.{ℕ, zero, suc, ◌+◌, ◌≤◌, ◌<◌}
 use mathlib.Core.Path.{◌≡◌, refl, ap, ap₂, ◌∙◌}
 use native.Mathlib.Numerals.{add-one}
@@ -10,6 +11,11 @@ use Rattle.machine_messages.specs.Counts.{is_sent, line_messages}
 pub sent_le : (x : Reading) → is_sent x ≤ 1
 sent_le None = omega arith
 sent_le (Some z) = omega arith
+
+-- one is sent where there is a reading
+pub sent_is : (x : Reading) (b : Bool) (k : ℕ) → b ≡ is_some x → k ≡ from_bool b → k ≡ is_sent x
+sent_is None b k e q = rw e at q
+sent_is (Some z) b k e q = rw e at q
 
 pub line_nothing : (held : ℕ → Reading) → line_messages held 0 ≡ 0
 unfolding line_messages
