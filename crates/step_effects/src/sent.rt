@@ -1,7 +1,6 @@
 // What a rule sends to another record.
 ghost use Rattle.std.specs.Prelude.{◌≡◌, false, ◌<◌};
-ghost use Rattle.register.specs.Cells.{cells_of};
-ghost use Rattle.register.specs.Shape.{Parts};
+ghost use Rattle.register.specs.View.{cells_in};
 ghost use Rattle.program.specs.Program.{target_field};
 ghost use Rattle.program.specs.Stored.{rule_in, target_in};
 ghost use Rattle.program.specs.Terms.{SlotPlaced};
@@ -14,7 +13,7 @@ use crate::stored;
 use machine::message::Message;
 use program::location::Located;
 use program::rule::Rule;
-use register::Sizes;
+use register::cells::Cells;
 use step_operations::operation::Evaluated;
 use step_terms::term;
 
@@ -27,20 +26,18 @@ pub enum Sent {
 
 // What a rule sends from record u where none of its sums leaves the range: "One whose C or X is unfilled does nothing."
 pub fn message_of(
-    cells: &[u8],
-    filled: &[u8],
+    cells: &Cells<'_>,
     values: &[i64],
     marks: &[u8],
-    sizes: Sizes,
     u: usize,
     codes: &[u64],
     located: Located,
 ) -> Sent
-    requires { Parts sizes cells.now filled.now × (u < sizes.records) × SlotReaches sizes values.now marks.now u codes.now located
-        × TargetFound Names sizes (cells_of cells.now filled.now) values.now marks.now u located.at.rule located.slot.rule }
+    requires { (u < cells.now.sizes.records) × SlotReaches cells.now.sizes values.now marks.now u codes.now located
+        × TargetFound Names cells.now.sizes (cells_in cells.now) values.now marks.now u located.at.rule located.slot.rule }
     ensures { GoesTo (target_field (target_in located.slot.rule))
-        (λ n. TargetFound (Within n) sizes (cells_of cells.now filled.now) values.now marks.now u located.at.rule located.slot.rule) result
-        × Told sizes (cells_of cells.now filled.now) values.now marks.now u (λ P. SlotPlaced P codes.now located)
+        (λ n. TargetFound (Within n) cells.now.sizes (cells_in cells.now) values.now marks.now u located.at.rule located.slot.rule) result
+        × Told cells.now.sizes (cells_in cells.now) values.now marks.now u (λ P. SlotPlaced P codes.now located)
         (λ read. offends read (rule_in codes.now located.slot) ≡ false → messages_in result ≡ rule_messages read (rule_in codes.now located.slot)) }
 {
     let slot = located.slot;
@@ -50,10 +47,10 @@ pub fn message_of(
     };
     let at = located.at.rule;
     let first = at.first;
-    let Some(to) = term::found_at(cells, filled, values, marks, sizes, u, first) else {
+    let Some(to) = term::found_at(cells, values, marks, u, first) else {
         return Sent::Nothing;
     };
-    let value = stored::effect(cells, filled, values, marks, sizes, u, codes, located);
+    let value = stored::effect(cells, values, marks, u, codes, located);
     let Evaluated::Value(amount) = value else {
         return Sent::Nothing;
     };

@@ -1,7 +1,6 @@
 // What a rule stores in its own record, or that a sum of it leaves the range.
 ghost use Rattle.std.specs.Prelude.{◌≡◌, ◌<◌};
-ghost use Rattle.register.specs.Cells.{cells_of};
-ghost use Rattle.register.specs.Shape.{Parts};
+ghost use Rattle.register.specs.View.{cells_in};
 ghost use Rattle.program.specs.declared.rule.Rule.TheVariants.{Combine};
 ghost use Rattle.program.specs.Program.{operation as operationOn, target_field};
 ghost use Rattle.program.specs.Stored.{rule_in, target_in, expression_in, term_in};
@@ -13,7 +12,7 @@ ghost use Rattle.step_effects.specs.Answers.{done_by, effect_of, write_of, DoneF
 use program::location::{Located, Places};
 use program::rule::{Operator, Rule};
 use program::term::Term;
-use register::Sizes;
+use register::cells::Cells;
 use step_expressions::term;
 use step_operations::comparison::Tested;
 use step_operations::operation;
@@ -55,11 +54,9 @@ fn write_value(rule: Rule, value: Evaluated) -> Write
 
 // An operation on two terms at record u, for a field.
 fn combine(
-    cells: &[u8],
-    filled: &[u8],
+    cells: &Cells<'_>,
     values: &[i64],
     marks: &[u8],
-    sizes: Sizes,
     u: usize,
     codes: &[u64],
     field: u64,
@@ -68,61 +65,57 @@ fn combine(
     y: Term,
     at: Places,
 ) -> Evaluated
-    requires { Parts sizes cells.now filled.now × (u < sizes.records) × RuleReaches sizes values.now marks.now u codes.now at (Combine field operator x y) }
-    ensures { Told sizes (cells_of cells.now filled.now) values.now marks.now u
+    requires { (u < cells.now.sizes.records) × RuleReaches cells.now.sizes values.now marks.now u codes.now at (Combine field operator x y) }
+    ensures { Told cells.now.sizes (cells_in cells.now) values.now marks.now u
         (λ P. RulePlaced P codes.now at (Combine field operator x y)) (λ read. result ≡ evaluated read (operationOn operator (term_in codes.now x) (term_in codes.now y))) }
 {
     let first = at.first;
     let second = at.second;
-    let a = term::term_value(cells, filled, values, marks, sizes, u, codes, x, first);
-    let b = term::term_value(cells, filled, values, marks, sizes, u, codes, y, second);
+    let a = term::term_value(cells, values, marks, u, codes, x, first);
+    let b = term::term_value(cells, values, marks, u, codes, y, second);
     operation::join(operator, a, b)
 }
 
 // The expression of a rule at record u.
 fn expression(
-    cells: &[u8],
-    filled: &[u8],
+    cells: &Cells<'_>,
     values: &[i64],
     marks: &[u8],
-    sizes: Sizes,
     u: usize,
     codes: &[u64],
     rule: Rule,
     at: Places,
 ) -> Evaluated
-    requires { Parts sizes cells.now filled.now × (u < sizes.records) × RuleReaches sizes values.now marks.now u codes.now at rule }
-    ensures { Told sizes (cells_of cells.now filled.now) values.now marks.now u
+    requires { (u < cells.now.sizes.records) × RuleReaches cells.now.sizes values.now marks.now u codes.now at rule }
+    ensures { Told cells.now.sizes (cells_in cells.now) values.now marks.now u
         (λ P. RulePlaced P codes.now at rule) (λ read. result ≡ evaluated read (expression_in codes.now rule)) }
 {
     let first = at.first;
     let second = at.second;
     match rule {
         Rule::Set(_, x) => term::term_value(
-            cells, filled, values, marks, sizes, u, codes, x, first,
+            cells, values, marks, u, codes, x, first,
         ),
         Rule::Combine(field, operator, x, y) => combine(
-            cells, filled, values, marks, sizes, u, codes, field, operator, x, y, at,
+            cells, values, marks, u, codes, field, operator, x, y, at,
         ),
         Rule::Remote(_, _, _, x) => term::term_value(
-            cells, filled, values, marks, sizes, u, codes, x, second,
+            cells, values, marks, u, codes, x, second,
         ),
     }
 }
 
 // What a rule comes to at record u: its expression where its test holds.
 pub fn effect(
-    cells: &[u8],
-    filled: &[u8],
+    cells: &Cells<'_>,
     values: &[i64],
     marks: &[u8],
-    sizes: Sizes,
     u: usize,
     codes: &[u64],
     located: Located,
 ) -> Evaluated
-    requires { Parts sizes cells.now filled.now × (u < sizes.records) × SlotReaches sizes values.now marks.now u codes.now located }
-    ensures { Told sizes (cells_of cells.now filled.now) values.now marks.now u
+    requires { (u < cells.now.sizes.records) × SlotReaches cells.now.sizes values.now marks.now u codes.now located }
+    ensures { Told cells.now.sizes (cells_in cells.now) values.now marks.now u
         (λ P. SlotPlaced P codes.now located) (λ read. result ≡ effect_of read (rule_in codes.now located.slot)) }
 {
     let slot = located.slot;
@@ -130,10 +123,8 @@ pub fn effect(
     let test = slot.test;
     match term::test_at(
         cells,
-        filled,
         values,
         marks,
-        sizes,
         u,
         codes,
         test,
@@ -143,29 +134,27 @@ pub fn effect(
         Tested::OutOfRange => Evaluated::OutOfRange,
         Tested::Holds => {
             let at = located.at.rule;
-            expression(cells, filled, values, marks, sizes, u, codes, rule, at)
+            expression(cells, values, marks, u, codes, rule, at)
         }
     }
 }
 
 // What a rule stores in record u. A remote one is asked for the sums that it forms.
 pub fn local_write(
-    cells: &[u8],
-    filled: &[u8],
+    cells: &Cells<'_>,
     values: &[i64],
     marks: &[u8],
-    sizes: Sizes,
     u: usize,
     codes: &[u64],
     located: Located,
 ) -> Write
-    requires { Parts sizes cells.now filled.now × (u < sizes.records) × SlotReaches sizes values.now marks.now u codes.now located }
+    requires { (u < cells.now.sizes.records) × SlotReaches cells.now.sizes values.now marks.now u codes.now located }
     ensures { DoneFor (target_in located.slot.rule) result
-        × Told sizes (cells_of cells.now filled.now) values.now marks.now u
+        × Told cells.now.sizes (cells_in cells.now) values.now marks.now u
         (λ P. SlotPlaced P codes.now located) (λ read. result ≡ write_of read (rule_in codes.now located.slot)) }
 {
     let slot = located.slot;
     let rule = slot.rule;
-    let value = effect(cells, filled, values, marks, sizes, u, codes, located);
+    let value = effect(cells, values, marks, u, codes, located);
     write_value(rule, value)
 }

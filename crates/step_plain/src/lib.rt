@@ -2,8 +2,7 @@
 #![tactic(auto)]
 
 ghost use Rattle.std.specs.Prelude.{◌≡◌, ◌<◌, []};
-ghost use Rattle.register.specs.Cells.{cells_of};
-ghost use Rattle.register.specs.Shape.{Parts};
+ghost use Rattle.register.specs.View.{cells_in};
 ghost use Rattle.program.specs.declared.rule.Rule.TheVariants.{Set, Combine, Remote};
 ghost use Rattle.program.specs.Program.{own, is_remote};
 ghost use Rattle.program.specs.Stored.{target_in};
@@ -16,7 +15,7 @@ use machine::message::Message;
 use program::location::{Located, Places};
 use program::rule::{Operator, Rule, Sort};
 use program::term::Term;
-use register::Sizes;
+use register::cells::Cells;
 use step_effects::sent::Sent;
 use step_effects::stored::Write;
 use step_operations::operation;
@@ -53,11 +52,9 @@ fn write_sum(field: u64, sum: Option<i32>) -> Write
 
 // An operation on two terms at record u, for a field.
 fn combine(
-    cells: &[u8],
-    filled: &[u8],
+    cells: &Cells<'_>,
     values: &[i64],
     marks: &[u8],
-    sizes: Sizes,
     u: usize,
     field: u64,
     operator: Operator,
@@ -65,17 +62,17 @@ fn combine(
     y: Term,
     at: Places,
 ) -> Write
-    requires { Parts sizes cells.now filled.now × (u < sizes.records) × RuleReaches sizes values.now marks.now u [] at (Combine field operator x y) }
-    ensures { PlainDone sizes (cells_of cells.now filled.now) values.now marks.now u at (Combine field operator x y) result }
+    requires { (u < cells.now.sizes.records) × RuleReaches cells.now.sizes values.now marks.now u [] at (Combine field operator x y) }
+    ensures { PlainDone cells.now.sizes (cells_in cells.now) values.now marks.now u at (Combine field operator x y) result }
 {
     let first = at.first;
-    let Some(a) = step_tests::term_value(cells, filled, values, marks, sizes, u, x, first)
+    let Some(a) = step_tests::term_value(cells, values, marks, u, x, first)
     else {
         return Write::Nothing;
     };
     let second = at.second;
     let Some(b) = step_tests::term_value(
-        cells, filled, values, marks, sizes, u, y, second,
+        cells, values, marks, u, y, second,
     ) else {
         return Write::Nothing;
     };
@@ -84,16 +81,14 @@ fn combine(
 
 // What a plain rule stores in record u.
 pub fn local_write(
-    cells: &[u8],
-    filled: &[u8],
+    cells: &Cells<'_>,
     values: &[i64],
     marks: &[u8],
-    sizes: Sizes,
     u: usize,
     located: Located,
 ) -> Write
-    requires { Parts sizes cells.now filled.now × (u < sizes.records) × SlotReaches sizes values.now marks.now u [] located }
-    ensures { PlainWrite sizes (cells_of cells.now filled.now) values.now marks.now u located result }
+    requires { (u < cells.now.sizes.records) × SlotReaches cells.now.sizes values.now marks.now u [] located }
+    ensures { PlainWrite cells.now.sizes (cells_in cells.now) values.now marks.now u located result }
 {
     let slot = located.slot;
     let rule = slot.rule;
@@ -102,7 +97,7 @@ pub fn local_write(
     }
     let test = slot.test;
     let places = located.at.test;
-    if !step_tests::holds(cells, filled, values, marks, sizes, u, test, places) {
+    if !step_tests::holds(cells, values, marks, u, test, places) {
         return Write::Nothing;
     }
     let at = located.at.rule;
@@ -111,11 +106,11 @@ pub fn local_write(
             let first = at.first;
             write_reading(
                 field,
-                step_tests::term_value(cells, filled, values, marks, sizes, u, x, first),
+                step_tests::term_value(cells, values, marks, u, x, first),
             )
         }
         Rule::Combine(field, operator, x, y) => combine(
-            cells, filled, values, marks, sizes, u, field, operator, x, y, at,
+            cells, values, marks, u, field, operator, x, y, at,
         ),
         Rule::Remote(_, _, _, _) => Write::Nothing,
     }
@@ -123,11 +118,9 @@ pub fn local_write(
 
 // A write to the record at a chain: "One whose C or X is unfilled does nothing."
 fn send(
-    cells: &[u8],
-    filled: &[u8],
+    cells: &Cells<'_>,
     values: &[i64],
     marks: &[u8],
-    sizes: Sizes,
     u: usize,
     sort: Sort,
     field: u64,
@@ -135,17 +128,17 @@ fn send(
     x: Term,
     at: Places,
 ) -> Sent
-    requires parts { Parts sizes cells.now filled.now × (u < sizes.records) × RuleReaches sizes values.now marks.now u [] at (Remote sort field target x) }
-    requires names { Names (found_at sizes (cells_of cells.now filled.now) values.now marks.now u at.first) }
-    ensures { PlainSent sizes (cells_of cells.now filled.now) values.now marks.now u at sort field target x result }
+    requires parts { (u < cells.now.sizes.records) × RuleReaches cells.now.sizes values.now marks.now u [] at (Remote sort field target x) }
+    requires names { Names (found_at cells.now.sizes (cells_in cells.now) values.now marks.now u at.first) }
+    ensures { PlainSent cells.now.sizes (cells_in cells.now) values.now marks.now u at sort field target x result }
 {
     let first = at.first;
-    let Some(to) = term::found_at(cells, filled, values, marks, sizes, u, first) else {
+    let Some(to) = term::found_at(cells, values, marks, u, first) else {
         return Sent::Nothing;
     };
     let second = at.second;
     let Some(amount) = step_tests::term_value(
-        cells, filled, values, marks, sizes, u, x, second,
+        cells, values, marks, u, x, second,
     ) else {
         return Sent::Nothing;
     };
@@ -159,17 +152,15 @@ fn send(
 
 // What a plain rule sends from record u.
 pub fn message_of(
-    cells: &[u8],
-    filled: &[u8],
+    cells: &Cells<'_>,
     values: &[i64],
     marks: &[u8],
-    sizes: Sizes,
     u: usize,
     located: Located,
 ) -> Sent
-    requires parts { Parts sizes cells.now filled.now × (u < sizes.records) × SlotReaches sizes values.now marks.now u [] located }
-    requires target_found { TargetFound Names sizes (cells_of cells.now filled.now) values.now marks.now u located.at.rule located.slot.rule }
-    ensures { PlainMessages sizes (cells_of cells.now filled.now) values.now marks.now u located result }
+    requires parts { (u < cells.now.sizes.records) × SlotReaches cells.now.sizes values.now marks.now u [] located }
+    requires target_found { TargetFound Names cells.now.sizes (cells_in cells.now) values.now marks.now u located.at.rule located.slot.rule }
+    ensures { PlainMessages cells.now.sizes (cells_in cells.now) values.now marks.now u located result }
 {
     let slot = located.slot;
     let rule = slot.rule;
@@ -179,10 +170,8 @@ pub fn message_of(
     let test = slot.test;
     if !step_tests::holds(
         cells,
-        filled,
         values,
         marks,
-        sizes,
         u,
         test,
         located.at.test,
@@ -191,10 +180,8 @@ pub fn message_of(
     }
     send(
         cells,
-        filled,
         values,
         marks,
-        sizes,
         u,
         sort,
         field,
