@@ -15,7 +15,7 @@ use register::Sizes;
 use text_codes::code::TermParts;
 use text_demands::rule;
 use text_lexer::lexer;
-use text_places::word::{LetterRead, WriteRead};
+use text_places::mark::Mark;
 use text_places::{place, word};
 use text_rules::line::Checks;
 use text_sides::expression::ExpressionRead;
@@ -23,7 +23,7 @@ use text_sides::side::SideRead;
 use text_sides::{expression, side};
 use text_terms::term;
 use text_terms::term::TermRead;
-use text_words::token::{Place, Token};
+use text_words::token::Token;
 
 // A rule, what is asked of it and the number of codes then; or no rule stands there to the end of the line.
 #[derive(Clone, Copy)]
@@ -46,7 +46,7 @@ fn read_local(
     ensures { ActionAt sizes line.now at (local_form (T.letter letter ∷ tokens_from false line.now at))
         codes.old codes.new count result }
 {
-    let Place::At(start) = word::assigned(line, at) else {
+    let Some(start) = word::assigned(line, at) else {
         return ActionRead::NoForm;
     };
     let ExpressionRead::Parts(seen, end, to) = expression::read(line, start, sizes, codes, count)
@@ -74,16 +74,16 @@ fn read_target(line: &[u8], at: usize, sizes: Sizes) -> TargetRead
     requires { Limits sizes × (at ≤ length line.now) }
     ensures { TargetAt sizes line.now at result }
 {
-    let LetterRead::Letter(letter, open) = word::letter(line, at) else {
+    let Some((letter, open)) = word::letter(line, at) else {
         return TargetRead::NoForm;
     };
-    let Place::At(inner) = place::mark(line, open, false, place::OPEN_SQUARE) else {
+    let Some(inner) = place::mark(line, open, false, Mark::OpenSquare) else {
         return TargetRead::NoForm;
     };
     let TermRead::Parts(parts, close) = term::read_chain(line, inner, false, sizes) else {
         return TargetRead::NoForm;
     };
-    let Place::At(end) = place::mark(line, close, false, place::CLOSE_SQUARE) else {
+    let Some(end) = place::mark(line, close, false, Mark::CloseSquare) else {
         return TargetRead::NoForm;
     };
     TargetRead::Target(letter, parts, end)
@@ -103,7 +103,7 @@ fn read_sent(
         × Roomy codes.old line.now at count × (length codes.old ≤ 65536) }
     ensures { SentBehind sizes line.now at letter parts codes.old codes.new count result }
 {
-    let WriteRead::Write(sort, start) = word::write(line, at) else {
+    let Some((sort, start)) = word::write(line, at) else {
         return ActionRead::NoForm;
     };
     let SideRead::Side(seen, term, end, used) = side::read(line, start, sizes, codes, count) else {

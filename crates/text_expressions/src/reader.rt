@@ -10,10 +10,10 @@ use register::Sizes;
 use text_codes::summary;
 use text_codes::summary::Summary;
 use text_joins::{Joining, Pending, Reading};
+use text_places::mark::Mark;
 use text_places::place;
 use text_terms::term;
 use text_terms::term::TermRead;
-use text_words::token::Place;
 
 // The expression at `at`: what `<?` joins, joined by `+` and `-`.
 #[cycle(read_expression_read_group_read_minimum_read_operand)]
@@ -118,7 +118,7 @@ fn read_group(
     requires roomy { Roomy codes.old line.now at count × NoTerm line.now at }
     ensures { ReadingAt operand sizes room before line.now at codes.old codes.new count result }
 {
-    let Place::At(inner) = place::mark(line, at, true, place::OPEN_ROUND) else {
+    let Some(inner) = place::mark(line, at, true, Mark::OpenRound) else {
         return Reading::NoForm;
     };
     if room == 0 {

@@ -6,9 +6,7 @@ ghost use Rattle.text_words.specs.Tokens.{sized_first};
 ghost use Rattle.text_lexer.specs.Lexeme.{next_place, lexeme};
 
 use chain_text::{letters, text};
-use text_numbers::NumberRead;
-use text_words::token::{SizedToken, Token};
-use text_words::word;
+use text_words::token::Token;
 
 // A token and the place of the next one.
 #[derive(Clone, Copy)]
@@ -17,28 +15,25 @@ pub struct Lexeme {
     pub end: usize,
 }
 
-// The number at `at`, if one stands there.
-fn number_at(line: &[u8], at: usize) -> SizedToken
+// The number at `at`, if one stands there, and the number of its bytes.
+fn number_at(line: &[u8], at: usize) -> Option<(Token, usize)>
     requires { at ≤ length line.now }
     ensures { result ≡ sized_first (number_token (number_form (drop at line.now))) }
 {
-    let NumberRead::Number(value, end) = text_numbers::read_number(line, at) else {
-        return word::sized(Token::Unknown, 0);
-    };
-    word::sized(Token::Number(value), end - at)
+    let (value, end) = text_numbers::read_number(line, at)?;
+    Some((Token::Number(value), end - at))
 }
 
-// The token at `at`, if one stands there: where an operand must begin, a minus belongs to a number.
-fn first_token(line: &[u8], at: usize, operand: bool) -> SizedToken
+// The token at `at`, if one stands there, and the number of its bytes: where an operand must begin, a minus belongs to a number.
+fn first_token(line: &[u8], at: usize, operand: bool) -> Option<(Token, usize)>
     requires { at < length line.now }
     ensures { result ≡ sized_first (first_token operand (drop at line.now)) }
 {
     let b = line[at];
     if letters::is_capital(b) {
-        return word::sized(Token::Letter(b), 1);
+        return Some((Token::Letter(b), 1));
     }
-    let digit = (b'0' <= b) & (b <= b'9');
-    if digit | ((b == b'-') & operand) {
+    if b.is_ascii_digit() | ((b == b'-') & operand) {
         return number_at(line, at);
     }
     text_signs::sign_at(line, at)
@@ -72,15 +67,12 @@ pub fn next_token(line: &[u8], at: usize, operand: bool) -> Lexeme
             end: at,
         };
     }
-    let read = first_token(line, at, operand);
-    let token = read.token;
-    let size = read.size;
-    if size == 0 {
+    let Some((token, size)) = first_token(line, at, operand) else {
         return Lexeme {
             token: Token::Unknown,
             end: length,
         };
-    }
+    };
     Lexeme {
         token,
         end: skip_spaces(line, at + size),

@@ -15,12 +15,12 @@ use text_actions::action::ActionRead;
 use text_demands::test;
 use text_demands::test::{FirstSide, TestParts};
 use text_lexer::lexer;
-use text_places::word::{ComparisonRead, LetterRead};
+use text_places::mark::Mark;
 use text_places::{place, word};
 use text_rules::line::LineRead;
 use text_sides::side;
 use text_sides::side::SideRead;
-use text_words::token::{Place, Token};
+use text_words::token::Token;
 
 // A line and the number of codes behind it.
 #[derive(Clone, Copy)]
@@ -54,7 +54,7 @@ fn read_loop(line: &[u8], at: usize, sizes: Sizes) -> LineRead
     requires { Limits sizes × (at ≤ length line.now) }
     ensures { result ≡ loop_read sizes (tokens_from false line.now at) }
 {
-    let LetterRead::Letter(letter, end) = word::letter(line, at) else {
+    let Some((letter, end)) = word::letter(line, at) else {
         return LineRead::NoForm;
     };
     let field = letters::field_of(letter);
@@ -104,7 +104,7 @@ fn read_compared(
     let SideRead::Side(seen, term, end, used) = side::read(line, at, sizes, codes, count) else {
         return no_form(count);
     };
-    let Place::At(start) = place::mark(line, end, false, place::COLON) else {
+    let Some(start) = place::mark(line, end, false, Mark::Colon) else {
         return no_form(count);
     };
     let test = test::when(first, seen, term);
@@ -120,7 +120,7 @@ fn read_tested(line: &[u8], at: usize, sizes: Sizes, codes: &mut [u64], count: u
     let SideRead::Side(seen, term, end, used) = side::read(line, at, sizes, codes, count) else {
         return no_form(count);
     };
-    let ComparisonRead::Compared(comparison, start) = word::comparison(line, end) else {
+    let Some((comparison, start)) = word::comparison(line, end) else {
         return no_form(count);
     };
     let first = FirstSide {

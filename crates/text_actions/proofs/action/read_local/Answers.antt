@@ -17,12 +17,12 @@ returns-in_default c =
 pub read-requires : goal.read-requires
 read-requires c =
     let p = c.requires in
-    let v = subst (PassesAssigned _ _) c.in-At.is c.assigned.ensures in
+    let v = subst (PassesAssigned _ _) c.in-Some.is c.assigned.ensures in
     (p.0, v.behind.inside, omega (arith, v.behind.onward, p.3))
 
 pub returns-in_default-read : goal.returns-in_default-read
 returns-in_default-read c =
-    let v = subst (PassesAssigned _ _) c.in-At.is c.assigned.ensures in
+    let v = subst (PassesAssigned _ _) c.in-Some.is c.assigned.ensures in
     no_action (local-none _ v (subst (ExpressionAt _ _ _ _ _ _) c.in_default-read.is c.read.ensures))
 
 pub ends-requires : goal.ends-requires
@@ -32,7 +32,7 @@ ends-requires c =
 
 pub returns-then-not-ends : goal.returns-then-not-ends
 returns-then-not-ends c =
-    let v = subst (PassesAssigned _ _) c.in-At.is c.assigned.ensures in
+    let v = subst (PassesAssigned _ _) c.in-Some.is c.assigned.ensures in
     let w = subst (ExpressionAt _ _ _ _ _ _) c.in-Parts.is c.read.ensures in
     record { none = whole-more _ (local-formed _ v w.form_is) (sym c.ends.ensures ∙ c.if-not-ends.true) }
 
@@ -59,7 +59,7 @@ shape_of-codes c = c.read.auto.codes
 
 pub returns : goal.returns
 returns c =
-    let v = subst (PassesAssigned _ _) c.in-At.is c.assigned.ensures in
+    let v = subst (PassesAssigned _ _) c.in-Some.is c.assigned.ensures in
     let w = subst (ExpressionAt _ _ _ _ _ _) c.in-Parts.is c.read.ensures in
     local-read c.requires.0 _ v w (sym c.ends.ensures ∙ c.if-not-ends.false) c.field_of-field.ensures
     c.set_in-held.ensures c.names_field.ensures c.local-asked.ensures c.codes_behind_set.ensures

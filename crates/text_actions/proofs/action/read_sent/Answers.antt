@@ -14,12 +14,12 @@ returns-in_default c chain e = no_action (not-sent _ chain (subst (PassesWrite _
 pub read-requires : goal.read-requires
 read-requires c =
     let p = c.requires in
-    let v = subst (PassesWrite _ _) c.in-Write.is c.write.ensures in
+    let v = subst (PassesWrite _ _) c.in-Some.is c.write.ensures in
     (p.0, v.behind.inside, omega (arith, v.behind.onward, p.3), p.4)
 
 pub returns-in_default-read : goal.returns-in_default-read
 returns-in_default-read c chain e =
-    let v = subst (PassesWrite _ _) c.in-Write.is c.write.ensures in
+    let v = subst (PassesWrite _ _) c.in-Some.is c.write.ensures in
     no_action (sent-none _ chain v (subst (SideAt _ _ _ _ _ _) c.in_default-read.is c.read.ensures))
 
 pub ends-requires : goal.ends-requires
@@ -29,7 +29,7 @@ ends-requires c =
 
 pub returns-then-not-ends : goal.returns-then-not-ends
 returns-then-not-ends c chain e =
-    let v = subst (PassesWrite _ _) c.in-Write.is c.write.ensures in
+    let v = subst (PassesWrite _ _) c.in-Some.is c.write.ensures in
     let w = subst (SideAt _ _ _ _ _ _) c.in-Side.is c.read.ensures in
     record { none = whole-more _ (sent-formed _ chain v w.form_is) (sym c.ends.ensures ∙ c.if-not-ends.true) }
 
@@ -46,7 +46,7 @@ shape_of-codes c = c.read.auto.codes
 
 pub returns : goal.returns
 returns c chain e =
-    let v = subst (PassesWrite _ _) c.in-Write.is c.write.ensures in
+    let v = subst (PassesWrite _ _) c.in-Some.is c.write.ensures in
     let w = subst (SideAt _ _ _ _ _ _) c.in-Side.is c.read.ensures in
     sent-read c.requires.0 _ chain _ e v w (sym c.ends.ensures ∙ c.if-not-ends.false)
     c.field_of.ensures c.chain.ensures c.names_field-named.ensures c.remote.ensures

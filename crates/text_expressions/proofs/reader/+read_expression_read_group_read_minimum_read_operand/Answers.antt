@@ -115,7 +115,7 @@ read_operand-returns t c =
     (wrote_code _ _ _ (omega (arith, p.roomy, p.limits.2)))
 
 pub read_group-mark-requires : goal.read_group-mark-requires
-read_group-mark-requires t c = (c.requires.limits.2, omega arith, omega arith)
+read_group-mark-requires t c = c.requires.limits.2
 
 pub read_group-returns-in_default : goal.read_group-returns-in_default
 unfolding operand_behind
@@ -124,7 +124,7 @@ read_group-returns-in_default t c = group_none c.requires.roomy.1 (subst (Passes
 pub read_group-returns-then-room-eq0 : goal.read_group-returns-then-room-eq0
 unfolding operand_behind
 read_group-returns-then-room-eq0 t c =
-    let opens : Passing true true openRound c.args.line.now c.args.at c.in-At.inner = subst (Passes true true openRound _ _) c.in-At.is c.mark.ensures in
+    let opens : Passing true true openRound c.args.line.now c.args.at c.in-Some.inner = subst (Passes true true openRound _ _) c.in-Some.is c.mark.ensures in
     group_full _ c.if-room-eq0.true opens
 
 pub read_group-overflow_sub-room : goal.read_group-overflow_sub-room
@@ -133,7 +133,7 @@ read_group-overflow_sub-room t c = omega (arith, c.if-room-eq0.false)
 pub read_group-read_expression-read-requires : goal.read_group-read_expression-read-requires
 unfolding operand_behind
 read_group-read_expression-read-requires t c =
-    let opens : Passing true true openRound c.args.line.now c.args.at c.in-At.inner = subst (Passes true true openRound _ _) c.in-At.is c.mark.ensures in
+    let opens : Passing true true openRound c.args.line.now c.args.at c.in-Some.inner = subst (Passes true true openRound _ _) c.in-Some.is c.mark.ensures in
     let p = c.requires in
     let b = opens.behind in (
       omega (arith, c.if-room-eq0.false),
@@ -147,12 +147,12 @@ pub read_group-close_group-requires : goal.read_group-close_group-requires
 read_group-close_group-requires t c =
     let a = c.args in
     let e = c.read_expression-read in
-    reading-inside expression a.sizes (a.room - 1) a.before a.line.now c.in-At.inner a.codes.now e.new.codes a.count e.result e.ensures
+    reading-inside expression a.sizes (a.room - 1) a.before a.line.now c.in-Some.inner a.codes.now e.new.codes a.count e.result e.ensures
 
 pub read_group-returns : goal.read_group-returns
 unfolding operand_behind
 read_group-returns t c =
-    let opens : Passing true true openRound c.args.line.now c.args.at c.in-At.inner = subst (Passes true true openRound _ _) c.in-At.is c.mark.ensures in
+    let opens : Passing true true openRound c.args.line.now c.args.at c.in-Some.inner = subst (Passes true true openRound _ _) c.in-Some.is c.mark.ensures in
     let a = c.args in
     let e = c.read_expression-read in
     group_closed a.sizes a.room a.before c.requires.limits.1 c.if-room-eq0.false opens a.codes.now e.new.codes a.count e.result c.close_group.result

@@ -17,7 +17,7 @@ returns-in_default c =
 pub mark-requires : goal.mark-requires
 mark-requires c =
     let d = subst (SideAt _ _ _ _ _ _) c.in-Side.is c.read.ensures in
-    (d.inside, omega arith, omega arith)
+    d.inside
 
 pub returns-in_default-mark : goal.returns-in_default-mark
 unfolding operand_behind
@@ -31,7 +31,7 @@ unfolding operand_behind
 read_ruled-requires c =
     let p = c.requires in
     let d = subst (SideAt _ _ _ _ _ _) c.in-Side.is c.read.ensures in
-    let h = subst (Passes false false colon _ _) c.in-At.is c.mark.ensures in
+    let h = subst (Passes false false colon _ _) c.in-Some.is c.mark.ensures in
     (p.0, h.behind.inside, omega (arith, h.behind.onward, d.roomy), omega (arith, p.3, c.read.auto.codes))
 
 pub shape_of-codes : goal.shape_of-codes
@@ -42,5 +42,5 @@ pub returns : goal.returns
 unfolding operand_behind
 returns c =
     let d = subst (SideAt _ _ _ _ _ _) c.in-Side.is c.read.ensures in
-    let h = subst (Passes false false colon _ _) c.in-At.is c.mark.ensures in
+    let h = subst (Passes false false colon _ _) c.in-Some.is c.mark.ensures in
     compared _ _ _ _ _ _ _ d _ c.when-test.ensures h c.read_ruled.ensures

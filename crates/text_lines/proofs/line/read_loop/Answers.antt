@@ -11,15 +11,15 @@ returns-in_default c = no_letter _ _ (let p = subst (PassesLetter false _ _) c.i
 
 pub field_of-field-requires : goal.field_of-field-requires
 field_of-field-requires c = capital-low _
-    (let p = subst (PassesLetter false _ _) c.in-Letter.is (c.letter.ensures false) in p.capital)
+    (let p = subst (PassesLetter false _ _) c.in-Some.is (c.letter.ensures false) in p.capital)
 
 pub word_line-requires : goal.word_line-requires
 word_line-requires c =
-    let p = subst (PassesLetter false _ _) c.in-Letter.is (c.letter.ensures false) in
+    let p = subst (PassesLetter false _ _) c.in-Some.is (c.letter.ensures false) in
     p.passing.behind.inside
 
 pub returns : goal.returns
 returns c =
-    let p = subst (PassesLetter false _ _) c.in-Letter.is
+    let p = subst (PassesLetter false _ _) c.in-Some.is
     (c.letter.ensures false) in
     loop_letter _ p.passing c.field_of-field.ensures c.names_field.ensures c.word_line.ensures

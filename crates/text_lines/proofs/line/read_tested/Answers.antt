@@ -26,11 +26,11 @@ pub read_compared-requires : goal.read_compared-requires
 read_compared-requires c =
     let p = c.requires in
     let d = subst (SideAt _ _ _ _ _ _) c.in-Side.is c.read.ensures in
-    let h = subst (PassesComparison _ _) c.in-Compared.is c.comparison.ensures in
+    let h = subst (PassesComparison _ _) c.in-Some.is c.comparison.ensures in
     (p.0, h.behind.inside, omega (arith, h.behind.onward, d.roomy), omega (arith, p.3, c.read.auto.codes))
 
 pub returns : goal.returns
 returns c =
     let d = subst (SideAt _ _ _ _ _ _) c.in-Side.is c.read.ensures in
-    let h = subst (PassesComparison _ _) c.in-Compared.is c.comparison.ensures in
+    let h = subst (PassesComparison _ _) c.in-Some.is c.comparison.ensures in
     tested _ _ _ _ _ _ d _ h c.read_compared.ensures
