@@ -1,6 +1,6 @@
 -- The path behind a reading: "lists each hop's record, field and cell, stopping at the value or the first gap" (M-109).
 use Rattle.std.specs.Prelude.{None, Some}
-use Rattle.std.specs.Prelude.{ℕ, ◌≤◌, ◌<◌, ◌≡◌, List, [], ◌∷◌, pos, nat_abs, length, take}
+use Rattle.std.specs.Prelude.{ℕ, ◌<◌, ◌≡◌, List, [], ◌∷◌, pos, nat_abs, length, take}
 use Rattle.laws.specs.Lists.{Each}
 use Rattle.register.specs.File.{cell_index}
 use Rattle.register.specs.declared.Sizes.{Sizes}
@@ -52,5 +52,4 @@ hops_of p = take p.count p.hops
 pub record HoldsPath (p : Path) (hs : List Hop) : Type 0 where
   pub hops_are : hops_of p ≡ hs
   pub places : length p.hops ≡ 16
-  pub taken≤ : p.count ≤ 16
   pub lettered : Each (λ h. h.field < 16) (hops_of p)
