@@ -1,6 +1,6 @@
 -- What the reader of numbers answers.
 use Rattle.std.specs.Prelude.{Some, None}
-use Prim.Native.Nat.{ℕ, ◌+◌, ◌-◌, ◌≤◌}
+use Prim.Native.Nat.{ℕ, ◌+◌, ◌-◌, ◌≤◌, ◌<◌}
 use mathlib.Core.Path.{◌≡◌, refl, sym, ap, ap₂, ◌∙◌}
 use mathlib.Core.Logic.{◌≢◌}
 use mathlib.Core.Bool.{and-true, Bool, true, false, cond, not, ◌&&◌, ◌||◌}
@@ -10,7 +10,8 @@ use native.Mathlib.Decide.{dec_le}
 use borrow.Author.Tests.{eqb-true, eqb-false, eq-eqb, ne_eqb, lt-ltb, lt-leb}
 use lib.Dec.{ltb, eqb}
 use lib.IntN.{ℤ, pos, neg_ℤ, ◌-ℤ◌, +ℤ_idl}
-use lib.ListN.{length, get_or, drop, length-append}
+use lib.ListN.{length, get_or, take, drop, length-append}
+use Rattle.std.proofs.lemmas.Grind.{common_steps}
 use lib.Seq.{drop-drop}
 use mir.Syntax.{w64}
 use mir.Val.{SFits, to_z}
@@ -18,12 +19,21 @@ use mir.Facts.{to_z_pos}
 use Rattle.integers.specs.Range.{in_range, sum_of}
 use Rattle.chain_text.specs.Scan.{starts_with}
 use Rattle.chain_text.proofs.Scanning.{first-at}
-use Rattle.text_numerals.specs.Numeral.{is_digit, digits, decimal, Numeral, whole, metres, printed_numeral, all_digits, whole_digits, centimetres, no_leading_zero, two_decimals, is_numeral, with_decimals, numeral, NumberForm, number, unformed, signed_form, number_form, signed_text, printed_number, signed_value, number_value, capped, capped_value}
+use Rattle.text_numerals.specs.Numeral.{is_digit, starts_digit, digits, decimal, Numeral, whole, metres, printed_numeral, all_digits, whole_digits, centimetres, no_leading_zero, two_decimals, is_numeral, with_decimals, numeral, NumberForm, number, unformed, signed_form, number_form, signed_text, printed_number, signed_value, number_value, capped, capped_value}
 use Rattle.text_numbers.specs.Numbers.{ReadsDigits, ReadsNumeral, digits_read, number_read}
 use Rattle.text_numbers.specs.declared.Digits.{Digits}
 use Rattle.text_numbers.specs.declared.Figures.{Figures}
+use Rattle.text_numerals.proofs.Spans.{starts-within}
 use Rattle.text_numerals.proofs.Digits.{capped_small, capped_large, capped-decimal, decimal-append}
 use Rattle.text_numerals.proofs.Numerals.{numeral-whole, whole-bound}
+
+-- a byte of the line from `at` on, and whether it is a digit
+module _ (t : List ℕ) (at i : ℕ) (inside : at + i < length t) where
+  pub slice-byte : get_or (take (length t - at) (drop at t)) i 0 ≡ get_or t (at + i) 0
+  slice-byte = grind (arith, common_steps)
+
+  pub slice-digit : is_digit (get_or (take (length t - at) (drop at t)) i 0) ≡ starts_digit (drop (at + i) t)
+  slice-digit = ap is_digit slice-byte ∙ sym (starts-within is_digit t (at + i) inside)
 
 -- the two cases of `numeral`
 module _ (t : List ℕ) where
