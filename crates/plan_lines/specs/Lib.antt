@@ -1,3 +1,4 @@
 -- What a plan of the code holds and promises.
+pub mod Columns
 pub mod Held
 pub mod Promised
