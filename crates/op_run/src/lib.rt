@@ -6,7 +6,7 @@ ghost use Rattle.machine_messages.specs.declared.Machine.TheVariants.{Direct, Me
 ghost use Rattle.op_run.specs.Direct.{direct_run};
 ghost use Rattle.op_run.specs.Answer.{lengths, refused_with, Answered};
 
-use gather::counts;
+use gather::counts::Counts;
 use machine_messages::Machine;
 use op_check::check;
 use op_ready;
@@ -21,7 +21,7 @@ fn refused(refusal: u32, line: usize) -> RunAnswer
         refusal,
         line,
         finished: 0,
-        counts: counts::NONE,
+        counts: Counts::NONE,
         row: 0,
         column: 0,
     }
