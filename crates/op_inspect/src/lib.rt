@@ -49,18 +49,7 @@ pub fn inspect(
         return refused(19, 0);
     }
     let plan = planned.plan;
-    op_show::show(
-        file,
-        values,
-        marks,
-        sizes,
-        &plan.keys,
-        &plan.rounds,
-        &plan.backs,
-        &plan.reads,
-        plan.count,
-        t,
-    );
+    op_show::show(file, values, marks, sizes, &plan, t);
     InspectAnswer {
         refusal: 0,
         line: 0,
