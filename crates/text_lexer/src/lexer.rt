@@ -5,7 +5,7 @@ ghost use Rattle.text_syntax.specs.Lexing.{first_token, number_token};
 ghost use Rattle.text_words.specs.Tokens.{sized_first};
 ghost use Rattle.text_lexer.specs.Lexeme.{next_place, lexeme};
 
-use chain_text::{letters, text};
+use chain_text::letters;
 use text_words::token::Token;
 
 // A token and the place of the next one.
@@ -44,14 +44,10 @@ pub fn skip_spaces(line: &[u8], at: usize) -> usize
     requires { at ≤ length line.now }
     ensures { result ≡ next_place at (drop at line.now) }
 {
-    let mut i = at;
-    while text::starts_with(line, i, b' ') {
-        i += 1;
+    match line[at..].iter().position(|b| *b != b' ') {
+        Some(spaces) => at + spaces,
+        None => at,
     }
-    if i == line.len() {
-        return at;
-    }
-    i
 }
 
 // The token at `at`, where an operand must begin or not, and the place of the next one. Behind what is no token the line
