@@ -25,7 +25,7 @@ pub fn plot_plan(
     }
     let plan = found.plan;
     let count = plan.count;
-    api_plan::fill(plan, kinds, chains, rounds);
+    api_plan::fill(&plan, kinds, chains, rounds);
     *answer = [
         0,
         0,
