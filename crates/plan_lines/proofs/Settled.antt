@@ -60,6 +60,10 @@ module _ (l : List Fact) (f : Fact) where
   unfolding index place
   index-place = index-cond (listed l f) (line_index l f)
 
+  pub place_had : line_index l f < length l → place l f ≡ Some (line_index l f)
+  unfolding place
+  place_had h = rw (listed-old l f h) refl
+
   pub place_listed : (i : ℕ) → place l f ≡ Some i → i < length l
   unfolding place listed
   place_listed i e =
