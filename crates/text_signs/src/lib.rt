@@ -27,6 +27,7 @@ fn longer(
 }
 
 // `<?=`, `<?` or `<`, of which the first byte stands before `at`.
+#[tactic(auto, using(crate::proofs::Signs::less_alone, crate::proofs::Signs::less_least, crate::proofs::Signs::less_smaller))]
 fn less_at(line: &[u8], at: usize) -> Option<(Token, usize)>
     requires { at ≤ length line.now }
     ensures { result ≡ sized_first (fixed_token signs (60 ∷ drop at line.now)) }

@@ -31,6 +31,7 @@ pub enum Token {
 }
 
 // The place behind a word that stands at `at`.
+#[tactic(auto, using(crate::proofs::Words::opens_from), unfolding(crate::specs::Tokens::literal_read))]
 pub fn literal(line: &[u8], at: usize, word: &[u8]) -> Option<usize>
     requires { at ≤ length line.now }
     ensures { result ≡ literal_read at word.now (drop at line.now) }

@@ -8,6 +8,7 @@ use crate::token;
 use crate::token::Token;
 
 // A word that stands at `at`, and the number of its bytes.
+#[tactic(auto, unfolding(crate::specs::Tokens::literal_read))]
 fn word(line: &[u8], at: usize, bytes: &[u8], token: Token) -> Option<(Token, usize)>
     requires { at ≤ length line.now }
     ensures { result ≡ cond (opens_with bytes.now (drop at line.now)) (sized_token token (length bytes.now)) None }
