@@ -14,15 +14,7 @@ use machine::message::Message;
 use program::location::Located;
 use program::rule::Rule;
 use register::cells::Cells;
-use step_operations::operation::Evaluated;
 use step_terms::term;
-
-// A rule sends nothing, or one message.
-#[derive(Clone, Copy)]
-pub enum Sent {
-    Nothing,
-    One(Message),
-}
 
 // What a rule sends from record u where none of its sums leaves the range: "One whose C or X is unfilled does nothing."
 pub fn message_of(
@@ -32,7 +24,7 @@ pub fn message_of(
     u: usize,
     codes: &[u64],
     located: Located,
-) -> Sent
+) -> Option<Message>
     requires { (u < cells.now.sizes.records) × SlotReaches cells.now.sizes values.now marks.now u codes.now located
         × TargetFound Names cells.now.sizes (cells_in cells.now) values.now marks.now u located.at.rule located.slot.rule }
     ensures { GoesTo (target_field (target_in located.slot.rule))
@@ -40,21 +32,17 @@ pub fn message_of(
         × Told cells.now.sizes (cells_in cells.now) values.now marks.now u (λ P. SlotPlaced P codes.now located)
         (λ read. offends read (rule_in codes.now located.slot) ≡ false → messages_in result ≡ rule_messages read (rule_in codes.now located.slot)) }
 {
-    let slot = located.slot;
-    let rule = slot.rule;
-    let Rule::Remote(sort, field, _, _) = rule else {
-        return Sent::Nothing;
+    let Rule::Remote(sort, field, _, _) = located.slot.rule else {
+        return None;
     };
     let at = located.at.rule;
     let first = at.first;
-    let Some(to) = term::found_at(cells, values, marks, u, first) else {
-        return Sent::Nothing;
-    };
+    let to = term::found_at(cells, values, marks, u, first)?;
     let value = stored::effect(cells, values, marks, u, codes, located);
-    let Evaluated::Value(amount) = value else {
-        return Sent::Nothing;
+    let Ok(Some(amount)) = value else {
+        return None;
     };
-    Sent::One(Message {
+    Some(Message {
         sort,
         target: integers::index(to),
         field,

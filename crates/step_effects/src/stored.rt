@@ -14,12 +14,12 @@ use program::rule::{Operator, Rule};
 use program::term::Term;
 use register::cells::Cells;
 use step_expressions::term;
-use step_operations::comparison::Tested;
 use step_operations::operation;
-use step_operations::operation::Evaluated;
+use step_operations::operation::OutOfRange;
 
-// A rule stores nothing in its own record or a value in a field; or a sum of it leaves the range, for the field that it writes.
-#[derive(Clone, Copy)]
+// A rule stores nothing in its own record or a value in a field; or a sum of it leaves the range, for the field that it writes. No
+// Result of an Option: what is told of each of the three is another thing, and none of them is passed on by `?`.
+#[derive(Clone, Copy, Debug, PartialEq, Eq)]
 pub enum Write {
     Nothing,
     Store(u64, i32),
@@ -27,28 +27,27 @@ pub enum Write {
 }
 
 // The field that a rule writes.
+#[tactic(auto, unfolding(program::specs::Program::target_field, program::specs::Stored::target_in))]
 fn field_of(rule: Rule) -> u64
     ensures { result ≡ target_field (target_in rule) }
 {
     match rule {
-        Rule::Set(field, _) => field,
-        Rule::Combine(field, _, _, _) => field,
-        Rule::Remote(_, field, _, _) => field,
+        Rule::Set(field, _) | Rule::Combine(field, _, _, _) | Rule::Remote(_, field, _, _) => field,
     }
 }
 
 // What a rule does with the value of its expression: the amount of a remote one is not stored here.
-fn write_value(rule: Rule, value: Evaluated) -> Write
+#[tactic(auto, unfolding(program::specs::Stored::target_in, crate::specs::Answers::target_write, crate::specs::Answers::done_by))]
+fn write_value(rule: Rule, value: Result<Option<i32>, OutOfRange>) -> Write
     ensures { result ≡ done_by (target_in rule) value }
 {
     match value {
-        Evaluated::Missing => Write::Nothing,
-        Evaluated::Value(z) => match rule {
-            Rule::Set(field, _) => Write::Store(field, z),
-            Rule::Combine(field, _, _, _) => Write::Store(field, z),
+        Ok(None) => Write::Nothing,
+        Ok(Some(z)) => match rule {
+            Rule::Set(field, _) | Rule::Combine(field, _, _, _) => Write::Store(field, z),
             Rule::Remote(_, _, _, _) => Write::Nothing,
         },
-        Evaluated::OutOfRange => Write::OutOfRange(field_of(rule)),
+        Err(OutOfRange) => Write::OutOfRange(field_of(rule)),
     }
 }
 
@@ -64,7 +63,7 @@ fn combine(
     x: Term,
     y: Term,
     at: Places,
-) -> Evaluated
+) -> Result<Option<i32>, OutOfRange>
     requires { (u < cells.now.sizes.records) × RuleReaches cells.now.sizes values.now marks.now u codes.now at (Combine field operator x y) }
     ensures { Told cells.now.sizes (cells_in cells.now) values.now marks.now u
         (λ P. RulePlaced P codes.now at (Combine field operator x y)) (λ read. result ≡ evaluated read (operationOn operator (term_in codes.now x) (term_in codes.now y))) }
@@ -77,6 +76,7 @@ fn combine(
 }
 
 // The expression of a rule at record u.
+#[tactic(auto, unfolding(program::specs::Stored::expression_in))]
 fn expression(
     cells: &Cells<'_>,
     values: &[i64],
@@ -85,7 +85,7 @@ fn expression(
     codes: &[u64],
     rule: Rule,
     at: Places,
-) -> Evaluated
+) -> Result<Option<i32>, OutOfRange>
     requires { (u < cells.now.sizes.records) × RuleReaches cells.now.sizes values.now marks.now u codes.now at rule }
     ensures { Told cells.now.sizes (cells_in cells.now) values.now marks.now u
         (λ P. RulePlaced P codes.now at rule) (λ read. result ≡ evaluated read (expression_in codes.now rule)) }
@@ -93,15 +93,11 @@ fn expression(
     let first = at.first;
     let second = at.second;
     match rule {
-        Rule::Set(_, x) => term::term_value(
-            cells, values, marks, u, codes, x, first,
-        ),
+        Rule::Set(_, x) => term::term_value(cells, values, marks, u, codes, x, first),
         Rule::Combine(field, operator, x, y) => combine(
             cells, values, marks, u, codes, field, operator, x, y, at,
         ),
-        Rule::Remote(_, _, _, x) => term::term_value(
-            cells, values, marks, u, codes, x, second,
-        ),
+        Rule::Remote(_, _, _, x) => term::term_value(cells, values, marks, u, codes, x, second),
     }
 }
 
@@ -113,30 +109,16 @@ pub fn effect(
     u: usize,
     codes: &[u64],
     located: Located,
-) -> Evaluated
+) -> Result<Option<i32>, OutOfRange>
     requires { (u < cells.now.sizes.records) × SlotReaches cells.now.sizes values.now marks.now u codes.now located }
     ensures { Told cells.now.sizes (cells_in cells.now) values.now marks.now u
         (λ P. SlotPlaced P codes.now located) (λ read. result ≡ effect_of read (rule_in codes.now located.slot)) }
 {
     let slot = located.slot;
-    let rule = slot.rule;
-    let test = slot.test;
-    match term::test_at(
-        cells,
-        values,
-        marks,
-        u,
-        codes,
-        test,
-        located.at.test,
-    ) {
-        Tested::Fails => Evaluated::Missing,
-        Tested::OutOfRange => Evaluated::OutOfRange,
-        Tested::Holds => {
-            let at = located.at.rule;
-            expression(cells, values, marks, u, codes, rule, at)
-        }
+    if !term::test_at(cells, values, marks, u, codes, slot.test, located.at.test)? {
+        return Ok(None);
     }
+    expression(cells, values, marks, u, codes, slot.rule, located.at.rule)
 }
 
 // What a rule stores in record u. A remote one is asked for the sums that it forms.
@@ -153,8 +135,7 @@ pub fn local_write(
         × Told cells.now.sizes (cells_in cells.now) values.now marks.now u
         (λ P. SlotPlaced P codes.now located) (λ read. result ≡ write_of read (rule_in codes.now located.slot)) }
 {
-    let slot = located.slot;
-    let rule = slot.rule;
+    let rule = located.slot.rule;
     let value = effect(cells, values, marks, u, codes, located);
     write_value(rule, value)
 }
