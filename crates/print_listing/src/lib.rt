@@ -1,13 +1,16 @@
 // The lines that are printed: a register's listing, and a refusal.
 #![tactic(auto)]
 
-ghost use Rattle.std.specs.Prelude.{◌≡◌, ◌++◌, ◌<◌};
+ghost use Rattle.std.specs.Prelude.{◌≡◌, ◌++◌, ◌+◌, ◌*◌, ◌<◌, length};
+ghost use Rattle.register.specs.File.{cell_count, cells_of_file};
+ghost use Rattle.register.specs.Shape.{Limits};
 ghost use Rattle.register.specs.View.{cells_in};
 ghost use Rattle.print_page.specs.Decimal.{decimal_text};
 ghost use Rattle.print_page.specs.Put.{PageRoom, PagePut};
 ghost use Rattle.print_listing.specs.Listing.{header, in_a_row, record_line, listing, refused_line};
 
 use print_page::{put_byte, put_bytes, put_cell, put_number};
+use register::Sizes;
 use register::cells::Cells;
 
 // The refusal's number, 0 for none, and its line; the finished steps, and their exchanges and letters.
@@ -62,13 +65,15 @@ fn put_records(page: &mut [u8], at: usize, cells: &Cells<'_>) -> usize
     next
 }
 
-// The listing of a register.
-pub fn put_listing(page: &mut [u8], cells: &Cells<'_>, ran: Ran) -> usize
-    requires { PageRoom 0 (listing cells.now.sizes (cells_in cells.now) ran.finished ran.exchanges ran.letters) page.old }
-    ensures { PagePut 0 (listing cells.now.sizes (cells_in cells.now) ran.finished ran.exchanges ran.letters) page.old page.new result }
+// The listing of a register file.
+pub fn put_listing(page: &mut [u8], file: &[u8], sizes: Sizes, ran: Ran) -> usize
+    requires { Limits sizes × (length file.now ≡ 12 + 5 * cell_count sizes)
+        × PageRoom 0 (listing sizes (cells_of_file sizes file.now) ran.finished ran.exchanges ran.letters) page.old }
+    ensures { PagePut 0 (listing sizes (cells_of_file sizes file.now) ran.finished ran.exchanges ran.letters) page.old page.new result }
 {
-    let at = put_header(page, cells.sizes.records, ran);
-    put_records(page, at, cells)
+    let at = put_header(page, sizes.records, ran);
+    let cells = Cells::of(file, sizes);
+    put_records(page, at, &cells)
 }
 
 // A refusal's number, and the number behind `at`.
