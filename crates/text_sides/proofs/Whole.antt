@@ -14,6 +14,7 @@ use Rattle.text_syntax.specs.Flat as F
 use Rattle.text_syntax.specs.Flat.{empty, summary, merged}
 use Rattle.text_syntax.proofs.Scans.{merged-empty}
 use Rattle.text_codes.specs.declared.summary.Summary.{Summary}
+use Rattle.text_joins.specs.declared.Gathered.{Gathered}
 use Rattle.text_codes.specs.Summary.{summary_of}
 use Rattle.text_codes.specs.Codes.{Roomy}
 use Rattle.text_scan.specs.Scan.{ScanFormed, NoExpression}
@@ -26,8 +27,8 @@ unfolding empty
 nothing_few e n = omega (arith, ap (λ (f : F.Summary). f.operators) e)
 
 -- what was read, before which nothing was gathered
-pub whole-read : {s : Sizes} {before : Summary} {line : List ℕ} {at : ℕ} {a b : List ℕ} {count : ℕ} {g : Summary} {end to : ℕ} → summary_of before ≡ empty
-    → Roomy a line at count → ReadAs expression s 8 before line at a b count g end to → ExpressionFormed s line at a b count g end to
+pub whole-read : {s : Sizes} {before : Gathered} {line a b : List ℕ} {g : Gathered} → summary_of before.seen ≡ empty
+    → Roomy a line before.end before.used → ReadAs expression s 8 before line a b g → ExpressionFormed s line before.end a b before.used g
 whole-read {s} e r w = record {
   written = w.written;
   form_is = w.form_is;
@@ -42,7 +43,8 @@ whole-read {s} e r w = record {
 -- what is too deep, and was passed
 pub whole-passed : {s : Sizes} {line : List ℕ} {at : ℕ} {a b : List ℕ} {count : ℕ} {g : Summary} {end : ℕ} → Roomy a line at count
     → length b ≡ length a
-    → TooDeep expression 8 line at → ScanFormed s line at g end → ExpressionFormed s line at a b count g end count
+    → TooDeep expression 8 line at → ScanFormed s line at g end
+    → ExpressionFormed s line at a b count (record { seen = g; end = end; used = count })
 whole-passed r k t w = record {
   written = w.written;
   form_is = w.form_is;
@@ -58,9 +60,9 @@ pub whole-none : {line : List ℕ} {at : ℕ} → NoExpression line at → Unrea
 whole-none w = record { none = w.none }
 
 -- an expression that passes 9, 11, 12 and 24, and whose chains go over references: its codes are those of its tree
-pub whole-postfix : {s : Sizes} {line : List ℕ} {at : ℕ} {a b : List ℕ} {count : ℕ} {g : Summary} {end to : ℕ} → Limits s
-    → (w : ExpressionFormed s line at a b count g end to) → g.named ≡ true → g.kinded ≡ true → g.short ≡ true → g.ranged ≡ true → g.depth ≤ 8
-    → codes_in b count to ≡ postfix (tree_of w.written)
+pub whole-postfix : {s : Sizes} {line : List ℕ} {at : ℕ} {a b : List ℕ} {count : ℕ} {g : Gathered} → Limits s
+    → (w : ExpressionFormed s line at a b count g) → g.seen.named ≡ true → g.seen.kinded ≡ true → g.seen.short ≡ true → g.seen.ranged ≡ true
+    → g.seen.depth ≤ 8 → codes_in b count g.used ≡ postfix (tree_of w.written)
 unfolding summary
 whole-postfix {s} l w n k h r d =
     let e = w.summary_is in
