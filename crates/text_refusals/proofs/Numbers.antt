@@ -1,6 +1,7 @@
 -- The numbers of refusals are not 0, which stands for none.
 use Prim.Native.Nat.{ℕ}
-use mathlib.Core.Path.{◌≡◌, refl}
+use mathlib.Core.Path.{◌≡◌, refl, sym, ap, ◌∙◌}
+use native.Mathlib.Omega.{arith}
 use Rattle.laws.specs.Outcome.{or_else}
 use Rattle.text_refusals.specs.Number.{refusal_number}
 use Rattle.text_refusals.specs.declared.Refusal.{Refusal}
@@ -19,3 +20,7 @@ number_stands Sort m = refl
 number_stands Lines m = refl
 number_stands Depth m = refl
 number_stands Operators m = refl
+
+pub not_none : (e : Refusal) → refusal_number e ≡ 0 → ⊥
+unfolding or_else
+not_none e h = absurd (let z : ◌≡◌ {A = ℕ} 1 0 = ap (λ (n : ℕ). or_else n 1) (sym h) ∙ (number_stands e 1 ∙ h) in omega (arith, z))
