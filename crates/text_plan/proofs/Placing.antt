@@ -20,7 +20,8 @@ use Rattle.program.specs.declared.location.Locations.{Locations}
 use Rattle.program.specs.Code.{IfChain}
 use Rattle.program.specs.Location.{TermLocated, TestLocated, RuleLocated, LocatedAmong}
 use Rattle.program.specs.Terms.{TestTerms, RuleTerms, SlotTerms, TermInside, TermFormed, TermPlaced, TestPlaced, RulePlaced, SlotPlaced}
-use Rattle.text_readings.specs.Readings.{Lines, NotFull, WordPlaced, Walked}
+use Rattle.text_readings.specs.declared.Open.{Open}
+use Rattle.text_readings.specs.Readings.{NotFull, WordPlaced, Walked}
 use Rattle.text_readings.proofs.Codes.{walked_both, walked_as}
 use Rattle.text_plan.specs.Walked.{term_words, test_words, TermWalked, TermsWalked, TestWalked, RuleWalked, SlotWalked}
 use Rattle.text_plan.proofs.Words.{term_words-same, rule-words-same}
@@ -46,7 +47,7 @@ module _ {P Q : Location → List ℕ → Type 0} (codes codes' : List ℕ) (n :
   slot-changed x t h = (test-changed x.at.test x.slot.test t.0 h.0, rule-changed x.at.rule x.slot.rule t.1 h.1)
 
 -- a walk that follows leaves them where they are
-module _ {vs : List (List ℕ)} {From : ℕ → Type 0} {Found : Lines → List ℕ → Type 0} {a b : Lines} {k k' : List ℕ} (w : Walked vs From Found a k b k') (f : NotFull b)
+module _ {vs : List (List ℕ)} {From : ℕ → Type 0} {Found : Open → List ℕ → Type 0} {a b : Open} {k k' : List ℕ} (w : Walked vs From Found a k b k') (f : NotFull b)
     (n : ℕ) where
   term_stays : (at : Location) (x : Term) → TermInside n x → TermPlaced (WordPlaced a) k at x → TermPlaced (WordPlaced b) k' at x
   term_stays = term_changed k k' n (w.grown.stays f) (λ i l. w.keeps f i)
@@ -58,7 +59,7 @@ module _ {vs : List (List ℕ)} {From : ℕ → Type 0} {Found : Lines → List 
   slot-stays = slot-changed k k' n (w.grown.stays f) (λ i l. w.keeps f i)
 
 -- one term behind another, and a rule behind its test
-module _ {a b c : Lines} {k k' k'' : List ℕ} (n : ℕ) where
+module _ {a b c : Open} {k k' k'' : List ℕ} (n : ℕ) where
   pub walked_terms : (x y : Term) (at : Places) → TermInside n x → TermWalked a k b k' at.first x → TermWalked b k' c k'' at.second y
       → TermsWalked a k c k'' at x y
   walked_terms x y at t h w =
@@ -72,7 +73,7 @@ module _ {a b c : Lines} {k k' k'' : List ℕ} (n : ℕ) where
       (walked_both (λ f. test-stays w f n at.test x.test t) h w)
 
 -- a rule that is placed, and whose trees are those of expressions, is located
-module _ (a : Lines) (codes : List ℕ) where
+module _ (a : Open) (codes : List ℕ) where
   term_located : (x : Term) → TermFormed codes x → TermInside (length codes) x → (at : Location) → TermPlaced (WordPlaced a) codes at x
       → TermLocated (facts a.plan) a.wanted codes at x
   term_located (Chain c) f t at h = h.located
