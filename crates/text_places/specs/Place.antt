@@ -1,7 +1,8 @@
 -- Places of a line, by the tokens from there on.
 use Rattle.std.specs.Prelude.{ℕ, ◌≤◌, ◌<◌, ◌≡◌, Bool, true, false, List, [], ◌∷◌, length, drop, Option, Some, None}
+use Rattle.std.proofs.Math.Option.{Option as Maybe}
 use Rattle.text_syntax.specs.Token.{Token, own, becomes, colon, operator, openSquare, closeSquare, openRound, closeRound}
-use Rattle.text_syntax.specs.Kind.{is, operator_in}
+use Rattle.text_syntax.specs.Kind.{Kind, is, operator_in}
 use Rattle.text_syntax.specs.Lexing.{tokens_at}
 use Rattle.text_syntax.specs.Form.{unformed, one_of}
 use Rattle.text_words.specs.declared.token.Token.{Token as Code}
@@ -80,10 +81,17 @@ abbrev pub Passes : Bool → Bool → Token → List ℕ → ℕ → Option ℕ 
 Passes due then w line at (Some end) = Passing due then w line at end
 Passes due then w line at None = Absent due w line at
 
--- no operator stands there
-pub record NoOperator (line : List ℕ) (at : ℕ) : Type 0 where
-  pub none : one_of operator_in (tokens_from false line at) ≡ unformed
+-- no token of a kind stands there
+pub record NoneOf {A : Type 0} (kinds : Kind → Maybe A) (line : List ℕ) (at : ℕ) : Type 0 where
+  pub none : one_of kinds (tokens_from false line at) ≡ unformed
+
+-- a token of a kind stands there, and an operand is due behind it; or none does
+abbrev pub PassesOne : {A : Type 0} → (Kind → Maybe A) → (A → Token) → List ℕ → ℕ → Option (A × ℕ) → Type 0
+PassesOne kinds token line at (Some (a, end)) = Passing false true (token a) line at end
+PassesOne kinds token line at None = NoneOf kinds line at
+
+abbrev pub NoOperator : List ℕ → ℕ → Type 0
+NoOperator = NoneOf operator_in
 
 abbrev pub PassesOperator : List ℕ → ℕ → Option (Operator × ℕ) → Type 0
-PassesOperator line at (Some (o, end)) = Passing false true (operator o) line at end
-PassesOperator line at None = NoOperator line at
+PassesOperator = PassesOne operator_in operator

@@ -7,7 +7,7 @@ use Rattle.text_syntax.specs.Form.{unformed, one_of}
 use Rattle.text_syntax.specs.Grammar.{local_form}
 use Rattle.program.specs.declared.rule.Sort.{Sort}
 use Rattle.program.specs.declared.rule.Comparison.{Comparison}
-use Rattle.text_places.specs.Place.{tokens_from, Behind, Passing}
+use Rattle.text_places.specs.Place.{tokens_from, Behind, Passing, NoneOf, PassesOne}
 
 -- a capital stands at a place, where an operand is due or not, or none
 pub record Lettered (due : Bool) (l : ℕ) (line : List ℕ) (at end : ℕ) : Type 0 where
@@ -26,19 +26,17 @@ abbrev pub LetterAt : List ℕ → ℕ → Option (ℕ × ℕ) → Type 0
 LetterAt line at r = (due : Bool) → PassesLetter due line at r
 
 -- `<?=` or `+=`; `<`, `==` or `!=`
-pub record NoWrite (line : List ℕ) (at : ℕ) : Type 0 where
-  pub none : one_of write_in (tokens_from false line at) ≡ unformed
+abbrev pub NoWrite : List ℕ → ℕ → Type 0
+NoWrite = NoneOf write_in
 
 abbrev pub PassesWrite : List ℕ → ℕ → Option (Sort × ℕ) → Type 0
-PassesWrite line at (Some (k, end)) = Passing false true (write k) line at end
-PassesWrite line at None = NoWrite line at
+PassesWrite = PassesOne write_in write
 
-pub record NoComparison (line : List ℕ) (at : ℕ) : Type 0 where
-  pub none : one_of comparison_in (tokens_from false line at) ≡ unformed
+abbrev pub NoComparison : List ℕ → ℕ → Type 0
+NoComparison = NoneOf comparison_in
 
 abbrev pub PassesComparison : List ℕ → ℕ → Option (Comparison × ℕ) → Type 0
-PassesComparison line at (Some (c, end)) = Passing false true (comparison c) line at end
-PassesComparison line at None = NoComparison line at
+PassesComparison = PassesOne comparison_in comparison
 
 -- `[u] :=` stands at a place, or no letter before it begins a local rule
 pub record Assigned (line : List ℕ) (at end : ℕ) : Type 0 where
