@@ -17,6 +17,7 @@ pub fn word(a: u8, b: u8, c: u8, d: u8) -> u32
     u32::from_le_bytes([a, b, c, d])
 }
 
+#[tactic(auto, unfolding(crate::specs::Bytes::word_at))]
 pub fn word_at(s: &[u8], at: usize) -> u32
     requires { at + 4 ≤ length s.now }
     ensures { result ≡ word_at s.now at }
@@ -31,6 +32,7 @@ pub fn signed(bits: u32) -> i32
     bits.cast_signed()
 }
 
+#[tactic(auto, unfolding(crate::specs::Bytes::value_at))]
 pub fn value_at(s: &[u8], at: usize) -> i32
     requires { at + 4 ≤ length s.now }
     ensures { result ≡ value_at s.now at }
@@ -71,6 +73,7 @@ pub fn subtract(a: i32, b: i32) -> Option<i32>
 }
 
 // A value times the factor of a mark: 0 for mark 0, 1 for marks 1 and 2, without a branch on the mark.
+#[tactic(auto, unfolding(crate::specs::Factor::factor))]
 pub fn times_mark(value: i32, mark: u8) -> i32
     requires { mark ≤ 2 }
     ensures { result ≡ value *ℤ pos (factor mark) }
@@ -92,6 +95,7 @@ pub fn less(a: i32, b: i32) -> bool
     a < b
 }
 
+#[tactic(auto, unfolding(crate::specs::Range::eq_z))]
 pub fn equal(a: i32, b: i32) -> bool
     ensures { result ≡ eq_z a b }
 {
@@ -99,6 +103,7 @@ pub fn equal(a: i32, b: i32) -> bool
 }
 
 // Whether a value is an index below n.
+#[tactic(auto, unfolding(crate::specs::Range::is_index))]
 pub fn is_index(n: usize, value: i32) -> bool
     requires { n < 2147483648 }
     ensures { result ≡ is_index n value }
