@@ -1,4 +1,5 @@
-// What 9 to 12, 24 and 25 ask of the parts of a rule.
+// What 9 to 12, 24 and 25 ask of the parts of a rule. These are functions, since a method may stand only in the crate of its
+// type, and what is asked (`Checks`) and what it is asked of are types of other crates.
 #![tactic(auto)]
 
 ghost use Rattle.std.specs.Prelude.{◌≡◌};

@@ -53,6 +53,7 @@ pub fn scan(line: &[u8], at: usize, sizes: Sizes) -> Option<(Summary, usize)>
         deep: 0,
         seen: Summary::nothing(),
     };
+    // How many turns there are is known only where the expression ends.
     loop {
         state = if state.due {
             operand(line, sizes, state)?

@@ -89,11 +89,6 @@ hops-small k n h few =
     let p : 8 ^ (16 - k) ≤ 8 ^ 16 = pow-le-pow_right (omega arith) less in
     omega (arith, few, p)
 
--- where there is no room, nothing more is packed
-pub step_kept : (s : Sizes) {k : ℕ} (x : Letters) (l : ℕ) → k ≡ 0 → (step s k x l).packed ≡ x.packed
-unfolding step
-step_kept s x l e = rw e
-
 -- `]` has stood k times of n
 pub record Closing (n : ℕ) (line : List ℕ) (at k i : ℕ) : Type 0 where
   pub same : (ls : List ℕ) → closed_chain n ls (tokens_from false line at) ≡ closed_chain (n - k) ls (tokens_from false line i)

@@ -5,10 +5,10 @@ use mathlib.Core.Logic.{◌≢◌}
 use mathlib.Core.Bool.{Bool, true, false, not}
 use mathlib.Core.List.{List, [], ◌∷◌}
 use native.Mathlib.Omega.{arith}
-use borrow.Author.Tests.{ltb-true, ltb-false, lt-leb, le-leb}
 use lib.Dec.{leb, ltb}
 use lib.IntN.{ℤ}
 use lib.ListN.{length}
+use Rattle.std.proofs.lemmas.Bool.Decides.{nat_tests}
 use Rattle.register.specs.declared.Sizes.{Sizes}
 use Rattle.integers.specs.Range.{in_range, sum_of}
 use Rattle.chain_text.specs.Text.{is_reference_letter}
@@ -44,11 +44,7 @@ unfolding summary parts_of term_code term_named term_kinded term_short term_in_r
 chain_parts_lem s ls b h = rw (h, at_most 16 (length ls))
   where
     at_most : (k n : ℕ) → not (ltb k n) ≡ leb n k
-    at_most k n = go (ltb k n) refl
-      where
-        go : (x : Bool) → ltb k n ≡ x → not x ≡ leb n k
-        go true e = sym (lt-leb n k (ltb-true k n e))
-        go false e = sym (le-leb n k (ltb-false k n e))
+    at_most k n = grind (arith, nat_tests)
 
 number-parts : (s : Sizes) (negative : Bool) (x : Numeral) → number_parts (sum_of (number_value negative x)) ≡ parts_of s (number negative x)
 unfolding parts_of term_code term_named term_kinded term_short term_in_range is_reference_term sum_of

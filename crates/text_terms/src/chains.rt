@@ -33,13 +33,14 @@ fn closes(line: &[u8], at: usize, n: usize) -> Option<usize>
     ensures { ClosesAt n line.now at result }
 {
     let mut end = at;
+    // `?` leaves the loop at the first that is missing, which a fold would do no more plainly.
     for _ in 0..n {
         end = place::mark(line, end, false, Mark::CloseSquare)?;
     }
     Some(end)
 }
 
-// A chain with more hops than there is room for: of any length, so it is read by loops.
+// A chain for whose hops there is no room: of any length, so it is read by loops.
 fn overlong(line: &[u8], at: usize, sizes: Sizes, letters: Letters) -> Option<(Letters, usize)>
     requires { Limits sizes × (letters.packed + 5 ≤ 5 * 8 ^ 16) × (at ≤ length line.now) }
     ensures { ChainAt sizes 0 letters false line.now at result }
@@ -47,6 +48,7 @@ fn overlong(line: &[u8], at: usize, sizes: Sizes, letters: Letters) -> Option<(L
     let mut seen = letters;
     let mut i = at;
     let mut hops = 0;
+    // How many letters there are is known only where they end.
     loop {
         match first_link(line, i, false)? {
             Link::Letter(letter, end) => {
@@ -73,16 +75,14 @@ pub fn read(
     requires { Limits sizes × (room ≤ 16) × (letters.packed + 5 ≤ 5 * 8 ^ (16 - room)) × (at ≤ length line.now) }
     ensures { ChainAt sizes room letters false line.now at result }
 {
+    if room == 0 {
+        return overlong(line, at, sizes, letters);
+    }
     match first_link(line, at, false)? {
         Link::Own(end) => Some((letters, end)),
         Link::Letter(letter, end) => {
             let next = letters.step(sizes, room, letter);
-            let inner = if room == 0 {
-                overlong(line, end, sizes, next)
-            } else {
-                read(line, end, sizes, next, room - 1)
-            };
-            let (all, closing) = inner?;
+            let (all, closing) = read(line, end, sizes, next, room - 1)?;
             let last = place::mark(line, closing, false, Mark::CloseSquare)?;
             Some((all, last))
         }

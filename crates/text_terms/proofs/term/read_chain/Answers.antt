@@ -9,14 +9,9 @@ use Rattle.text_terms.proofs.term.read_chain.Goals as goal
 
 pub read-requires : goal.read-requires
 read-requires c =
-    let opens = rw c.in-Letter.is at c.in_ok-end.ensures in (
-      c.requires.0,
-      omega arith,
-      rw c.step-next.ensures
-          (step_small c.args.sizes 16 start _ opens.capital (λ e. omega arith) (omega arith)
-          (omega arith)),
-      opens.behind.inside,
-    )
+    let opens = rw c.in-Letter.is at c.in_ok-end.ensures in
+    let small = step_small c.args.sizes 16 start c.in-Letter.letter opens.capital (λ e. omega arith) (omega arith) (omega arith) in
+    (c.requires.0, omega arith, rw c.step-next.ensures (omega (arith, small)), opens.behind.inside)
 
 pub returns-in_err-letters-in-Letter : goal.returns-in_err-letters-in-Letter
 returns-in_err-letters-in-Letter c =
