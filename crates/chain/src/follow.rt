@@ -10,6 +10,7 @@ use register::Sizes;
 use register::cells::{Cell, Cells};
 
 // Where a field stands in a record.
+#[tactic(auto, unfolding(crate::specs::Word::column, crate::specs::Word::is_reference))]
 pub fn column(sizes: Sizes, field: usize) -> usize
     requires { (sizes.references ≤ 8) × (field < 16) }
     ensures { result ≡ columnOf sizes field }
@@ -22,6 +23,7 @@ pub fn column(sizes: Sizes, field: usize) -> usize
 }
 
 // The field of a column.
+#[tactic(auto, unfolding(crate::specs::Word::field_at, register::specs::File::width))]
 pub fn field_at(sizes: Sizes, column: usize) -> usize
     requires { Limits sizes × (column < width sizes) }
     ensures { (result ≡ field_at sizes column) × (result < 16) }

@@ -6,6 +6,7 @@ ghost use Rattle.chain.specs.Word.{read_of};
 use register::cells::Cell;
 
 // What is read of a stored cell.
+#[tactic(auto, unfolding(crate::specs::Word::read_of))]
 pub fn read_of(cell: Cell) -> Option<i32>
     ensures { result ≡ read_of cell }
 {
@@ -17,6 +18,7 @@ pub fn read_of(cell: Cell) -> Option<i32>
 }
 
 // What is read of cell j of the two arrays. It does not matter which mark a filled cell has.
+#[tactic(auto, unfolding(crate::specs::Word::read_of, register::specs::Cells::cell_at, register::specs::Cells::cell_of))]
 pub fn reading_at(cells: &[u8], filled: &[u8], j: usize) -> Option<i32>
     requires { (4 * j + 4 ≤ length cells.now) × (j < length filled.now) }
     ensures { result ≡ read_of (cell_at cells.now filled.now j) }

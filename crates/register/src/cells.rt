@@ -70,6 +70,7 @@ pub fn marks_part(file: &[u8], sizes: Sizes) -> &[u8]
 }
 
 // Cell j of the two arrays.
+#[tactic(auto, unfolding(crate::specs::Cells::cell_at, crate::specs::Cells::cell_of))]
 pub fn cell_at(cells: &[u8], filled: &[u8], j: usize) -> Cell
     requires { (4 * j + 4 ≤ length cells.now) × (j < length filled.now) }
     ensures { result ≡ cell_at cells.now filled.now j }
