@@ -27,13 +27,13 @@ loop-f-preserved c = goes_on_lem _ _ c.loop-f.invariant _ c.in_ok-check_at.ensur
 
 pub check_at-requires-in-loop-f-2 : goal.check_at-requires-in-loop-f-2
 unfolding width
-check_at-requires-in-loop-f-2 c = (c.requires, c.loop-f-2-test.true, le-ltb _ _ c.loop-f-2.auto.f)
+check_at-requires-in-loop-f-2 c = (c.requires, omega arith, le-ltb _ _ c.loop-f-2.auto.f)
 
 pub returns-in_err-check_at-2 : goal.returns-in_err-check_at-2
 unfolding record_refusal width
 returns-in_err-check_at-2 c =
     let p = err_from_is_err_and c.from_residual-in_err-check_at-2.result c.from_residual-in_err-check_at-2.ensures.1 in
-    rw (p.1, p.2) (stops _ _ c.loop-f-2.invariant _ c.loop-f-2-test.true _ c.in_err-check_at-2.ensures)
+    rw (p.1, p.2) (stops _ _ c.loop-f-2.invariant _ (omega arith) _ c.in_err-check_at-2.ensures)
 
 pub loop-f-2-preserved : goal.loop-f-2-preserved
 loop-f-2-preserved c = goes_on_lem _ _ c.loop-f-2.invariant _ c.in_ok-check_at-2.ensures
