@@ -8,7 +8,8 @@ ghost use Rattle.text_lexer.specs.Lexeme.{next_place, lexeme};
 use chain_text::letters;
 use text_words::token::Token;
 
-// A token and the place of the next one.
+// A token and the place of the next one. The end of the line and what is no token are tokens here, and no `None`, since the
+// readers tell the two apart in one `match`.
 #[derive(Clone, Copy)]
 pub struct Lexeme {
     pub token: Token,

@@ -35,7 +35,8 @@ pub fn mark(line: &[u8], at: usize, due: bool, mark: Mark) -> Option<usize>
     Some(lexer::skip_spaces(line, at + 1))
 }
 
-// An operator and the place behind it.
+// An operator and the place behind it. `write` and `comparison` of `word` differ from this in one pattern: one function over a
+// closure, with what it promises of the closure, would be longer than the three.
 pub fn operator(line: &[u8], at: usize) -> Option<(Operator, usize)>
     requires { at ≤ length line.now }
     ensures { PassesOperator line.now at result }

@@ -58,6 +58,7 @@ pub fn assigned(line: &[u8], at: usize) -> Option<usize>
 }
 
 // Whether the line ends here.
+#[tactic(auto, using(crate::proofs::Words::ends_at))]
 pub fn ends(line: &[u8], at: usize) -> bool
     requires { at ≤ length line.now }
     ensures { result ≡ is_empty (tokens_from false line.now at) }
