@@ -111,13 +111,6 @@ module _ {n : ℕ} {line : List ℕ} {at k i : ℕ} (w : Closing n line at k i) 
   unfolding closed_chain
   closing-none p = record { none = λ ls. one_more ls ∙ past-absent closeSquare _ _ p.absent }
 
-pub closing-start : (n : ℕ) {line : List ℕ} {at : ℕ} → at ≤ length line → Closing n line at 0 at
-closing-start n {line} {at} h = record {
-  same = λ ls. ap (λ (m : ℕ). closed_chain m ls (tokens_from false line at)) (omega arith);
-  onward = omega arith;
-  inside = h;
-}
-
 pub closing-done : {n : ℕ} {line : List ℕ} {at k i : ℕ} → Closing n line at k i → n ≤ k → Closes n line at i
 unfolding closed_chain
 closing-done {n} {line = line} {k = k} {i = i} w h = record {
