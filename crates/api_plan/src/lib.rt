@@ -55,6 +55,7 @@ fn fill_kinds(plan: &Plan, kinds: &mut [u8; 64])
     }
 }
 
+// Place by place, as `letter_at` has it: a line's 16 places are not a part of an array of arrays.
 fn fill_chains(plan: &Plan, chains: &mut [u8; 1024])
     ensures { PlacesHold 0 (letter_at (plan_lines plan.now)) 1024 chains.new }
 {

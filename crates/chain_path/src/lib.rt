@@ -54,7 +54,7 @@ impl Path {
     }
 
     // The path of a packed chain at record u. Its step is that of `chain::follow`, and each cell that is looked at is
-    // noted.
+    // noted. A `while`, as a packed chain is a number, which no iterator walks.
     pub fn at_record(cells: &Cells<'_>, chain: u64, u: usize) -> Path
         requires { Valid cells.now.sizes (cells_in cells.now) × (u < cells.now.sizes.records) × Passes cells.now.sizes (unpack chain) }
         ensures { HoldsPath result (path_at_record cells.now.sizes (cells_in cells.now) (unpack chain) u) }

@@ -13,7 +13,8 @@ use print_page::{put_byte, put_bytes, put_cell, put_number};
 use register::Sizes;
 use register::cells::Cells;
 
-// The refusal's number, 0 for none, and its line; the finished steps, and their exchanges and letters.
+// The refusal's number, 0 for none, and its line; the finished steps, and their exchanges and letters. They are numbers
+// here, since they are printed.
 #[derive(Clone, Copy, Debug, PartialEq, Eq)]
 pub struct Ran {
     pub refusal: u32,

@@ -1,4 +1,5 @@
-// Bytes, numbers and cells, put on the page at a place: each function answers the place behind what it put.
+// Bytes, numbers and cells, put on the page at a place: each function answers the place behind what it put. A page that
+// knows its place would have to promise its length, which a lent slice keeps, and nothing ties it to the slice where it ends.
 #![tactic(auto)]
 
 ghost use Rattle.std.specs.Prelude.{◌≡◌, [], ◌∷◌, ◌++◌};
