@@ -15,7 +15,7 @@ use Rattle.laws.proofs.Cases.{lt_or_le}
 use Rattle.plan_keys.specs.Keys.{fact_of}
 use Rattle.plan_lines.specs.Held.{facts_in, facts, HoldsLines}
 use Rattle.plan_lines.specs.declared.Plan.{Plan}
-use Rattle.plan_lines.proofs.Appending.{holds_count, holds-facts}
+use Rattle.plan_lines.proofs.Appending.{holds_count}
 use Rattle.api_plan.specs.PlanArrays.{kind_number, letter_of, kind_at, letters_at, letter_at, round_at, PlacesHold, plan_lines}
 
 -- the first i of n places hold the values of g, and those behind them d
@@ -70,10 +70,7 @@ module _ (chain hop rest : ℕ) (e : unpack rest ≡ drop hop (unpack chain)) wh
   pub letter-some : {f : ℕ} → FirstHop f (unpack rest) → letter_of f ≡ get_or (map letter_of (unpack chain)) hop 0
   letter-some h = letter-first _ h.splits
 
-module _ (p : Plan) where
-  abbrev h : HoldsLines p (facts p)
-  h = holds-facts p
-
+module _ (p : Plan) (h : HoldsLines p (facts p)) where
   -- what v makes of line i; behind the last line, of f
   line-value : {A : Type 0} (v : Fact × ℕ → A) (f : Fact) (i : ℕ)
       → get_or (map v (plan_lines p)) i (v (f, round f)) ≡ v (get_or (facts p) i f, round (get_or (facts p) i f))

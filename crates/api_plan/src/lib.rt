@@ -4,7 +4,7 @@
 ghost use Rattle.std.specs.Prelude.{◌≡◌, map, ◌<◌, get_or};
 ghost use Rattle.chain.specs.Word.{unpack};
 ghost use Rattle.plan_keys.specs.Keys.{fact_of};
-ghost use Rattle.plan_lines.specs.Held.{facts};
+ghost use Rattle.plan_lines.specs.Held.{facts, HoldsLines};
 ghost use Rattle.api_plan.specs.PlanArrays.{flag_number, kind_number, letter_of, kind_at, letter_at, round_at, plan_lines, PlacesHold, PlanArrays};
 
 use chain::packed;
@@ -47,6 +47,7 @@ fn letter_at(chain: u64, hop: u64) -> u8
 }
 
 fn fill_kinds(plan: &Plan, kinds: &mut [u8; 64])
+    requires { HoldsLines plan.now (facts plan.now) }
     ensures { PlacesHold 0 (kind_at (plan_lines plan.now)) 64 kinds.new }
 {
     *kinds = [0; 64];
@@ -57,6 +58,7 @@ fn fill_kinds(plan: &Plan, kinds: &mut [u8; 64])
 
 // Place by place, as `letter_at` has it: a line's 16 places are not a part of an array of arrays.
 fn fill_chains(plan: &Plan, chains: &mut [u8; 1024])
+    requires { HoldsLines plan.now (facts plan.now) }
     ensures { PlacesHold 0 (letter_at (plan_lines plan.now)) 1024 chains.new }
 {
     *chains = [0; 1024];
@@ -67,6 +69,7 @@ fn fill_chains(plan: &Plan, chains: &mut [u8; 1024])
 }
 
 fn fill_rounds(plan: &Plan, rounds: &mut [u8; 64])
+    requires { HoldsLines plan.now (facts plan.now) }
     ensures { PlacesHold 0 (round_at (plan_lines plan.now)) 64 rounds.new }
 {
     *rounds = [0; 64];
@@ -75,6 +78,7 @@ fn fill_rounds(plan: &Plan, rounds: &mut [u8; 64])
 
 // The three arrays of a plan's lines.
 pub fn fill(plan: &Plan, kinds: &mut [u8; 64], chains: &mut [u8; 1024], rounds: &mut [u8; 64])
+    requires { HoldsLines plan.now (facts plan.now) }
     ensures { PlanArrays (plan_lines plan.now) kinds.new chains.new rounds.new }
 {
     fill_kinds(plan, kinds);

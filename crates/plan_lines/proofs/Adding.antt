@@ -14,8 +14,11 @@ use Rattle.plan_keys.specs.Keys.{fact_of, NeedsOf}
 use Rattle.plan_lines.specs.Held.{facts, settled, HoldsLines, Extended, Added}
 use Rattle.plan_lines.specs.declared.Plan.{Plan}
 use Rattle.plan_keys.specs.declared.key.Needs.{Needs}
-use Rattle.plan_lines.proofs.Appending.{facts-count, holds-facts}
+use Rattle.plan_lines.proofs.Appending.{holds_count}
 use Rattle.plan_lines.proofs.Settled.{settled_adds, unsettled_line, unsettled_new}
+
+pub holds-facts : {p : Plan} {l : List Fact} → HoldsLines p l → HoldsLines p (facts p)
+holds-facts h = rw h.facts_are h
 
 -- an answer that is not full holds the lines; one that is full is full for more lines too
 pub extended-holds : {l : List Fact} {r : Added} → Extended l r → r.full ≡ false → HoldsLines r.plan l
@@ -27,11 +30,11 @@ extended-more {l} m e y z h =
     record { full_is = z ∙ sym (lt-ltb 64 (length m) (omega arith)); holds = λ k. absurd (omega arith) }
 
 -- a plan that already holds the lines
-pub extended-same : (p : Plan) → Extended (facts p) (record { plan = p; full = false })
-extended-same p = record { full_is = sym (le-ltb 64 (length (facts p)) (omega (arith, facts-count p, p.lined.keyed))); holds = λ k. holds-facts p }
+pub extended-same : {p : Plan} {l : List Fact} → HoldsLines p l → Extended l (record { plan = p; full = false })
+extended-same {p} {l} h = record { full_is = sym (le-ltb 64 (length l) (omega (arith, holds_count h, h.keyed))); holds = λ k. h }
 
-pub extended-settled : (p : Plan) (f : Fact) → settled (facts p) f ≡ true → Extended (add (facts p) f) (record { plan = p; full = false })
-extended-settled p f s = rw (settled_adds (facts p) f s) (extended-same p)
+pub extended-settled : {p : Plan} {l : List Fact} (f : Fact) → HoldsLines p l → settled l f ≡ true → Extended (add l f) (record { plan = p; full = false })
+extended-settled {p} {l} f h s = rw (settled_adds l f s) (extended-same h)
 
 add-length : (l : List Fact) (f : Fact) → length l ≤ length (add l f)
 add-length l f = grows_length (add_grows l f)

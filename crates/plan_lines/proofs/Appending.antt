@@ -16,8 +16,7 @@ use Rattle.plan_theory.proofs.Facts.{round-none, round-one, round-both, round-ho
 use Rattle.plan_theory.proofs.Places.{place-line, place-append-listed}
 use Rattle.plan_theory.proofs.Kept.{ordered-append, lines-append}
 use Rattle.plan_keys.specs.Keys.{fact_of}
-use Rattle.plan_lines.specs.Held.{facts_in, index, need_index, LineColumn, HoldsLines, LineOf, NeedsReady, Extended, facts}
-use Rattle.plan_lines.specs.Columns.{Lined}
+use Rattle.plan_lines.specs.Held.{facts_in, index, need_index, LineColumn, HoldsLines, LineOf, NeedsReady, Extended}
 use Rattle.plan_lines.specs.declared.Plan.{Plan}
 use Rattle.plan_lines.specs.declared.Line.{Line}
 use Rattle.plan_keys.specs.declared.key.Needs.{Needs}
@@ -30,14 +29,14 @@ unfolding facts_in
 facts-append keys n k h = rw (add-one, take-suc-set keys n k h) (map-append fact_of (take n keys) (k ∷ []))
 
 -- an array after one more entry; g may change to g' where it is the same for each line before
-column-append : {xs : List ℕ} {l : List Fact} {g : Fact → ℕ} {n : ℕ} (g' : Fact → ℕ) (f : Fact) (v : ℕ) → length l ≡ n → LineColumn xs l g → n < 64
-    → ((i : ℕ) → i < length l → g' (line l i) ≡ g (line l i)) → v ≡ g' f → LineColumn (set xs n v) (l ++ (f ∷ [])) g'
-column-append {xs} {l} {n = n} g' f v k c room same last =
+column-append : {xs : List ℕ} {l : List Fact} {g : Fact → ℕ} (g' : Fact → ℕ) (f : Fact) (v : ℕ) → LineColumn xs l g → length l < 64
+    → ((i : ℕ) → i < length l → g' (line l i) ≡ g (line l i)) → v ≡ g' f → LineColumn (set xs (length l) v) (l ++ (f ∷ [])) g'
+column-append {xs} {l} g' f v c room same last =
     record {
       places = simp length-set c.places;
-      entry = lines-append (λ i f. get_or (set xs n v) i 0 ≡ g' f) l f
-          (λ i h. get_or-set_other xs n i v 0 (λ e. omega arith) ∙ c.entry i h ∙ sym (same i h))
-          (rw k (get_or-set_same xs n v 0 (omega (arith, c.places)) ∙ last));
+      entry = lines-append (λ i f. get_or (set xs (length l) v) i 0 ≡ g' f) l f
+          (λ i h. get_or-set_other xs (length l) i v 0 (λ e. omega arith) ∙ c.entry i h ∙ sym (same i h))
+          (get_or-set_same xs (length l) v 0 (omega (arith, c.places)) ∙ last);
     }
 
 -- a need that is had keeps its line, and one without a line has none
@@ -61,45 +60,38 @@ need_append {l} m o o' f g had =
 stands_needs : {l : List Fact} {i : ℕ} {f : Fact} → Stands l i f → i < length l → 2 ≤ hops f → Had l (back_need f) × Had l (read_need f)
 stands_needs s h p = (λ q. omega (arith, s.back_before p), λ q. omega (arith, s.read_before p q))
 
--- the plan holds its own lines
-pub holds-facts : (p : Plan) → HoldsLines p (facts p)
-holds-facts p = record {
-  facts_are = refl;
-  keyed = p.lined.keyed;
-  ordered = p.lined.ordered;
-  rounds_are = p.lined.rounds_are;
-  backs_are = p.lined.backs_are;
-  reads_are = p.lined.reads_are;
-}
-
-pub facts-count : (p : Plan) → length (facts p) ≡ p.count
-facts-count p = facts-length p.keys p.count (omega (arith, p.lined.keyed))
+-- the plan with a line behind its last
+abbrev pub appended : Plan → Line → Plan
+appended p x =
+    record {
+      keys = set p.keys p.count x.key;
+      rounds = set p.rounds p.count x.round;
+      backs = set p.backs p.count x.back;
+      reads = set p.reads p.count x.read;
+      count = p.count + 1;
+    }
 
 pub holds_count : {p : Plan} {l : List Fact} → HoldsLines p l → length l ≡ p.count
-holds_count {p} h = ap length (sym h.facts_are) ∙ facts-count p
+holds_count {p} h = ap length (sym h.facts_are) ∙ facts-length p.keys p.count (omega (arith, h.keyed))
 
--- the arrays with a line behind the last
-pub lined-append : (p : Plan) (x : Line) → LineOf (facts p) x → p.count < 64
-    → Lined (set p.keys p.count x.key) (set p.rounds p.count x.round) (set p.backs p.count x.back) (set p.reads p.count x.read) (p.count + 1)
-lined-append p x n room =
-    let h = p.lined in
-    let l = facts p in
+pub holds-append : {p : Plan} {l : List Fact} {x : Line} → HoldsLines p l → LineOf l x → p.count < 64 → HoldsLines (appended p x) (l ++ (fact_of x.key ∷ []))
+holds-append {p} {l} {x} h n room =
     let f = fact_of x.key in
     let m = l ++ (f ∷ []) in
     let o = ordered-append h.ordered n.next in
-    let k = facts-count p in
+    let k = holds_count h in
     let same = need_append (f ∷ []) h.ordered o in
-    let e = facts-append p.keys p.count x.key (omega (arith, h.keyed)) in
     record {
+      facts_are = facts-append p.keys p.count x.key (omega (arith, h.keyed)) ∙ ap (λ (l : List Fact). l ++ (f ∷ [])) h.facts_are;
       keyed = record { places = simp length-set h.keyed.places; taken≤ = omega arith };
-      ordered = rw e o;
-      rounds_are = rw e (column-append round f x.round k h.rounds_are room (λ i b. refl) n.round_is);
-      backs_are = rw e
-          (column-append (λ f. need_index m f (back_need f)) f x.back k h.backs_are room
+      ordered = o;
+      rounds_are = rw (← k) (column-append round f x.round h.rounds_are (omega arith) (λ i b. refl) n.round_is);
+      backs_are = rw (← k)
+          (column-append (λ f. need_index m f (back_need f)) f x.back h.backs_are (omega arith)
           (λ i b. same (line l i) (back_need (line l i)) (λ q. (stands_needs (h.ordered i b) b q).0))
           (n.back_is ∙ sym (same f (back_need f) (λ q. (n.next.needs q).0))));
-      reads_are = rw e
-          (column-append (λ f. need_index m f (read_need f)) f x.read k h.reads_are room
+      reads_are = rw (← k)
+          (column-append (λ f. need_index m f (read_need f)) f x.read h.reads_are (omega arith)
           (λ i b. same (line l i) (read_need (line l i)) (λ q. (stands_needs (h.ordered i b) b q).1))
           (n.read_is ∙ sym (same f (read_need f) (λ q. (n.next.needs q).1))));
     }
@@ -116,15 +108,16 @@ need_round {xs} {l} g h had =
     (lt_or_le (line_index l g) (length l))
 
 -- the answer for the lines with one more: where all 64 places are taken, and where one is left
-pub extended_full : (p : Plan) (f : Fact) → p.count ≡ 64 → Extended (facts p ++ (f ∷ [])) (record { plan = p; full = true })
-extended_full p f e =
-    let k : length (facts p ++ (f ∷ [])) ≡ 65 = simp length-append (omega (arith, facts-count p)) in
-    record { full_is = sym (lt-ltb 64 (length (facts p ++ (f ∷ []))) (omega (arith, k))); holds = λ n. absurd (omega (arith, k)) }
+pub extended_full : {p : Plan} {l : List Fact} (f : Fact) → HoldsLines p l → p.count ≡ 64 → Extended (l ++ (f ∷ [])) (record { plan = p; full = true })
+extended_full {p} {l} f h e =
+    let k : length (l ++ (f ∷ [])) ≡ 65 = simp length-append (omega (arith, holds_count h)) in
+    record { full_is = sym (lt-ltb 64 (length (l ++ (f ∷ []))) (omega (arith, k))); holds = λ n. absurd (omega (arith, k)) }
 
-pub extended-append : (p q : Plan) (k : ℕ) → q.keys ≡ set p.keys p.count k → q.count ≡ p.count + 1 → Extended (facts p ++ (fact_of k ∷ [])) (record { plan = q; full = false })
-extended-append p q k e n =
-    let same : facts q ≡ facts p ++ (fact_of k ∷ []) = rw (e, n) (facts-append p.keys p.count k (omega (arith, p.lined.keyed, q.lined.keyed, n))) in
-    record { full_is = sym (le-ltb 64 _ (omega (arith, ap length same, facts-count q, q.lined.keyed))); holds = λ b. rw (← same) (holds-facts q) }
+pub extended-append : {p : Plan} {l : List Fact} {x : Line} → HoldsLines p l → LineOf l x → p.count < 64
+    → Extended (l ++ (fact_of x.key ∷ [])) (record { plan = appended p x; full = false })
+extended-append {p} {l} {x} h n room =
+    let k : length (l ++ (fact_of x.key ∷ [])) ≡ p.count + 1 = simp length-append (omega (arith, holds_count h)) in
+    record { full_is = sym (le-ltb 64 _ (omega (arith, k))); holds = λ b. holds-append h n room }
 
 -- the line of a fact of two or more hops, from the lines that its needs have
 module _ {xs : List ℕ} {l : List Fact} {k : ℕ} {needs : Needs} (h : LineColumn xs l round) (q : NeedsReady l k needs) where

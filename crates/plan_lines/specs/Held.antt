@@ -1,14 +1,16 @@
 -- What a plan of the code holds: the facts of its lines, their rounds, and which lines their needs are.
-use Rattle.std.specs.Prelude.{◌≡◌, Bool, ◌||◌, List, ℕ, ◌≤◌, ltb, length, get_or, Result, is_err}
-use Rattle.plan_theory.specs.Plan.{Fact, hops, line_from, back_need, read_need, round, listed, last_round}
+use Rattle.std.specs.Prelude.{◌≡◌, Bool, true, false, ◌||◌, List, map, ℕ, ◌≤◌, ◌<◌, ltb, length, get_or, take, Option, Some, None, cond, Result, is_err}
+use Rattle.plan_theory.specs.Plan.{Fact, hops, line_from, back_need, read_need, round, line_index, listed, last_round, line}
 use Rattle.plan_theory.specs.Promise.{Next, Ordered}
 use Rattle.plan_keys.specs.Keys.{fact_of, NeedsOf}
-unfoldable pub use Rattle.plan_lines.specs.Columns.{facts_in, place, index, need_index}
-pub use Rattle.plan_lines.specs.Columns.{Keyed, LineColumn}
 use Rattle.plan_lines.specs.declared.Plan.{Plan}
 use Rattle.plan_lines.specs.declared.Line.{Line}
 use Rattle.plan_lines.specs.declared.Full.{Full}
 use Rattle.plan_keys.specs.declared.key.Needs.{Needs}
+
+-- the facts of the first n keys
+unfoldable pub facts_in : List ℕ → ℕ → List Fact
+facts_in keys n = map fact_of (take n keys)
 
 -- the facts of a plan's lines
 abbrev pub facts : Plan → List Fact
@@ -25,6 +27,28 @@ first_line k = record { key = k; round = 1; back = 64; read = 64 }
 -- whether f adds no line to l: it has none, or is listed
 unfoldable pub settled : List Fact → Fact → Bool
 settled l f = ltb (hops f) (line_from f) || listed l f
+
+-- the line of l that brings f about, counted from 0
+unfoldable pub place : List Fact → Fact → Option ℕ
+place l f = cond (listed l f) (Some (line_index l f)) None
+
+-- the same as a number, 64 where no line does
+unfoldable pub index : List Fact → Fact → ℕ
+index l f = elim (listed l f) [ true ↦ line_index l f | false ↦ 64 ]
+
+-- the line of l that f has for its need g; 64 where f needs no line
+unfoldable pub need_index : List Fact → Fact → Fact → ℕ
+need_index l f g = elim (ltb (hops f) 2) [ true ↦ 64 | false ↦ index l g ]
+
+-- 64 places for keys, of which n are taken
+pub record Keyed (keys : List ℕ) (n : ℕ) : Type 0 where
+  pub places : length keys ≡ 64
+  pub taken≤ : n ≤ 64
+
+-- xs has 64 places, and holds g of each line of l
+pub record LineColumn (xs : List ℕ) (l : List Fact) (g : Fact → ℕ) : Type 0 where
+  pub places : length xs ≡ 64
+  pub entry : (i : ℕ) → i < length l → get_or xs i 0 ≡ g (line l i)
 
 -- r is the last round of any n lines with these rounds
 pub record LastOf (rounds : List ℕ) (n r : ℕ) : Type 0 where

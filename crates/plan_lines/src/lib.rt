@@ -1,15 +1,16 @@
 // The plan of a step's readings: its lines, their rounds, and which lines their needs are. `plan_builder` adds a reading to one.
 #![tactic(auto)]
 
-ghost use Rattle.plan_lines.specs.Columns.{Lined};
+ghost use Rattle.std.specs.Prelude.{◌≡◌, [], ◌∷◌, ◌++◌, suc, ◌≤◌, ◌<◌, max, map, length, get_or};
+ghost use Rattle.plan_theory.specs.Plan.{round as roundOf};
+ghost use Rattle.plan_theory.specs.Promise.{Ordered};
+ghost use Rattle.plan_keys.specs.Keys.{fact_of};
+ghost use Rattle.plan_lines.specs.Held.{facts, settled, place, index, first_line, Keyed, LineColumn, LineOf, NeedsReady, LastOf, HoldsLines, ExtendedTo};
 
 use plan_keys::key;
 use plan_keys::key::Needs;
 
-mod places;
-
-// At most 64 lines. Line i, from 0, has its key, its round, and the lines of its two needs, 64 where it needs none. Each line
-// stands after its needs and only once.
+// At most 64 lines. Line i, from 0, has its key, its round, and the lines of its two needs, 64 where it needs none.
 #[derive(Clone, Copy, Debug, PartialEq, Eq)]
 pub struct Plan {
     pub keys: [u64; 64],
@@ -17,7 +18,6 @@ pub struct Plan {
     pub backs: [u8; 64],
     pub reads: [u8; 64],
     pub count: usize,
-    pub ghost lined: { Lined keys rounds backs reads count },
 }
 
 // One line of a plan.
@@ -36,28 +36,24 @@ pub struct Full;
 // The line of a need that has none. It stands among the lines of the plan's arrays, so it is a number and no None.
 const NO_LINE: u8 = 64;
 
-impl Line {
-    ghost use Rattle.std.specs.Prelude.{◌≡◌};
-    ghost use Rattle.plan_lines.specs.Held.{first_line};
+// The place of a key.
+#[tactic(auto, using(crate::proofs::Search::place_first, crate::proofs::Search::place_none))]
+fn first_place(keys: &[u64], key: u64) -> Option<usize>
+    ensures { result ≡ place (map fact_of keys.now) (fact_of key) }
+{
+    keys.iter().position(|k| *k == key)
+}
 
-    // The line of Back of one hop, which needs nothing.
-    pub fn first(key: u64) -> Line
-        ensures { result ≡ first_line key }
-    {
-        Line {
-            key,
-            round: 1,
-            back: NO_LINE,
-            read: NO_LINE,
-        }
-    }
+// The same where each stands only once. The needs of a new line mostly are the last lines, so that their search begins there.
+#[tactic(auto, using(crate::proofs::Search::place_last, crate::proofs::Search::place_none))]
+fn last_place(keys: &[u64], key: u64) -> Option<usize>
+    requires { Ordered (map fact_of keys.now) }
+    ensures { result ≡ place (map fact_of keys.now) (fact_of key) }
+{
+    keys.iter().rposition(|k| *k == key)
 }
 
 impl Plan {
-    ghost use Rattle.std.specs.Prelude.{◌≡◌, [], ◌∷◌, ◌++◌, suc, ◌<◌, max, get_or};
-    ghost use Rattle.plan_keys.specs.Keys.{fact_of};
-    ghost use Rattle.plan_lines.specs.Held.{facts, settled, place, index, LineOf, NeedsReady, LastOf, HoldsLines, ExtendedTo};
-
     pub fn empty() -> Plan
         ensures { HoldsLines result [] }
     {
@@ -72,13 +68,15 @@ impl Plan {
 
     // The place of a line.
     pub fn find(&self, key: u64) -> Option<usize>
+        requires { Keyed self.now.keys self.now.count }
         ensures { result ≡ place (facts self.now) (fact_of key) }
     {
-        places::first_place(&self.keys[..self.count], key)
+        first_place(&self.keys[..self.count], key)
     }
 
     // Whether a fact adds no line: it has none, or is listed.
     pub fn is_settled(&self, key: u64) -> bool
+        requires { Keyed self.now.keys self.now.count }
         ensures { result ≡ settled (facts self.now) (fact_of key) }
     {
         !key::has_line(key) || self.find(key).is_some()
@@ -86,12 +84,13 @@ impl Plan {
 
     // The line of a need. One without a line of its own is not searched for.
     fn index_of(&self, key: u64) -> u8
+        requires { Keyed self.now.keys self.now.count × Ordered (facts self.now) }
         ensures { result ≡ index (facts self.now) (fact_of key) }
     {
         if !key::has_line(key) {
             return NO_LINE;
         }
-        match places::last_place(&self.keys[..self.count], key) {
+        match last_place(&self.keys[..self.count], key) {
             Some(i) => i as u8,
             None => NO_LINE,
         }
@@ -114,7 +113,8 @@ impl Plan {
 
     // The line of a fact whose two needs are had.
     pub fn line_after(&self, key: u64, needs: Needs) -> Line
-        requires { NeedsReady (facts self.now) key needs }
+        requires { Keyed self.now.keys self.now.count × Ordered (facts self.now)
+            × LineColumn self.now.rounds (facts self.now) roundOf × NeedsReady (facts self.now) key needs }
         ensures { (result.key ≡ key) × LineOf (facts self.now) result }
     {
         let back = self.index_of(needs.back);
@@ -130,7 +130,7 @@ impl Plan {
 
     // One line more, where there is room.
     pub fn append(&mut self, line: Line) -> Result<(), Full>
-        requires { LineOf (facts self.old) line }
+        requires { HoldsLines self.old (facts self.old) × LineOf (facts self.old) line }
         ensures { ExtendedTo (facts self.old ++ (fact_of line.key ∷ [])) self.new result }
     {
         let i = self.count;
@@ -147,6 +147,7 @@ impl Plan {
 
     // The last round, 0 where there is no line.
     pub fn last_round(&self) -> u8
+        requires { self.now.count ≤ 64 }
         ensures { LastOf self.now.rounds self.now.count result }
     {
         let mut latest: u8 = 0;
@@ -154,5 +155,17 @@ impl Plan {
             latest = latest.max(self.rounds[i]);
         }
         latest
+    }
+}
+
+// The line of Back of one hop, which needs nothing.
+pub fn first_line(key: u64) -> Line
+    ensures { result ≡ first_line key }
+{
+    Line {
+        key,
+        round: 1,
+        back: NO_LINE,
+        read: NO_LINE,
     }
 }

@@ -22,7 +22,7 @@ use Rattle.plan_lines.specs.Held.{facts, place, HoldsLines, Extended}
 use Rattle.plan_lines.proofs.Settled.{place_had}
 use Rattle.plan_lines.specs.declared.Plan.{Plan}
 use Rattle.plan_lines.proofs.Adding.{extended-holds, extended-more, extended-plan}
-use Rattle.plan_lines.proofs.Appending.{holds_count, facts-count}
+use Rattle.plan_lines.proofs.Appending.{holds_count}
 use Rattle.program.specs.declared.location.Location.{Location}
 use Rattle.program.specs.declared.location.Location.TheVariants.{Own, Cell, Line}
 use Rattle.program.specs.Location.{location_of, Wants}
@@ -107,6 +107,10 @@ wants_more wanted i (Line k) h = go (ℕ_discrete k i)
     go (yes e) = rw (← e) (get_or-set_same wanted k true false inside)
     go (no n) = get_or-set_other wanted i k true false n ∙ h
 
+-- a plan holds its own lines
+pub own-lines : {p : Plan} {l : List Fact} → HoldsLines p l → HoldsLines p (facts p)
+own-lines h = rw h.facts_are h
+
 -- a reading of several hops whose lines are added
 abbrev line_of : Plan → List ℕ → ℕ
 line_of q w = line_index (facts q) (read w)
@@ -116,13 +120,13 @@ module _ (p q : Plan) (w : List ℕ) (two : 2 ≤ length w) (held : HoldsLines q
   line-below = rw held.facts_are (omega (arith, add_had (facts p) (read w) two, holds_count held))
 
   pub line_found : place (facts q) (read w) ≡ Some (line_of q w)
-  line_found = place_had (facts q) (read w) (omega (arith, line-below, facts-count q))
+  line_found = place_had (facts q) (read w) (omega (arith, line-below, holds_count (own-lines held)))
 
   -- it is the last, if any was added
-  pub line-last : p.count < q.count → line_of q w ≡ q.count - 1
-  line-last more = rw held.facts_are
+  pub line-last : HoldsLines p (facts p) → p.count < q.count → line_of q w ≡ q.count - 1
+  line-last own more = rw held.facts_are
       (⊎_elim (λ (b : line_index (facts p) (read w) < length (facts p)).
-      absurd (omega (arith, holds_count held, facts-count p, ap length (add-listed (facts p) (read w) b)))) last
+      absurd (omega (arith, holds_count held, holds_count own, ap length (add-listed (facts p) (read w) b)))) last
       (lt_or_le (line_index (facts p) (read w)) (length (facts p))))
     where
       last : length (facts p) ≤ line_index (facts p) (read w) → line_index (add (facts p) (read w)) (read w) ≡ q.count - 1
@@ -152,46 +156,47 @@ added_over {a} w n full e = record {
 }
 
 -- or the reading's line is wanted from now on
-module _ (a : Open) (q : Plan) (w : List ℕ) (two : 2 ≤ length w) (n : a.full ≡ false) (marks : length a.wanted ≡ 64)
-    (e : Extended (add (facts a.plan) (read w)) (record { plan = q; full = false })) where
-  abbrev held : HoldsLines q (add (facts a.plan) (read w))
+module _ (a b : Open) (w : List ℕ) (two : 2 ≤ length w) (n : a.full ≡ false) (marks : length a.wanted ≡ 64) (full_is : b.full ≡ false)
+    (e : Extended (add (facts a.plan) (read w)) (record { plan = b.plan; full = false }))
+    (i : ℕ) (line_is : i ≡ line_index (facts b.plan) (read w)) (wanted_is : b.wanted ≡ set a.wanted i true) where
+  abbrev held : HoldsLines b.plan (add (facts a.plan) (read w))
   held = extended-holds e refl
 
-  abbrev at : ℕ
-  at = line_index (facts q) (read w)
+  own_count : length (facts a.plan) ≡ a.plan.count
+  own_count = holds_count (a.holds n)
 
-  abbrev with_line : Open
-  with_line = record { plan = q; wanted = set a.wanted at true; full = a.full }
+  more-lines : a.plan.count ≤ b.plan.count
+  more-lines = omega (arith, holds_count held, own_count, grows_length (add_grows (facts a.plan) (read w)))
 
-  more-lines : a.plan.count ≤ q.count
-  more-lines = omega (arith, holds_count held, facts-count a.plan, grows_length (add_grows (facts a.plan) (read w)))
-
-  stays : (x : Location) (v : List ℕ) → WordPlaced a x v → WordPlaced with_line x v
+  stays : (x : Location) (v : List ℕ) → WordPlaced a x v → WordPlaced b x v
   stays x v h =
       let (m, g) = grows_append (add_grows (facts a.plan) (read w)) in
-      let listed : is_listed (length (facts a.plan)) (location_of (facts a.plan) v) ≡ true = rw (facts-count a.plan, ← h.located.at_is) h.listed in
+      let listed : is_listed (length (facts a.plan)) (location_of (facts a.plan) v) ≡ true = rw (own_count, ← h.located.at_is) h.listed in
       record {
         located = record {
           at_is = h.located.at_is ∙ sym (listed-stays (facts a.plan) m v listed) ∙ ap (λ (l : List Fact). location_of l v) (sym (held.facts_are ∙ g));
-          wants = wants_more a.wanted at x h.located.wants;
+          wants = rw wanted_is (wants_more a.wanted i x h.located.wants);
         };
         listed = listed_more more-lines x h.listed;
       }
 
-  pub added-line : ReadingAdded w a with_line (Line at)
+  pub added-line : ReadingAdded w a b (Line i)
   unfolding is_listed
   added-line =
-      let below = line-below a.plan q w two held in
+      let below : line_index (facts b.plan) (read w) < b.plan.count = line-below a.plan b.plan w two held in
       record {
         grown = record {
           kept = λ z. n;
           more = λ z. more-lines;
-          extends = λ ws x. rw n (extended-plan ws w (extended-holds x n) e);
+          extends = λ ws x. rw full_is (extended-plan ws w (extended-holds x n) e);
           stays = λ z. stays;
         };
         found = λ z. record {
-          located = record { at_is = sym (location_line (facts q) w two); wants = get_or-set_same a.wanted at true false (omega (arith, below, marks, q.lined.keyed)) };
-          listed = lt-ltb at q.count below;
+          located = record {
+            at_is = ap Line line_is ∙ sym (location_line (facts b.plan) w two);
+            wants = rw wanted_is (get_or-set_same a.wanted i true false (omega (arith, line_is, below, marks, held.keyed)));
+          };
+          listed = lt-ltb i b.plan.count (omega (arith, line_is, below));
         };
-        numbered = omega (arith, below, q.lined.keyed);
+        numbered = omega (arith, line_is, below, held.keyed);
       }

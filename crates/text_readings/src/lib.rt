@@ -2,16 +2,14 @@
 // the line of its reading.
 #![tactic(auto)]
 
-ghost use Rattle.std.specs.Prelude.{◌≡◌, false, ◌∷◌, [], suc, ◌≤◌, ◌<◌, length, get_or};
-ghost use Rattle.chain.specs.Word.{unpack};
-ghost use Rattle.plan_lines.specs.Held.{HoldsLines};
-ghost use Rattle.program.specs.Code.{IfChain, EachChain, kind_in, chain_in};
-ghost use Rattle.text_readings.specs.Readings.{code_words, Short, WordPlaced, LineAdded, ReadingAdded, Walked};
+ghost use Rattle.std.specs.Prelude.{◌≡◌, false};
+ghost use Rattle.plan_lines.specs.Held.{facts, HoldsLines};
 
-use plan_keys::key;
-use plan_lines::{Full, Plan};
+use plan_lines::Plan;
 use program::code;
 use program::location::Location;
+
+mod line;
 
 // The largest chain of one hop.
 const ONE_HOP: u64 = 16;
@@ -23,22 +21,15 @@ pub struct Open {
     pub plan: Plan,
     pub wanted: [bool; 64],
     pub full: bool,
-}
-
-// The line of a reading of several hops, which is added where it has none. It is the last then.
-fn line_of(plan: &mut Plan, chain: u64) -> Result<usize, Full>
-    requires { (2 ≤ length (unpack chain)) × (length (unpack chain) ≤ 16) }
-    ensures { LineAdded (unpack chain) plan.old plan.new result }
-{
-    let before = plan.count;
-    plan_builder::add(plan, chain)?;
-    if before < plan.count {
-        return Ok(plan.count - 1);
-    }
-    Ok(plan.find(key::read(chain)).unwrap())
+    pub ghost holds: { full ≡ false → HoldsLines plan (facts plan) },
 }
 
 impl Open {
+    ghost use Rattle.std.specs.Prelude.{◌∷◌, [], suc, ◌≤◌, ◌<◌, length, get_or};
+    ghost use Rattle.chain.specs.Word.{unpack};
+    ghost use Rattle.program.specs.Code.{IfChain, EachChain, kind_in, chain_in};
+    ghost use Rattle.text_readings.specs.Readings.{code_words, Short, WordPlaced, ReadingAdded, Walked};
+
     // A step without a rule.
     pub fn empty() -> Open
         ensures { HoldsLines result.plan [] × (result.full ≡ false) }
@@ -58,7 +49,7 @@ impl Open {
         if self.full {
             return Location::Own;
         }
-        let Ok(line) = line_of(&mut self.plan, chain) else {
+        let Ok(line) = line::line_of(&mut self.plan, chain) else {
             self.full = true;
             return Location::Own;
         };

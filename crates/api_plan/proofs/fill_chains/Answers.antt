@@ -9,8 +9,8 @@ loop-k-init c = progress_none
 
 pub loop-k-preserved : goal.loop-k-preserved
 loop-k-preserved c =
-    let e = letter-value c.args.plan.now c.loop-k.k c.chain_of-chain.result (omega arith) c.chain_of-chain.ensures in
-    progress_next c.loop-k.invariant (omega (arith, c.args.plan.now.lined.keyed)) (c.letter_at.ensures ∙ e)
+    let e = letter-value c.args.plan.now c.requires c.loop-k.k c.chain_of-chain.result (omega arith) c.chain_of-chain.ensures in
+    progress_next c.loop-k.invariant (omega (arith, c.requires.keyed)) (c.letter_at.ensures ∙ e)
 
 pub returns : goal.returns
-returns c = progress_all c.loop-k.invariant (λ k l. letter-behind c.args.plan.now k (omega arith))
+returns c = progress_all c.loop-k.invariant (λ k l. letter-behind c.args.plan.now c.requires k (omega arith))

@@ -15,14 +15,14 @@ pub loop-i-preserved : goal.loop-i-preserved
 loop-i-preserved c =
     let p = c.args.plan.now in
     let i = c.loop-i.i in
-    let k = p.lined.keyed in
+    let k = c.requires.keyed in
     let left : i < p.count = omega (arith, c.loop-i-test.true, length-take-le p.count p.keys (omega (arith, k.taken≤, k.places))) in
     progress_next c.loop-i.invariant (omega (arith, k.taken≤, left))
-    (c.kind_number.ensures ∙ ap (λ (key : ℕ). kind_number (fact_of key)) (get_or-take p.count p.keys i 0 left) ∙ kind-value p i left)
+    (c.kind_number.ensures ∙ ap (λ (key : ℕ). kind_number (fact_of key)) (get_or-take p.count p.keys i 0 left) ∙ kind-value p c.requires i left)
 
 pub returns : goal.returns
 returns c =
     let p = c.args.plan.now in
-    let k = p.lined.keyed in
+    let k = c.requires.keyed in
     progress_all c.loop-i.invariant
-    (λ i l. kind-behind p i (omega (arith, l, c.loop-i-test.false, length-take-le p.count p.keys (omega (arith, k.taken≤, k.places)))))
+    (λ i l. kind-behind p c.requires i (omega (arith, l, c.loop-i-test.false, length-take-le p.count p.keys (omega (arith, k.taken≤, k.places)))))

@@ -5,8 +5,10 @@ use Rattle.plan_lines.proofs.Plan.line_after.Goals as goal
 
 pub round_after-round-requires : goal.round_after-round-requires
 round_after-round-requires c =
-    let rounds = c.args.self.now.lined.rounds_are in
-    (rw c.index_of-back.ensures (back_round< rounds c.requires), rw c.index_of-read.ensures (read_round< rounds c.requires))
+    let q = c.requires in
+    (rw c.index_of-back.ensures (back_round< q.2 q.3), rw c.index_of-read.ensures (read_round< q.2 q.3))
 
 pub returns : goal.returns
-returns c = (refl, line-both c.args.self.now.lined.rounds_are c.requires c.index_of-back.ensures c.index_of-read.ensures c.round_after-round.ensures)
+returns c =
+    let q = c.requires in
+    (refl, line-both q.2 q.3 c.index_of-back.ensures c.index_of-read.ensures c.round_after-round.ensures)
