@@ -41,6 +41,8 @@ module _ {s : Sizes} {p : Plan} (planned : StepPlanned s p) where
       → p.count * s.records ≤ length values → p.count * s.records ≤ length marks → GatherReady m s p wanted values marks
   planned-ready Direct wanted values marks w v k =
       record {
+        keys_length = planned.keys_length;
+        count≤ = planned.promised.count≤;
         wanted_length = w;
         follow = planned_fills;
         values_room = v;

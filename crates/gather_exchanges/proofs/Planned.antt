@@ -58,10 +58,10 @@ one-hop (f ∷ g ∷ w) some one = absurd (omega arith)
 
 module _ {s : Sizes} {p : Plan} (planned : StepPlanned s p) where
   pub planned_count : length (facts p) ≡ p.count
-  planned_count = facts-length p.keys p.count (omega (arith, p.lined.keyed))
+  planned_count = facts-length p.keys p.count (omega (arith, planned.keys_length, planned.promised.count≤))
 
   pub planned-line : (i : ℕ) → i < p.count → line (facts p) i ≡ fact_at p i
-  planned-line i b = facts-line p.keys p.count (omega (arith, p.lined.keyed)) i b
+  planned-line i b = facts-line p.keys p.count (omega (arith, planned.keys_length, planned.promised.count≤)) i b
 
   -- what is promised of line i
   module _ (i : ℕ) (b : i < p.count) where
@@ -130,7 +130,7 @@ module _ {s : Sizes} {p : Plan} (planned : StepPlanned s p) where
         }
 
   pub planned-lines : LinesReady s p
-  planned-lines = record { leads = λ j. referring s (word (fact_at p j)); each = line-stands }
+  planned-lines = record { count≤ = planned.promised.count≤; leads = λ j. referring s (word (fact_at p j)); each = line-stands }
 
   -- for the line as a fact
   module _ (i : ℕ) (h : i < length (facts p)) where
@@ -152,4 +152,4 @@ module _ {s : Sizes} {p : Plan} (planned : StepPlanned s p) where
     planned-last = omega (arith, planned-round i inside, planned.promised.to_last i inside)
 
   pub planned-rounds : LineColumn p.rounds (facts p) round
-  planned-rounds = record { places = p.lined.rounds_are.places; entry = λ i h. planned-round i (inside i h) }
+  planned-rounds = record { places = planned.rounds_length; entry = λ i h. planned-round i (inside i h) }

@@ -34,6 +34,7 @@ pub record LineStands (s : Sizes) (p : Plan) (leads : ℕ → Bool) (i : ℕ) : 
   pub read_leads : leads i ≡ true → (line_at p i).read ≢ 64 → leads (line_at p i).read ≡ true
 
 pub record LinesReady (s : Sizes) (p : Plan) : Type 0 where
+  pub count≤ : p.count ≤ 64
   pub leads : ℕ → Bool
   pub each : (i : ℕ) → i < p.count → LineStands s p leads i
 
@@ -43,8 +44,10 @@ pub record PlanReady (s : Sizes) (p : Plan) (values : List ℤ) (marks : List �
   pub values_room : p.count * s.records ≤ length values
   pub marks_room : p.count * s.records ≤ length marks
 
--- a plan that keeps its promise for readings that pass
+-- a plan that keeps its promise for readings that pass, in arrays of 64
 pub record StepPlanned (s : Sizes) (p : Plan) : Type 0 where
   pub readings : List (List ℕ)
   pub passes : Each (Passes s) readings
   pub promised : Promised readings p
+  pub keys_length : length p.keys ≡ 64
+  pub rounds_length : length p.rounds ≡ 64

@@ -15,8 +15,10 @@ pub record FollowLines (s : Sizes) (l : List Fact) : Type 0 where
   pub each : (i : ℕ) (w : List ℕ) → i < length l → line l i ≡ read w → readable s w ≡ true
   pub two : (i : ℕ) (w : List ℕ) → i < length l → line l i ≡ read w → 2 ≤ length w
 
--- 64 places that tell which lines are wanted, Read lines that can be followed, and room for their places
+-- 64 places for keys and as many that tell which lines are wanted, Read lines that can be followed, and room for their places
 pub record FollowReady (s : Sizes) (p : Plan) (wanted : List Bool) (values : List ℤ) (marks : List ℕ) : Type 0 where
+  pub keys_length : length p.keys ≡ 64
+  pub count≤ : p.count ≤ 64
   pub wanted_length : length wanted ≡ 64
   pub follow : FollowLines s (facts p)
   pub values_room : p.count * s.records ≤ length values

@@ -18,11 +18,11 @@ exchange_line-sent-requires c =
     let listed = c.loop-i-test.true in
     let lines = c.requires.plan.lines in
     let stands = lines.each _ listed in
-    (omega (arith, c.args.plan.now.lined.keyed), turn-ready c.requires _ listed c.if-plan-i.true c.loop-i.invariant, stands.has_line, stands.short)
+    (omega (arith, lines.count≤), turn-ready c.requires _ listed c.if-plan-i.true c.loop-i.invariant, stands.has_line, stands.short)
 
 pub overflow_add-sent : goal.overflow_add-sent
 overflow_add-sent c =
-    let inside : c.loop-i.i < 64 = omega (arith, c.args.plan.now.lined.keyed) in
+    let inside : c.loop-i.i < 64 = omega (arith, c.requires.plan.lines.count≤) in
     let so_far = lines-few c.loop-i.i c.loop-i.invariant in
     let here = line-below _ _ _ c.exchange_line-sent.ensures.messages in
     record { fits = omega (arith, so_far, here, mul-le-mul_right c.args.cells.now.sizes.records inside, c.args.cells.now.parts.limits.records≤) }

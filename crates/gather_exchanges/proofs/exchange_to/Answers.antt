@@ -22,7 +22,7 @@ overflow_add-sent c =
     let this : c.loop-t.t - 1 + 1 ≡ c.loop-t.t = omega arith in
     let done = to_next (c.loop-t.t - 1) c.loop-t.invariant.done (rw (← this) at c.exchange-sent.ensures) in
     let all : c.loop-t.sent + c.exchange-sent.result ≤ c.args.plan.now.count * n = rw done.messages (lines_le _ _ n) in
-    record { fits = omega (arith, all, mul-le-mul_right n c.args.plan.now.lined.keyed.taken≤, c.args.cells.now.parts.limits.records≤) }
+    record { fits = omega (arith, all, mul-le-mul_right n c.requires.1.lines.count≤, c.args.cells.now.parts.limits.records≤) }
 
 pub loop-t-preserved : goal.loop-t-preserved
 loop-t-preserved c =

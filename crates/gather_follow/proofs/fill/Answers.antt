@@ -18,7 +18,7 @@ fill_line-requires c =
     let p = c.args.plan.now in
     let ready = c.requires.1 in
     let so_far = c.loop-i.invariant in
-    let within : p.count ≤ length p.keys = omega (arith, p.lined.keyed) in
+    let within : p.count ≤ length p.keys = omega (arith, ready.keys_length, ready.count≤) in
     let this = line_by_key p.keys p.count _ within c.loop-i-test.true c.in-Read.ensures c.chain_of.ensures in
     let inside : c.loop-i.i < length (facts p) = omega (arith, facts-length p.keys p.count within) in
     let room = mul-le-mul_right c.args.cells.now.sizes.records c.loop-i-test.true in (
@@ -39,7 +39,7 @@ pub loop-i-preserved : goal.loop-i-preserved
 loop-i-preserved c =
     let p = c.args.plan.now in
     let so_far = c.loop-i.invariant in
-    let within : p.count ≤ length p.keys = omega (arith, p.lined.keyed) in
+    let within : p.count ≤ length p.keys = omega (arith, c.requires.1.keys_length, c.requires.1.count≤) in
     elim c.if-wanted-i.branch [
       | then-wanted-i+in-Read w ↦
           let this = line_by_key p.keys p.count _ within c.loop-i-test.true w.in-Read.ensures w.chain_of.ensures in

@@ -83,6 +83,8 @@ show-requires c =
         readings = readings found.rules;
         passes = readings_pass s found.rules passes.passes.each;
         promised = step-promised found.rules holds;
+        keys_length = holds.keyed.places;
+        rounds_length = holds.rounds_are.places;
       },
       room.0,
       room.1,
