@@ -1,10 +1,9 @@
 -- The expression at a place: by its depth, read with its codes or passed.
 use Prim.Native.Nat.{ℕ, ◌≤◌}
-use mathlib.Core.Path.{◌≡◌, sym, ap, subst, ◌∙◌}
+use mathlib.Core.Path.{◌≡◌, sym, ap, ◌∙◌}
 use mathlib.Core.Bool.{true}
 use mathlib.Core.List.{List}
 use native.Mathlib.Omega.{arith}
-use lib.ListN.{length}
 use Rattle.register.specs.Shape.{Limits}
 use Rattle.register.specs.declared.Sizes.{Sizes}
 use Rattle.program.specs.Code.{postfix, codes_in}
@@ -17,8 +16,7 @@ use Rattle.text_codes.specs.declared.summary.Summary.{Summary}
 use Rattle.text_joins.specs.declared.Gathered.{Gathered}
 use Rattle.text_codes.specs.Summary.{summary_of}
 use Rattle.text_codes.specs.Codes.{Roomy}
-use Rattle.text_scan.specs.Scan.{ScanFormed, NoExpression}
-use Rattle.text_expressions.specs.Reading.{AllDeep, ReadAs, Unread, TooDeep}
+use Rattle.text_expressions.specs.Reading.{ReadAs}
 use Rattle.text_sides.specs.Expression.{ExpressionFormed}
 use Rattle.text_codes.proofs.Postfix.{codes-postfix}
 
@@ -39,25 +37,6 @@ whole-read {s} e r w = record {
   inside = w.behind.inside;
   roomy = omega (arith, r, w.wrote.same_length, w.few_codes);
 }
-
--- what is too deep, and was passed
-pub whole-passed : {s : Sizes} {line : List ℕ} {at : ℕ} {a b : List ℕ} {count : ℕ} {g : Summary} {end : ℕ} → Roomy a line at count
-    → length b ≡ length a
-    → TooDeep expression 8 line at → ScanFormed s line at g end
-    → ExpressionFormed s line at a b count (record { seen = g; end = end; used = count })
-whole-passed r k t w = record {
-  written = w.written;
-  form_is = w.form_is;
-  summary_is = w.summary_is;
-  wrote = λ d. absurd (let more = subst (AllDeep 8) w.form_is t.deep in omega (arith, more, d));
-  more_codes = omega arith;
-  few_codes = omega (arith, w.onward);
-  inside = w.inside;
-  roomy = omega (arith, r, k, w.onward);
-}
-
-pub whole-none : {line : List ℕ} {at : ℕ} → NoExpression line at → Unread expression line at
-whole-none w = record { none = w.none }
 
 -- an expression that passes 9, 11, 12 and 24, and whose chains go over references: its codes are those of its tree
 pub whole-postfix : {s : Sizes} {line : List ℕ} {at : ℕ} {a b : List ℕ} {count : ℕ} {g : Gathered} → Limits s
