@@ -10,7 +10,9 @@ ghost use Rattle.plan_lines.specs.Held.{facts, settled, place, index, first_line
 use plan_keys::key;
 use plan_keys::key::Needs;
 
-// At most 64 lines. Line i, from 0, has its key, its round, and the lines of its two needs, 64 where it needs none.
+// At most 64 lines. Line i, from 0, has its key, its round, and the lines of its two needs, 64 where it needs none. It is four
+// arrays and no array of lines, since a search walks the keys alone, and the clauses and theorems of the crates above name the
+// columns.
 #[derive(Clone, Copy, Debug, PartialEq, Eq)]
 pub struct Plan {
     pub keys: [u64; 64],
