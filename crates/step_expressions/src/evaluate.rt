@@ -27,7 +27,7 @@ fn term_at(cells: &Cells<'_>, values: &[i64], marks: &[u8], u: usize, code: u64)
 }
 
 // The expression whose codes are those from..to: an operand waits until what follows it is worked out. Each that waits has an
-// operator to come, so that 64 can wait (25).
+// operator to come, so that 64 can wait (25). The array and its count stand alone: a struct of both would have this loop as its only user.
 pub fn evaluate(
     cells: &Cells<'_>,
     values: &[i64],

@@ -1,4 +1,6 @@
-// Plain rules: no term of theirs is an expression of several. A step of plain rules, as most are, is done without the codes.
+// Plain rules: no term of theirs is an expression of several. A step of plain rules, as most are, is done without the codes. So
+// `term_value` and `holds` stand beside those of step_expressions, and step_plain beside step_effects: by the general way, which
+// hands on Results, a rule at a record took 17 ns and not 2.6 (docs/DECISIONS.md).
 #![tactic(auto)]
 
 ghost use Rattle.std.specs.Prelude.{◌≡◌, ◌&&◌, ◌<◌, []};
