@@ -1,5 +1,5 @@
 // Where the reader of a text stands, and how it goes on behind a line that has passed.
-ghost use Rattle.std.specs.Prelude.{◌≡◌, ◌+◌, ◌*◌, ◌≤◌};
+ghost use Rattle.std.specs.Prelude.{◌≡◌, ◌+◌, ◌*◌, ◌≤◌, length};
 ghost use Rattle.text_state.specs.State.{start_state, frame_of, last_frame, advance_of};
 
 use crate::tally::Tally;
@@ -45,7 +45,8 @@ impl State {
     // The frame of the open step, with its plan and the lines of it that its rules read.
     #[tactic(auto, unfolding(crate::specs::State::frame_of))]
     pub fn open_frame(&self, plan: Plan, wanted: [bool; 64]) -> Frame
-        ensures { result ≡ frame_of self.now plan wanted }
+        ensures frame { result ≡ frame_of self.now plan wanted }
+        ensures sized { length result.wanted ≡ 64 }
     {
         Frame {
             rules: self.tally.rules,
