@@ -27,7 +27,8 @@ fn hop(cells: &Cells<'_>, values: &mut [i64], marks: &mut [u8], j: usize, column
     };
     let v = integers::index(number);
     scratch::copy_cell(
-        cells,
+        cells.values,
+        cells.marks,
         register::cell_index(cells.sizes, v, column),
         values,
         marks,

@@ -18,7 +18,8 @@ pub fn copy_column(cells: &Cells<'_>, values: &mut [i64], marks: &mut [u8], at: 
     let column = follow::column(sizes, field);
     for u in 0..sizes.records {
         crate::copy_cell(
-            cells,
+            cells.values,
+            cells.marks,
             register::cell_index(sizes, u, column),
             values,
             marks,

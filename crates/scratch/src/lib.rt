@@ -3,15 +3,12 @@
 
 pub mod column;
 
-ghost use Rattle.std.specs.Prelude.{◌≡◌, ◌+◌, ◌*◌, ◌<◌, pos, length, get_or, set};
+ghost use Rattle.std.specs.Prelude.{◌≡◌, ◌+◌, ◌*◌, ◌≤◌, ◌<◌, pos, length, get_or, set};
 ghost use Rattle.std.specs.Int.{w32};
 ghost use Rattle.std.proofs.Common.{SFits};
 ghost use Rattle.integers.specs.Bytes.{value_at};
-ghost use Rattle.register.specs.File.{cell_count};
 ghost use Rattle.chain.specs.Word.{reading_value};
 ghost use Rattle.scratch.specs.Places.{place_at, reading_mark};
-
-use register::cells::Cells;
 
 // What is read at place j.
 pub fn read_at(values: &[i64], marks: &[u8], j: usize) -> Option<i32>
@@ -43,18 +40,25 @@ pub fn clear(values: &mut [i64], marks: &mut [u8], j: usize)
     values[j] = 0;
 }
 
-// Cell j of a register, copied to place k: its value and its mark, whatever they are.
-pub fn copy_cell(cells: &Cells<'_>, j: usize, values: &mut [i64], marks: &mut [u8], k: usize)
-    requires { (j < cell_count cells.now.sizes) × (k < length values.old) × (k < length marks.old) }
-    ensures { (values.new ≡ set values.old k (value_at cells.now.values.now (4 * j)))
-        × (marks.new ≡ set marks.old k (get_or cells.now.marks.now j 0)) × SFits w32 (value_at cells.now.values.now (4 * j)) }
+// Cell j of a register's two arrays, copied to place k: its value and its mark, whatever they are.
+pub fn copy_cell(
+    cells: &[u8],
+    filled: &[u8],
+    j: usize,
+    values: &mut [i64],
+    marks: &mut [u8],
+    k: usize,
+)
+    requires { (4 * j + 4 ≤ length cells.now) × (j < length filled.now) × (k < length values.old) × (k < length marks.old) }
+    ensures { (values.new ≡ set values.old k (value_at cells.now (4 * j)))
+        × (marks.new ≡ set marks.old k (get_or filled.now j 0)) × SFits w32 (value_at cells.now (4 * j)) }
 {
     put(
         values,
         marks,
         k,
-        integers::widen(integers::value_at(cells.values, 4 * j)),
-        cells.marks[j],
+        integers::widen(integers::value_at(cells, 4 * j)),
+        filled[j],
     );
 }
 

@@ -28,7 +28,7 @@ pub fn begin(out: &[u8], values: &mut [i64], marks: &mut [u8], sizes: Sizes, bas
 {
     let cells = Cells::of(out, sizes);
     for j in 0..cells.marks.len() {
-        scratch::copy_cell(&cells, j, values, marks, base + j);
+        scratch::copy_cell(cells.values, cells.marks, j, values, marks, base + j);
     }
 }
 

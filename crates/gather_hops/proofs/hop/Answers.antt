@@ -3,7 +3,9 @@ use mathlib.Core.Path.{◌≡◌, sym, ap, ◌∙◌}
 use borrow.Author.Rules.{rules}
 use lib.IntN.{nat_abs}
 use Rattle.integers.proofs.Complement.{kept}
-use Rattle.register.specs.File.{cell_index}
+use Prim.Native.Nat.{◌<◌}
+use native.Mathlib.Omega.{arith}
+use Rattle.register.specs.File.{cell_index, cell_count}
 use Rattle.register.specs.View.{cells_in}
 use Rattle.register.proofs.Bounds.{cell_index-below}
 use Rattle.chain.proofs.Following.{named-index, named-below}
@@ -29,7 +31,10 @@ pub copy_cell-requires : goal.copy_cell-requires
 copy_cell-requires c =
     let index_is : c.index-v.result ≡ nat_abs c.in-Some.number = c.index-v.ensures ∙ ap nat_abs (kept c.in-Some.number (search rules)) in
     let below = named-below _ _ (sym c.in-Some.ensures) c.requires.4 in
-    (rw (c.cell_index.ensures, index_is) (cell_index-below c.args.cells.now.sizes _ _ below c.requires.0), c.requires.1, c.requires.2)
+    let inside : c.cell_index.result < cell_count c.args.cells.now.sizes =
+    rw (c.cell_index.ensures, index_is) (cell_index-below c.args.cells.now.sizes _ _ below c.requires.0) in
+    let parts = c.args.cells.now.parts in
+    (omega (arith, inside, parts.values_length), omega (arith, inside, parts.marks_length), c.requires.1, c.requires.2)
 
 pub returns : goal.returns
 unfolding referred cells_in

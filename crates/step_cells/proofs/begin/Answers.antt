@@ -20,7 +20,7 @@ pub copy_cell-requires : goal.copy_cell-requires
 copy_cell-requires c =
     let count = c.of-cells.result.parts.marks_length ∙ ap cell_count c.of-cells.ensures.0 in
     let room = room-same c.loop-j.invariant.0 c.requires.1 in
-    (omega (arith, c.of-cells.result.parts.marks_length), omega (arith, count, room.values_room), omega (arith, count, room.marks_room))
+    (omega (arith, c.of-cells.result.parts.marks_length, c.of-cells.result.parts.values_length), omega arith, omega (arith, count, room.values_room), omega (arith, count, room.marks_room))
 
 pub loop-j-preserved : goal.loop-j-preserved
 loop-j-preserved c =

@@ -2,7 +2,8 @@
 use mathlib.Core.Path.{◌≡◌, refl, ap, ◌∙◌}
 use native.Mathlib.Omega.{arith}
 use Rattle.register.specs.View.{cells_in}
-use Rattle.register.specs.File.{cell_index}
+use Prim.Native.Nat.{◌<◌}
+use Rattle.register.specs.File.{cell_index, cell_count}
 use Rattle.register.proofs.Bounds.{cell_index-below}
 use Rattle.chain.specs.Word.{column, read_cell}
 use Rattle.chain.proofs.Following.{column-below}
@@ -27,8 +28,11 @@ cell_index-requires c =
 pub copy_cell-requires : goal.copy_cell-requires
 copy_cell-requires c =
     let cells = c.args.cells.now in
-    let inside = column-below _ cells.parts.limits _ c.requires.0 in (
-      rw (c.cell_index.ensures, c.column-column.ensures) (cell_index-below cells.sizes c.loop-u.u _ c.loop-u-test.true inside),
+    let inside = column-below _ cells.parts.limits _ c.requires.0 in
+    let below : c.cell_index.result < cell_count cells.sizes =
+    rw (c.cell_index.ensures, c.column-column.ensures) (cell_index-below cells.sizes c.loop-u.u _ c.loop-u-test.true inside) in (
+      omega (arith, below, cells.parts.values_length),
+      omega (arith, below, cells.parts.marks_length),
       omega (arith, c.loop-u.invariant.values_length),
       omega (arith, c.loop-u.invariant.marks_length),
     )
