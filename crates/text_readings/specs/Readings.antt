@@ -33,10 +33,13 @@ is_listed n Own = true
 is_listed n (Cell f) = true
 is_listed n (Line i) = ltb i n
 
--- a word located among the lines, which have its line
-pub record WordPlaced (a : Open) (at : Location) (w : List ℕ) : Type 0 where
-  pub located : WordLocated (facts a.plan) a.wanted at w
-  pub listed : is_listed a.plan.count at ≡ true
+-- a word located among the lines of a plan, which has its line
+pub record PlacedIn (p : Plan) (wanted : List Bool) (at : Location) (w : List ℕ) : Type 0 where
+  pub located : WordLocated (facts p) wanted at w
+  pub listed : is_listed p.count at ≡ true
+
+abbrev pub WordPlaced : Open → Location → List ℕ → Type 0
+WordPlaced a = PlacedIn a.plan a.wanted
 
 -- whatever readings a is the plan of, b is the plan of those and vs behind them; a word that is placed stays where it is
 pub record Grown (vs : List (List ℕ)) (a b : Open) : Type 0 where
