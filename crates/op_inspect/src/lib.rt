@@ -40,10 +40,10 @@ pub fn inspect(
     ensures { InspectAnswered (inspection file.now text.now step (length values.old) (length marks.old))
         file.now t values.old marks.old values.new marks.new result }
 {
-    let planned = step::plan_step(file, text, step);
-    if planned.refusal != 0 {
-        return refused(planned.refusal, planned.line);
-    }
+    let planned = match step::plan_step(file, text, step) {
+        Ok(planned) => planned,
+        Err(why) => return refused(why.refusal.number(), why.line),
+    };
     let sizes = register::sizes_of(file);
     if op_limits::is_short(sizes, planned.most, values.len(), marks.len()) {
         return refused(19, 0);
