@@ -18,6 +18,17 @@ use Rattle.program.specs.Kept.{steps_in, program_of, FrameOf, AllLocated, Comple
 use Rattle.program.specs.declared.Program as R
 use Rattle.program.proofs.Frames.{frame_at}
 
+-- what a place behind the last frame would hold
+abbrev pub no_frame : Frame
+no_frame = record {
+  rules = 0;
+  remote = false;
+  fields = [];
+  setting = Single;
+  plan = record { keys = []; rounds = []; backs = []; reads = []; count = 0 };
+  wanted = [];
+}
+
 -- step i has the rules of its 32 places, and its frame's setting
 steps-at : (codes : List ℕ) (slots : List Located) (fs : List Frame) (i : ℕ) (d : Step) (e : Frame) → i < length fs
     → get_or (steps_in codes slots fs) i d ≡ record { rules = rules_in codes (get_or fs i e).rules (take 32 (drop (32 * i) slots)); setting = (get_or fs i e).setting }

@@ -44,7 +44,7 @@ use Rattle.run_turn.specs.declared.Begun.{Begun}
 use Rattle.run_turn.specs.Turned.{GoesOn, TurnBegun}
 use Rattle.gather_exchanges.specs.Lines.{StepPlanned}
 use Rattle.run_steps.specs.Answer.{Scratch}
-use Rattle.run_steps.proofs.Arrays.{StepAt, step-at, slots_at, slots_length, slot_at, taken_next}
+use Rattle.run_steps.proofs.Arrays.{no_frame, StepAt, step-at, slots_at, slots_length, slot_at, taken_next}
 use Rattle.run_steps.proofs.Finding.{followed, LinesHold, filled-lines, all_ready, all_agree}
 use Rattle.run_steps.proofs.Loops.{Taken, LocalsLeft}
 use Rattle.run_steps.proofs.Standing.{no_step, Stands, StandsBy, here, comes}
@@ -58,13 +58,13 @@ lines-most (x ∷ xs) (suc i) d h = omega (arith, lines-most xs i d (omega arith
 
 -- the frame and the rules that are held are those of a step, and a flag tells whether these are plain
 pub record Held (slots : List Located) (frames : List Frame) (step : ℕ) (f : Frame) (rules : List Located) (plain : Bool) : Type 0 where
-  pub frame_is : f ≡ get_or frames step f
+  pub frame_is : f ≡ get_or frames step no_frame
   pub rules_are : Taken slots step f.rules rules f.rules
   pub plain_are : AllPlain plain (take f.rules rules)
 
 module _ {slots : List Located} {frames : List Frame} {step : ℕ} {f g : Frame} {rules rules' : List Located} {plain plain' : Bool} where
   -- they are taken anew
-  pub held-anew : {k : ℕ} → g ≡ get_or frames step g → Taken slots step g.rules rules k × AllPlain plain (take k rules) → g.rules ≤ k
+  pub held-anew : {k : ℕ} → g ≡ get_or frames step no_frame → Taken slots step g.rules rules k × AllPlain plain (take k rules) → g.rules ≤ k
       → rules' ≡ rules → f ≡ g → plain' ≡ plain → Held slots frames step f rules' plain'
   held-anew {k} e (h, a) l p q r =
       let all : k ≡ g.rules = omega (arith, h.k≤) in
@@ -95,7 +95,7 @@ plain_more {plain} rules k x y h q a e =
 pub record Turn (m : Machine) (s : Sizes) (codes : List ℕ) (p : R.Program) (budget : ℕ) (file : List ℕ) (run : Progress)
     (out : List ℕ) (values : List ℤ) (marks : List ℕ) (f : Frame) : Type 0 where
   pub nowhere : run.stop ≡ Ok tt
-  pub held : f ≡ get_or p.frames run.step f
+  pub held : f ≡ get_or p.frames run.step no_frame
   pub complete : Complete codes p
   pub passes : ProgramPasses s (program_of codes p)
   pub few-lines : p.lines ≤ 64
@@ -109,7 +109,7 @@ pub turn_at : {m : Machine} {s : Sizes} {codes : List ℕ} {p : R.Program} {budg
     {out : List ℕ} {values values₀ : List ℤ} {marks marks₀ : List ℕ} {f : Frame} {goes : Bool}
     → Register s file → Scratch s p.lines values₀ marks₀ → Complete codes p → ProgramPasses s (program_of codes p)
     → StandsBy m s (steps_in codes p.slots (take p.steps p.frames)) (p.lines * s.records) budget file run out values marks
-    → GoesOn run p.steps budget goes → goes ≡ true → f ≡ get_or p.frames run.step f → Turn m s codes p budget file run out values marks f
+    → GoesOn run p.steps budget goes → goes ≡ true → f ≡ get_or p.frames run.step no_frame → Turn m s codes p budget file run out values marks f
 unfolding program_of
 turn_at register scratch complete passes by going goes held =
     let nowhere = going.nowhere goes in
@@ -166,7 +166,7 @@ module _ {m : Machine} {s : Sizes} {codes : List ℕ} {p : R.Program} {budget : 
   rs = step_here.rules
 
   pub at-step : StepAt codes p run.step frame step_here
-  at-step = subst (λ (g : Frame). StepAt codes p run.step g step_here) (sym a.held) (step-at codes p run.step no_step f a.complete a.more)
+  at-step = rw a.held (step-at codes p run.step no_step no_frame a.complete a.more)
 
   pub step-passes : StepPasses s step_here
   step-passes = running_passes t.running (comes t inside) a.passes
@@ -203,6 +203,8 @@ module _ {m : Machine} {s : Sizes} {codes : List ℕ} {p : R.Program} {budget : 
         readings = readings rs;
         passes = readings_pass s rs step-passes.rules.each;
         promised = step-promised rs holds;
+        keys_length = holds.keyed.places;
+        rounds_length = holds.rounds_are.places;
       }
 
   lines-room : frame.plan.count * s.records ≤ at

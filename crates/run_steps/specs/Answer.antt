@@ -12,7 +12,6 @@ use Rattle.machine_messages.specs.By.{exchanges_by, messages_by}
 use Rattle.machine_messages.specs.declared.Machine.{Machine}
 use Rattle.std.specs.Prelude.{Ok, Err}
 use Rattle.step_cells.specs.Stop.{Stop}
-use Rattle.step_cells.specs.declared.stop.Offence.{Offence}
 use Rattle.gather.specs.declared.counts.Counts.{Counts}
 use Rattle.run_steps.specs.declared.RunAnswer.{RunAnswer}
 

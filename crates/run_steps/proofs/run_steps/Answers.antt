@@ -1,10 +1,10 @@
 -- `run_steps::run_steps` meets its contract. The loop over the steps keeps where the run of the definition stands; a step's rules are
 -- taken out of the slots, and then done for each record, each rule in order.
 use Prim.Native.Nat.{◌*◌, ◌≤◌, ◌<◌}
-use mathlib.Core.Path.{◌≡◌, refl, sym, ap, ◌∙◌}
+use mathlib.Core.Path.{◌≡◌, refl, sym, ◌∙◌}
 use mathlib.Core.List.{[]}
 use native.Mathlib.Omega.{arith}
-use lib.ListN.{length, get_or}
+use lib.ListN.{length}
 use Rattle.program.specs.Kept.{program_of}
 use Rattle.step_cells.proofs.Working.{same_then}
 use Rattle.step_rules.proofs.Locals.{plain_at, plain_ready}
@@ -44,52 +44,52 @@ bounds-frames-step c = omega (arith, c.goes_on.ensures.left c.loop-sizes-test.tr
 -- Its rules are taken out.
 pub loop-k-init : goal.loop-k-init
 loop-k-init c =
-    let t = turn_at c.requires.0 c.requires.1 c.requires.2 c.requires.3 c.loop-sizes.invariant.0 c.goes_on.ensures c.loop-sizes-test.true (ap (get_or c.args.frames c.loop-sizes.run.step) c.index-frames-step.is) in
+    let t = turn_at c.requires.0 c.requires.1 c.requires.2 c.requires.3 c.loop-sizes.invariant.0 c.goes_on.ensures c.loop-sizes-test.true refl in
     (taken_first t _ c.loop-sizes.invariant.1, λ e. tt)
 
 pub overflow_mul-rules : goal.overflow_mul-rules
 overflow_mul-rules c =
-    let t = turn_at c.requires.0 c.requires.1 c.requires.2 c.requires.3 c.loop-sizes.invariant.0 c.goes_on.ensures c.loop-sizes-test.true (ap (get_or c.args.frames c.loop-sizes.run.step) c.index-frames-step.is) in
+    let t = turn_at c.requires.0 c.requires.1 c.requires.2 c.requires.3 c.loop-sizes.invariant.0 c.goes_on.ensures c.loop-sizes-test.true refl in
     record { fits = omega (arith, few-steps t) }
 
 pub overflow_add-rules : goal.overflow_add-rules
 overflow_add-rules c =
-    let t = turn_at c.requires.0 c.requires.1 c.requires.2 c.requires.3 c.loop-sizes.invariant.0 c.goes_on.ensures c.loop-sizes-test.true (ap (get_or c.args.frames c.loop-sizes.run.step) c.index-frames-step.is) in
+    let t = turn_at c.requires.0 c.requires.1 c.requires.2 c.requires.3 c.loop-sizes.invariant.0 c.goes_on.ensures c.loop-sizes-test.true refl in
     record { fits = omega (arith, few-steps t, few-rules t, c.loop-k-test.true) }
 
 pub offset_bounds-slots-step : goal.offset_bounds-slots-step
 offset_bounds-slots-step c =
-    let t = turn_at c.requires.0 c.requires.1 c.requires.2 c.requires.3 c.loop-sizes.invariant.0 c.goes_on.ensures c.loop-sizes-test.true (ap (get_or c.args.frames c.loop-sizes.run.step) c.index-frames-step.is) in
+    let t = turn_at c.requires.0 c.requires.1 c.requires.2 c.requires.3 c.loop-sizes.invariant.0 c.goes_on.ensures c.loop-sizes-test.true refl in
     record { fits = omega (arith, few-steps t, few-rules t, c.loop-k-test.true) }
 
 pub bounds-slots-step : goal.bounds-slots-step
 bounds-slots-step c =
-    let t = turn_at c.requires.0 c.requires.1 c.requires.2 c.requires.3 c.loop-sizes.invariant.0 c.goes_on.ensures c.loop-sizes-test.true (ap (get_or c.args.frames c.loop-sizes.run.step) c.index-frames-step.is) in
+    let t = turn_at c.requires.0 c.requires.1 c.requires.2 c.requires.3 c.loop-sizes.invariant.0 c.goes_on.ensures c.loop-sizes-test.true refl in
     omega (arith, few-steps t, few-rules t, c.loop-k-test.true)
 
 pub offset_bounds-rules-k : goal.offset_bounds-rules-k
 offset_bounds-rules-k c =
-    let t = turn_at c.requires.0 c.requires.1 c.requires.2 c.requires.3 c.loop-sizes.invariant.0 c.goes_on.ensures c.loop-sizes-test.true (ap (get_or c.args.frames c.loop-sizes.run.step) c.index-frames-step.is) in
+    let t = turn_at c.requires.0 c.requires.1 c.requires.2 c.requires.3 c.loop-sizes.invariant.0 c.goes_on.ensures c.loop-sizes-test.true refl in
     record { fits = omega (arith, few-rules t, c.loop-k-test.true) }
 
 pub offset_bounds-rules-k-in-loop-k : goal.offset_bounds-rules-k-in-loop-k
 offset_bounds-rules-k-in-loop-k c =
-    let t = turn_at c.requires.0 c.requires.1 c.requires.2 c.requires.3 c.loop-sizes.invariant.0 c.goes_on.ensures c.loop-sizes-test.true (ap (get_or c.args.frames c.loop-sizes.run.step) c.index-frames-step.is) in
+    let t = turn_at c.requires.0 c.requires.1 c.requires.2 c.requires.3 c.loop-sizes.invariant.0 c.goes_on.ensures c.loop-sizes-test.true refl in
     record { fits = omega (arith, few-rules t, c.loop-k-test.true) }
 
 pub overflow_step-k : goal.overflow_step-k
 overflow_step-k c =
-    let t = turn_at c.requires.0 c.requires.1 c.requires.2 c.requires.3 c.loop-sizes.invariant.0 c.goes_on.ensures c.loop-sizes-test.true (ap (get_or c.args.frames c.loop-sizes.run.step) c.index-frames-step.is) in
+    let t = turn_at c.requires.0 c.requires.1 c.requires.2 c.requires.3 c.loop-sizes.invariant.0 c.goes_on.ensures c.loop-sizes-test.true refl in
     record { fits = omega (arith, few-rules t, c.loop-k-test.true) }
 
 pub bounds-rules-k : goal.bounds-rules-k
 bounds-rules-k c =
-    let t = turn_at c.requires.0 c.requires.1 c.requires.2 c.requires.3 c.loop-sizes.invariant.0 c.goes_on.ensures c.loop-sizes-test.true (ap (get_or c.args.frames c.loop-sizes.run.step) c.index-frames-step.is) in
+    let t = turn_at c.requires.0 c.requires.1 c.requires.2 c.requires.3 c.loop-sizes.invariant.0 c.goes_on.ensures c.loop-sizes-test.true refl in
     omega (arith, few-rules t, c.loop-k-test.true)
 
 pub bounds-rules-k-in-loop-k : goal.bounds-rules-k-in-loop-k
 bounds-rules-k-in-loop-k c =
-    let t = turn_at c.requires.0 c.requires.1 c.requires.2 c.requires.3 c.loop-sizes.invariant.0 c.goes_on.ensures c.loop-sizes-test.true (ap (get_or c.args.frames c.loop-sizes.run.step) c.index-frames-step.is) in
+    let t = turn_at c.requires.0 c.requires.1 c.requires.2 c.requires.3 c.loop-sizes.invariant.0 c.goes_on.ensures c.loop-sizes-test.true refl in
     omega (arith, few-rules t, c.loop-k-test.true)
 
 pub loop-k-smaller : goal.loop-k-smaller
@@ -97,7 +97,7 @@ loop-k-smaller c = nearer c.loop-k-test.true
 
 pub loop-k-preserved : goal.loop-k-preserved
 loop-k-preserved c =
-    let t = turn_at c.requires.0 c.requires.1 c.requires.2 c.requires.3 c.loop-sizes.invariant.0 c.goes_on.ensures c.loop-sizes-test.true (ap (get_or c.args.frames c.loop-sizes.run.step) c.index-frames-step.is) in
+    let t = turn_at c.requires.0 c.requires.1 c.requires.2 c.requires.3 c.loop-sizes.invariant.0 c.goes_on.ensures c.loop-sizes-test.true refl in
     let inside : c.loop-k.k < length c.loop-k.rules = omega (arith, few-rules t, c.loop-k.invariant.0.length_is, c.loop-k-test.true) in
     (taken_more t c.loop-k.invariant.0 c.loop-k-test.true _, plain_more _ _ _ _ inside c.stay_plain-plain.ensures c.loop-k.invariant.1)
 
@@ -107,7 +107,7 @@ pub begin-begun-requires : goal.begin-begun-requires
 begin-begun-requires c =
     let held : Held c.args.slots c.args.frames c.loop-sizes.run.step c.if-taken-step.frame c.if-taken-step.rules c.if-taken-step.plain =
     elim c.if-taken-step.branch [
-      | then-taken-step+else-loop-k-test w ↦ held-anew (ap (get_or c.args.frames c.loop-sizes.run.step) w.index-frames-step.is) w.loop-k.invariant w.loop-k-test.false w.rules-is w.frame-is w.plain-is
+      | then-taken-step+else-loop-k-test w ↦ held-anew refl w.loop-k.invariant w.loop-k-test.false w.rules-is w.frame-is w.plain-is
       | else-taken-step w ↦
           let same : c.loop-sizes.taken ≡ c.loop-sizes.run.step = omega (arith, w.if-taken-step.false) in
           held_still (c.loop-sizes.invariant.5 (omega (arith, same, c.goes_on.ensures.left c.loop-sizes-test.true))) same w.rules-is w.frame-is w.plain-is
@@ -126,7 +126,7 @@ pub offset_bounds-rules-k-then-plain : goal.offset_bounds-rules-k-then-plain
 offset_bounds-rules-k-then-plain c =
     let held : Held c.args.slots c.args.frames c.loop-sizes.run.step c.if-taken-step.frame c.if-taken-step.rules c.if-taken-step.plain =
     elim c.if-taken-step.branch [
-      | then-taken-step+else-loop-k-test w ↦ held-anew (ap (get_or c.args.frames c.loop-sizes.run.step) w.index-frames-step.is) w.loop-k.invariant w.loop-k-test.false w.rules-is w.frame-is w.plain-is
+      | then-taken-step+else-loop-k-test w ↦ held-anew refl w.loop-k.invariant w.loop-k-test.false w.rules-is w.frame-is w.plain-is
       | else-taken-step w ↦
           let same : c.loop-sizes.taken ≡ c.loop-sizes.run.step = omega (arith, w.if-taken-step.false) in
           held_still (c.loop-sizes.invariant.5 (omega (arith, same, c.goes_on.ensures.left c.loop-sizes-test.true))) same w.rules-is w.frame-is w.plain-is
@@ -139,7 +139,7 @@ pub offset_bounds-rules-k-else-plain : goal.offset_bounds-rules-k-else-plain
 offset_bounds-rules-k-else-plain c =
     let held : Held c.args.slots c.args.frames c.loop-sizes.run.step c.if-taken-step.frame c.if-taken-step.rules c.if-taken-step.plain =
     elim c.if-taken-step.branch [
-      | then-taken-step+else-loop-k-test w ↦ held-anew (ap (get_or c.args.frames c.loop-sizes.run.step) w.index-frames-step.is) w.loop-k.invariant w.loop-k-test.false w.rules-is w.frame-is w.plain-is
+      | then-taken-step+else-loop-k-test w ↦ held-anew refl w.loop-k.invariant w.loop-k-test.false w.rules-is w.frame-is w.plain-is
       | else-taken-step w ↦
           let same : c.loop-sizes.taken ≡ c.loop-sizes.run.step = omega (arith, w.if-taken-step.false) in
           held_still (c.loop-sizes.invariant.5 (omega (arith, same, c.goes_on.ensures.left c.loop-sizes-test.true))) same w.rules-is w.frame-is w.plain-is
@@ -152,7 +152,7 @@ pub bounds-rules-k-then-plain : goal.bounds-rules-k-then-plain
 bounds-rules-k-then-plain c =
     let held : Held c.args.slots c.args.frames c.loop-sizes.run.step c.if-taken-step.frame c.if-taken-step.rules c.if-taken-step.plain =
     elim c.if-taken-step.branch [
-      | then-taken-step+else-loop-k-test w ↦ held-anew (ap (get_or c.args.frames c.loop-sizes.run.step) w.index-frames-step.is) w.loop-k.invariant w.loop-k-test.false w.rules-is w.frame-is w.plain-is
+      | then-taken-step+else-loop-k-test w ↦ held-anew refl w.loop-k.invariant w.loop-k-test.false w.rules-is w.frame-is w.plain-is
       | else-taken-step w ↦
           let same : c.loop-sizes.taken ≡ c.loop-sizes.run.step = omega (arith, w.if-taken-step.false) in
           held_still (c.loop-sizes.invariant.5 (omega (arith, same, c.goes_on.ensures.left c.loop-sizes-test.true))) same w.rules-is w.frame-is w.plain-is
@@ -165,7 +165,7 @@ pub bounds-rules-k-else-plain : goal.bounds-rules-k-else-plain
 bounds-rules-k-else-plain c =
     let held : Held c.args.slots c.args.frames c.loop-sizes.run.step c.if-taken-step.frame c.if-taken-step.rules c.if-taken-step.plain =
     elim c.if-taken-step.branch [
-      | then-taken-step+else-loop-k-test w ↦ held-anew (ap (get_or c.args.frames c.loop-sizes.run.step) w.index-frames-step.is) w.loop-k.invariant w.loop-k-test.false w.rules-is w.frame-is w.plain-is
+      | then-taken-step+else-loop-k-test w ↦ held-anew refl w.loop-k.invariant w.loop-k-test.false w.rules-is w.frame-is w.plain-is
       | else-taken-step w ↦
           let same : c.loop-sizes.taken ≡ c.loop-sizes.run.step = omega (arith, w.if-taken-step.false) in
           held_still (c.loop-sizes.invariant.5 (omega (arith, same, c.goes_on.ensures.left c.loop-sizes-test.true))) same w.rules-is w.frame-is w.plain-is
@@ -178,7 +178,7 @@ pub apply_plain-stop-requires : goal.apply_plain-stop-requires
 apply_plain-stop-requires c =
     let held : Held c.args.slots c.args.frames c.loop-sizes.run.step c.if-taken-step.frame c.if-taken-step.rules c.if-taken-step.plain =
     elim c.if-taken-step.branch [
-      | then-taken-step+else-loop-k-test w ↦ held-anew (ap (get_or c.args.frames c.loop-sizes.run.step) w.index-frames-step.is) w.loop-k.invariant w.loop-k-test.false w.rules-is w.frame-is w.plain-is
+      | then-taken-step+else-loop-k-test w ↦ held-anew refl w.loop-k.invariant w.loop-k-test.false w.rules-is w.frame-is w.plain-is
       | else-taken-step w ↦
           let same : c.loop-sizes.taken ≡ c.loop-sizes.run.step = omega (arith, w.if-taken-step.false) in
           held_still (c.loop-sizes.invariant.5 (omega (arith, same, c.goes_on.ensures.left c.loop-sizes-test.true))) same w.rules-is w.frame-is w.plain-is
@@ -197,7 +197,7 @@ pub apply_rule-stop-requires : goal.apply_rule-stop-requires
 apply_rule-stop-requires c =
     let held : Held c.args.slots c.args.frames c.loop-sizes.run.step c.if-taken-step.frame c.if-taken-step.rules c.if-taken-step.plain =
     elim c.if-taken-step.branch [
-      | then-taken-step+else-loop-k-test w ↦ held-anew (ap (get_or c.args.frames c.loop-sizes.run.step) w.index-frames-step.is) w.loop-k.invariant w.loop-k-test.false w.rules-is w.frame-is w.plain-is
+      | then-taken-step+else-loop-k-test w ↦ held-anew refl w.loop-k.invariant w.loop-k-test.false w.rules-is w.frame-is w.plain-is
       | else-taken-step w ↦
           let same : c.loop-sizes.taken ≡ c.loop-sizes.run.step = omega (arith, w.if-taken-step.false) in
           held_still (c.loop-sizes.invariant.5 (omega (arith, same, c.goes_on.ensures.left c.loop-sizes-test.true))) same w.rules-is w.frame-is w.plain-is
@@ -214,7 +214,7 @@ pub overflow_step-k-in-loop-k-2 : goal.overflow_step-k-in-loop-k-2
 overflow_step-k-in-loop-k-2 c =
     let held : Held c.args.slots c.args.frames c.loop-sizes.run.step c.if-taken-step.frame c.if-taken-step.rules c.if-taken-step.plain =
     elim c.if-taken-step.branch [
-      | then-taken-step+else-loop-k-test w ↦ held-anew (ap (get_or c.args.frames c.loop-sizes.run.step) w.index-frames-step.is) w.loop-k.invariant w.loop-k-test.false w.rules-is w.frame-is w.plain-is
+      | then-taken-step+else-loop-k-test w ↦ held-anew refl w.loop-k.invariant w.loop-k-test.false w.rules-is w.frame-is w.plain-is
       | else-taken-step w ↦
           let same : c.loop-sizes.taken ≡ c.loop-sizes.run.step = omega (arith, w.if-taken-step.false) in
           held_still (c.loop-sizes.invariant.5 (omega (arith, same, c.goes_on.ensures.left c.loop-sizes-test.true))) same w.rules-is w.frame-is w.plain-is
@@ -229,7 +229,7 @@ pub loop-k-2-preserved : goal.loop-k-2-preserved
 loop-k-2-preserved c =
     let held : Held c.args.slots c.args.frames c.loop-sizes.run.step c.if-taken-step.frame c.if-taken-step.rules c.if-taken-step.plain =
     elim c.if-taken-step.branch [
-      | then-taken-step+else-loop-k-test w ↦ held-anew (ap (get_or c.args.frames c.loop-sizes.run.step) w.index-frames-step.is) w.loop-k.invariant w.loop-k-test.false w.rules-is w.frame-is w.plain-is
+      | then-taken-step+else-loop-k-test w ↦ held-anew refl w.loop-k.invariant w.loop-k-test.false w.rules-is w.frame-is w.plain-is
       | else-taken-step w ↦
           let same : c.loop-sizes.taken ≡ c.loop-sizes.run.step = omega (arith, w.if-taken-step.false) in
           held_still (c.loop-sizes.invariant.5 (omega (arith, same, c.goes_on.ensures.left c.loop-sizes-test.true))) same w.rules-is w.frame-is w.plain-is
@@ -247,7 +247,7 @@ pub overflow_step-u : goal.overflow_step-u
 overflow_step-u c =
     let held : Held c.args.slots c.args.frames c.loop-sizes.run.step c.if-taken-step.frame c.if-taken-step.rules c.if-taken-step.plain =
     elim c.if-taken-step.branch [
-      | then-taken-step+else-loop-k-test w ↦ held-anew (ap (get_or c.args.frames c.loop-sizes.run.step) w.index-frames-step.is) w.loop-k.invariant w.loop-k-test.false w.rules-is w.frame-is w.plain-is
+      | then-taken-step+else-loop-k-test w ↦ held-anew refl w.loop-k.invariant w.loop-k-test.false w.rules-is w.frame-is w.plain-is
       | else-taken-step w ↦
           let same : c.loop-sizes.taken ≡ c.loop-sizes.run.step = omega (arith, w.if-taken-step.false) in
           held_still (c.loop-sizes.invariant.5 (omega (arith, same, c.goes_on.ensures.left c.loop-sizes-test.true))) same w.rules-is w.frame-is w.plain-is
@@ -267,7 +267,7 @@ pub apply-sent-requires : goal.apply-sent-requires
 apply-sent-requires c =
     let held : Held c.args.slots c.args.frames c.loop-sizes.run.step c.if-taken-step.frame c.if-taken-step.rules c.if-taken-step.plain =
     elim c.if-taken-step.branch [
-      | then-taken-step+else-loop-k-test w ↦ held-anew (ap (get_or c.args.frames c.loop-sizes.run.step) w.index-frames-step.is) w.loop-k.invariant w.loop-k-test.false w.rules-is w.frame-is w.plain-is
+      | then-taken-step+else-loop-k-test w ↦ held-anew refl w.loop-k.invariant w.loop-k-test.false w.rules-is w.frame-is w.plain-is
       | else-taken-step w ↦
           let same : c.loop-sizes.taken ≡ c.loop-sizes.run.step = omega (arith, w.if-taken-step.false) in
           held_still (c.loop-sizes.invariant.5 (omega (arith, same, c.goes_on.ensures.left c.loop-sizes-test.true))) same w.rules-is w.frame-is w.plain-is
@@ -297,7 +297,7 @@ pub finish-run-requires : goal.finish-run-requires
 finish-run-requires c =
     let held : Held c.args.slots c.args.frames c.loop-sizes.run.step c.if-taken-step.frame c.if-taken-step.rules c.if-taken-step.plain =
     elim c.if-taken-step.branch [
-      | then-taken-step+else-loop-k-test w ↦ held-anew (ap (get_or c.args.frames c.loop-sizes.run.step) w.index-frames-step.is) w.loop-k.invariant w.loop-k-test.false w.rules-is w.frame-is w.plain-is
+      | then-taken-step+else-loop-k-test w ↦ held-anew refl w.loop-k.invariant w.loop-k-test.false w.rules-is w.frame-is w.plain-is
       | else-taken-step w ↦
           let same : c.loop-sizes.taken ≡ c.loop-sizes.run.step = omega (arith, w.if-taken-step.false) in
           held_still (c.loop-sizes.invariant.5 (omega (arith, same, c.goes_on.ensures.left c.loop-sizes-test.true))) same w.rules-is w.frame-is w.plain-is
@@ -326,7 +326,7 @@ pub loop-sizes-smaller : goal.loop-sizes-smaller
 loop-sizes-smaller c =
     let held : Held c.args.slots c.args.frames c.loop-sizes.run.step c.if-taken-step.frame c.if-taken-step.rules c.if-taken-step.plain =
     elim c.if-taken-step.branch [
-      | then-taken-step+else-loop-k-test w ↦ held-anew (ap (get_or c.args.frames c.loop-sizes.run.step) w.index-frames-step.is) w.loop-k.invariant w.loop-k-test.false w.rules-is w.frame-is w.plain-is
+      | then-taken-step+else-loop-k-test w ↦ held-anew refl w.loop-k.invariant w.loop-k-test.false w.rules-is w.frame-is w.plain-is
       | else-taken-step w ↦
           let same : c.loop-sizes.taken ≡ c.loop-sizes.run.step = omega (arith, w.if-taken-step.false) in
           held_still (c.loop-sizes.invariant.5 (omega (arith, same, c.goes_on.ensures.left c.loop-sizes-test.true))) same w.rules-is w.frame-is w.plain-is
@@ -356,7 +356,7 @@ unfolding program_of
 loop-sizes-preserved c =
     let held : Held c.args.slots c.args.frames c.loop-sizes.run.step c.if-taken-step.frame c.if-taken-step.rules c.if-taken-step.plain =
     elim c.if-taken-step.branch [
-      | then-taken-step+else-loop-k-test w ↦ held-anew (ap (get_or c.args.frames c.loop-sizes.run.step) w.index-frames-step.is) w.loop-k.invariant w.loop-k-test.false w.rules-is w.frame-is w.plain-is
+      | then-taken-step+else-loop-k-test w ↦ held-anew refl w.loop-k.invariant w.loop-k-test.false w.rules-is w.frame-is w.plain-is
       | else-taken-step w ↦
           let same : c.loop-sizes.taken ≡ c.loop-sizes.run.step = omega (arith, w.if-taken-step.false) in
           held_still (c.loop-sizes.invariant.5 (omega (arith, same, c.goes_on.ensures.left c.loop-sizes-test.true))) same w.rules-is w.frame-is w.plain-is
