@@ -10,17 +10,20 @@ use chain_path::Path;
 use register::cells::Cell;
 
 // The value of a cell, 0 where it is missing.
+#[tactic(auto, unfolding(register::specs::Cells::value_of))]
 fn value_of(cell: Cell) -> i64
     ensures { result ≡ value_of cell }
 {
     match cell {
         Cell::Missing => 0,
-        Cell::Measured(value) => integers::widen(value),
-        Cell::WorkedOut(value) => integers::widen(value),
+        // An arm each: rattle proves no arm of two patterns that bind a signed number.
+        Cell::Measured(value) => i64::from(value),
+        Cell::WorkedOut(value) => i64::from(value),
     }
 }
 
 // The mark of a cell, as the file has it.
+#[tactic(auto, unfolding(register::specs::Cells::mark_of))]
 fn mark_of(cell: Cell) -> u8
     ensures { result ≡ mark_of cell }
 {
@@ -33,26 +36,23 @@ fn mark_of(cell: Cell) -> u8
 
 // The four arrays of a path's hops.
 pub fn fill(
-    path: Path,
+    path: &Path,
     records: &mut [u64; 16],
     fields: &mut [u8; 16],
     values: &mut [i64; 16],
     marks: &mut [u8; 16],
 )
-    requires { HoldsPath path (hops_of path) }
-    ensures { PathArrays (hops_of path) records.new fields.new values.new marks.new }
+    requires { HoldsPath path.now (hops_of path.now) }
+    ensures { PathArrays (hops_of path.now) records.new fields.new values.new marks.new }
 {
-    let count = path.count;
     *records = [0; 16];
     *fields = [0; 16];
     *values = [0; 16];
     *marks = [0; 16];
-    for i in 0..count {
-        let hop = path.hops[i];
-        let cell = hop.cell;
+    for (i, hop) in path.listed().iter().enumerate() {
         records[i] = hop.u as u64;
         fields[i] = api_plan::letter(hop.field as u64);
-        values[i] = value_of(cell);
-        marks[i] = mark_of(cell);
+        values[i] = value_of(hop.cell);
+        marks[i] = mark_of(hop.cell);
     }
 }

@@ -24,7 +24,7 @@ pub record Progress {A : Type 0} (d : A) (g : ℕ → A) (n i : ℕ) (xs : List 
   pub filled : PlacesHold d g i xs
   pub cleared : (k : ℕ) → i ≤ k → get_or xs k d ≡ d
 
-cleared_all : {A : Type 0} (d : A) (n k : ℕ) → get_or (replicate n d) k d ≡ d
+pub cleared_all : {A : Type 0} (d : A) (n k : ℕ) → get_or (replicate n d) k d ≡ d
 cleared_all d zero k = refl
 cleared_all d (suc n) zero = refl
 cleared_all d (suc n) (suc k) = cleared_all d n k
@@ -70,7 +70,7 @@ module _ (chain hop rest : ℕ) (e : unpack rest ≡ drop hop (unpack chain)) wh
   pub letter-some : {f : ℕ} → FirstHop f (unpack rest) → letter_of f ≡ get_or (map letter_of (unpack chain)) hop 0
   letter-some h = letter-first _ h.splits
 
-module _ {p : Plan} (h : HoldsLines p (facts p)) where
+module _ (p : Plan) (h : HoldsLines p (facts p)) where
   -- what v makes of line i; behind the last line, of f
   line-value : {A : Type 0} (v : Fact × ℕ → A) (f : Fact) (i : ℕ)
       → get_or (map v (plan_lines p)) i (v (f, round f)) ≡ v (get_or (facts p) i f, round (get_or (facts p) i f))

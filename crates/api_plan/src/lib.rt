@@ -16,8 +16,7 @@ use plan_lines::Plan;
 fn kind_number(key: u64) -> u8
     ensures { result ≡ kind_number (fact_of key) }
 {
-    let kind = key::kind_of(key);
-    match kind {
+    match key::kind_of(key) {
         Kind::Back => 0,
         Kind::Read => 1,
     }
@@ -47,44 +46,40 @@ fn letter_at(chain: u64, hop: u64) -> u8
     }
 }
 
-fn fill_kinds(plan: Plan, kinds: &mut [u8; 64])
-    requires { HoldsLines plan (facts plan) }
-    ensures { PlacesHold 0 (kind_at (plan_lines plan)) 64 kinds.new }
+fn fill_kinds(plan: &Plan, kinds: &mut [u8; 64])
+    requires { HoldsLines plan.now (facts plan.now) }
+    ensures { PlacesHold 0 (kind_at (plan_lines plan.now)) 64 kinds.new }
 {
-    let count = plan.count;
     *kinds = [0; 64];
-    for i in 0..count {
-        kinds[i] = kind_number(plan.keys[i]);
+    for (i, key) in plan.keys[..plan.count].iter().enumerate() {
+        kinds[i] = kind_number(*key);
     }
 }
 
-fn fill_chains(plan: Plan, chains: &mut [u8; 1024])
-    requires { HoldsLines plan (facts plan) }
-    ensures { PlacesHold 0 (letter_at (plan_lines plan)) 1024 chains.new }
+// Place by place, as `letter_at` has it: a line's 16 places are not a part of an array of arrays.
+fn fill_chains(plan: &Plan, chains: &mut [u8; 1024])
+    requires { HoldsLines plan.now (facts plan.now) }
+    ensures { PlacesHold 0 (letter_at (plan_lines plan.now)) 1024 chains.new }
 {
-    let end = 16 * plan.count;
     *chains = [0; 1024];
-    for k in 0..end {
+    for k in 0..16 * plan.count {
         let chain = key::chain_of(plan.keys[k / 16]);
         chains[k] = letter_at(chain, (k % 16) as u64);
     }
 }
 
-fn fill_rounds(plan: Plan, rounds: &mut [u8; 64])
-    requires { HoldsLines plan (facts plan) }
-    ensures { PlacesHold 0 (round_at (plan_lines plan)) 64 rounds.new }
+fn fill_rounds(plan: &Plan, rounds: &mut [u8; 64])
+    requires { HoldsLines plan.now (facts plan.now) }
+    ensures { PlacesHold 0 (round_at (plan_lines plan.now)) 64 rounds.new }
 {
-    let count = plan.count;
     *rounds = [0; 64];
-    for i in 0..count {
-        rounds[i] = plan.rounds[i];
-    }
+    rounds[..plan.count].copy_from_slice(&plan.rounds[..plan.count]);
 }
 
 // The three arrays of a plan's lines.
-pub fn fill(plan: Plan, kinds: &mut [u8; 64], chains: &mut [u8; 1024], rounds: &mut [u8; 64])
-    requires { HoldsLines plan (facts plan) }
-    ensures { PlanArrays (plan_lines plan) kinds.new chains.new rounds.new }
+pub fn fill(plan: &Plan, kinds: &mut [u8; 64], chains: &mut [u8; 1024], rounds: &mut [u8; 64])
+    requires { HoldsLines plan.now (facts plan.now) }
+    ensures { PlanArrays (plan_lines plan.now) kinds.new chains.new rounds.new }
 {
     fill_kinds(plan, kinds);
     fill_chains(plan, chains);
@@ -92,8 +87,9 @@ pub fn fill(plan: Plan, kinds: &mut [u8; 64], chains: &mut [u8; 1024], rounds: &
 }
 
 // A flag as a number: whether a remote exchange follows.
+#[tactic(auto, unfolding(crate::specs::PlanArrays::flag_number))]
 pub fn flag_number(flag: bool) -> u64
     ensures { result ≡ flag_number flag }
 {
-    if flag { 1 } else { 0 }
+    u64::from(flag)
 }

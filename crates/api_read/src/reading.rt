@@ -1,14 +1,12 @@
 // A reading's answer as numbers.
 ghost use Rattle.std.specs.Prelude.{◌≡◌};
 ghost use Rattle.op_read.specs.Reading.{reading_outcome};
-ghost use Rattle.laws.specs.Outcome.{done, refused as refused_with};
 ghost use Rattle.api_read.specs.Numbers.{read_numbers};
 
-use chain::reading::Reading;
-use op_read::ReadingAnswer;
+use op_read::ReadingRefusal;
 
 // The numbers of a reading's answer.
-#[derive(Clone, Copy)]
+#[derive(Clone, Copy, Debug, PartialEq, Eq)]
 pub struct ReadNumbers {
     pub number: u32,
     pub line: u64,
@@ -16,43 +14,31 @@ pub struct ReadNumbers {
     pub filled: u64,
 }
 
-fn refused(number: u32, line: u64) -> ReadNumbers
-    ensures { result ≡ read_numbers (refused_with number line) }
-{
-    ReadNumbers {
-        number,
-        line,
+impl ReadNumbers {
+    // Those of a missing reading.
+    const MISSING: ReadNumbers = ReadNumbers {
+        number: 0,
+        line: 0,
         value: 0,
         filled: 0,
-    }
+    };
 }
 
-fn read(reading: Reading) -> ReadNumbers
-    ensures { result ≡ read_numbers (done reading) }
-{
-    match reading {
-        Reading::Missing => ReadNumbers {
-            number: 0,
-            line: 0,
-            value: 0,
-            filled: 0,
-        },
-        Reading::Value(value) => ReadNumbers {
-            number: 0,
-            line: 0,
-            value: integers::widen(value),
-            filled: 1,
-        },
-    }
-}
-
-pub fn numbers(answer: ReadingAnswer) -> ReadNumbers
+#[tactic(auto, unfolding(crate::specs::Numbers::read_numbers, op_read::specs::Reading::reading_outcome))]
+pub fn numbers(answer: Result<Option<i32>, ReadingRefusal>) -> ReadNumbers
     ensures { result ≡ read_numbers (reading_outcome answer) }
 {
     match answer {
-        ReadingAnswer::Read(reading) => read(reading),
-        ReadingAnswer::Register(refusal) => refused(register_load::number_of(refusal), 0),
-        ReadingAnswer::Chain(refusal) => refused(op_read::number_of(refusal), 1),
-        ReadingAnswer::Record => refused(16, 0),
+        Ok(None) => ReadNumbers::MISSING,
+        Ok(Some(value)) => ReadNumbers {
+            value: i64::from(value),
+            filled: 1,
+            ..ReadNumbers::MISSING
+        },
+        Err(refusal) => ReadNumbers {
+            number: refusal.number(),
+            line: refusal.line(),
+            ..ReadNumbers::MISSING
+        },
     }
 }

@@ -20,14 +20,15 @@ pub fn plot_path(
         (record { records = records.old; fields = fields.old; values = values.old; marks = marks.old })
         (record { records = records.new; fields = fields.new; values = values.new; marks = marks.new }) }
 {
-    let found = op_path::reading_path(file, text, u);
-    if found.refusal != 0 {
-        *answer = [found.line, 0, 0, 0, 0, 0, 0, 0];
-        return found.refusal;
+    match op_path::reading_path(file, text, u) {
+        Ok(path) => {
+            api_path::fill(&path, records, fields, values, marks);
+            *answer = [0, 0, 0, 0, 0, 0, path.count as u64, 0];
+            0
+        }
+        Err(refusal) => {
+            *answer = [refusal.line(), 0, 0, 0, 0, 0, 0, 0];
+            refusal.number()
+        }
     }
-    let path = found.path;
-    let count = path.count;
-    api_path::fill(path, records, fields, values, marks);
-    *answer = [0, 0, 0, 0, 0, 0, count as u64, 0];
-    0
 }

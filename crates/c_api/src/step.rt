@@ -18,14 +18,16 @@ pub fn plot_plan(
         (record { kinds = kinds.old; chains = chains.old; rounds = rounds.old })
         (record { kinds = kinds.new; chains = chains.new; rounds = rounds.new }) }
 {
-    let found = op_check::step::plan_step(file, text, step);
-    if found.refusal != 0 {
-        *answer = [found.line as u64, 0, 0, 0, 0, 0, 0, 0];
-        return found.refusal;
-    }
+    let found = match op_check::step::plan_step(file, text, step) {
+        Ok(found) => found,
+        Err(refused) => {
+            *answer = [refused.line as u64, 0, 0, 0, 0, 0, 0, 0];
+            return refused.refusal.number();
+        }
+    };
     let plan = found.plan;
     let count = plan.count;
-    api_plan::fill(plan, kinds, chains, rounds);
+    api_plan::fill(&plan, kinds, chains, rounds);
     *answer = [
         0,
         0,

@@ -1,5 +1,6 @@
 -- Following a packed chain, hop by hop.
-use Prim.Native.Nat.{ℕ, ◌+◌, ◌-◌, ◌≤◌, ◌<◌}
+use Rattle.std.specs.Prelude.{None, Some}
+use Prim.Native.Nat.{ℕ, ◌+◌, ◌-◌, ◌<◌}
 use mathlib.Core.Path.{◌≡◌, refl, sym, ap, subst, ◌∙◌}
 use mathlib.Core.Logic.{◌≢◌, ⊎_elim}
 use mathlib.Core.Bool.{true, ◌&&◌}
@@ -19,8 +20,7 @@ use Rattle.register.specs.declared.Sizes.{Sizes}
 use Rattle.register.specs.declared.cells.Cell.{Cell}
 use Rattle.register.proofs.Bounds.{cell_index-below}
 use Rattle.register.proofs.Arrays.{cells_of-at}
-use Rattle.chain.specs.declared.reading.Reading.{Reading}
-use Rattle.chain.specs.declared.reading.Reading.TheVariants.{Missing, Value}
+use Rattle.chain.specs.Reading.{Reading}
 use Rattle.chain.specs.Word.{is_reference, has_field, readable, column, field_at, field_cell, read_cell, hop, follow, value_at_record, refers_to}
 use Rattle.chain.proofs.Fields.{or_cases}
 use Rattle.chain.proofs.ReadOf.{read_refers}
@@ -57,7 +57,7 @@ cell_field s values marks p u f j hu hf e =
     ap (cell_at values marks) e ∙ sym (cells_of-at values marks (cell_index s u (column s f)) (omega (arith, p.marks_length)))
 
 -- where nothing is read, nothing is read behind it
-pub follow_missing : (s : Sizes) (cells : List Cell) (w : List ℕ) → follow s cells Missing w ≡ Missing
+pub follow_missing : (s : Sizes) (cells : List Cell) (w : List ℕ) → follow s cells None w ≡ None
 unfolding follow hop
 follow_missing s cells [] = refl
 follow_missing s cells (f ∷ w) = follow_missing s cells w
@@ -81,12 +81,12 @@ module _ (s : Sizes) {f : ℕ} where
       go (g ∷ r) h = (and_both (ltb f s.references) (readable s (g ∷ r)) h).1
 
 -- a record's own number
-pub own_refers : (n u : ℕ) → u < n → refers_to n (Value (pos u)) ≡ true
+pub own_refers : (n u : ℕ) → u < n → refers_to n (Some (pos u)) ≡ true
 unfolding refers_to is_index
 own_refers n u h = simp (le-leb 0 u (omega arith), lt-ltb u n h)
 
 -- the record that a reading names
-module _ (n : ℕ) (z : ℤ) {x : Reading} (e : x ≡ Value z) (r : refers_to n x ≡ true) where
+module _ (n : ℕ) (z : ℤ) {x : Reading} (e : x ≡ Some z) (r : refers_to n x ≡ true) where
   named : (z ≡ pos (nat_abs z)) × (nat_abs z < n)
   unfolding refers_to
   named = index_is n z (sym (ap (refers_to n) e) ∙ r)
@@ -98,7 +98,7 @@ module _ (n : ℕ) (z : ℤ) {x : Reading} (e : x ≡ Value z) (r : refers_to n 
   named-below = named.1
 
 -- one hop: from the record that a value names
-pub hop-value : (s : Sizes) (cells : List Cell) {x : Reading} {z : ℤ} {k : ℕ} (f : ℕ) → x ≡ Value z → k ≡ nat_abs z
+pub hop-value : (s : Sizes) (cells : List Cell) {x : Reading} {z : ℤ} {k : ℕ} (f : ℕ) → x ≡ Some z → k ≡ nat_abs z
     → read_cell s cells k f ≡ hop s cells x f
 unfolding hop
 hop-value s cells f e q = ap (λ (k : ℕ). read_cell s cells k f) q ∙ sym (ap (λ (x : Reading). hop s cells x f) e)
@@ -107,8 +107,8 @@ module _ {s : Sizes} {cells : List Cell} where
   -- from a record to a record, by a reference field
   pub hop_refers : Valid s cells → (x : Reading) (f : ℕ) → f < s.references → refers_to s.records x ≡ true → refers_to s.records (hop s cells x f) ≡ true
   unfolding hop refers_to read_cell column is_reference
-  hop_refers v Missing f l h = refl
-  hop_refers v (Value z) f l h =
+  hop_refers v None f l h = refl
+  hop_refers v (Some z) f l h =
       rw (lt-ltb f 8 (omega (arith, v.limits.references≤)))
       (read_refers s.records _ ∙ v.references (nat_abs z) f (index_is s.records z h).1 l)
 
@@ -118,7 +118,7 @@ pub record Underway (s : Sizes) (cells : List Cell) (goal : Reading) (rest : Lis
   pub refers : rest ≢ [] → refers_to s.records x ≡ true
 
 module _ {s : Sizes} {cells : List Cell} where
-  pub underway-first : (w : List ℕ) (u : ℕ) → u < s.records → Underway s cells (value_at_record s cells w u) w (Value (pos u))
+  pub underway-first : (w : List ℕ) (u : ℕ) → u < s.records → Underway s cells (value_at_record s cells w u) w (Some (pos u))
   unfolding value_at_record
   underway-first w u h = record { same = refl; refers = λ n. own_refers s.records u h }
 
@@ -142,5 +142,5 @@ module _ {s : Sizes} {cells : List Cell} where
     unfolding follow
     underway-last e = sym (ap (follow s cells x) e) ∙ p.same
 
-    pub underway_missing : x ≡ Missing → Missing ≡ goal
+    pub underway_missing : x ≡ None → None ≡ goal
     underway_missing e = sym (ap (λ (x : Reading). follow s cells x w) e ∙ follow_missing s cells w) ∙ p.same

@@ -1,4 +1,5 @@
 -- What is read of a stored cell: it refers where the cell does, and has the cell's value.
+use Rattle.std.specs.Prelude.{Some}
 use Prim.Native.Nat.{ℕ, zero, suc}
 use mathlib.Core.Path.{◌≡◌, refl, ap}
 use mathlib.Core.Logic.{◌≢◌}
@@ -8,7 +9,6 @@ use Rattle.register.specs.Shape.{refers_within}
 use Rattle.register.specs.declared.cells.Cell.{Cell}
 use Rattle.register.specs.declared.cells.Cell.TheVariants.{Missing, Measured, WorkedOut}
 use Rattle.register.proofs.Arrays.{cell_of-worked}
-use Rattle.chain.specs.declared.reading.Reading.TheVariants as R
 use Rattle.chain.specs.Word.{read_of, refers_to, reading_value}
 
 pub read_refers : (n : ℕ) (c : Cell) → refers_to n (read_of c) ≡ refers_within n c
@@ -24,7 +24,7 @@ read-value (Measured z) = refl
 read-value (WorkedOut z) = refl
 
 -- of a value with any mark but 0 the value is read
-pub read-filled : (z : ℤ) (mark : ℕ) → mark ≢ 0 → read_of (cell_of z mark) ≡ R.Value z
+pub read-filled : (z : ℤ) (mark : ℕ) → mark ≢ 0 → read_of (cell_of z mark) ≡ Some z
 unfolding read_of cell_of
 read-filled z zero h = absurd (h refl)
 read-filled z (suc zero) h = refl

@@ -1,13 +1,13 @@
 -- A chain as its hop word: the fields from the inside out. Fields 0 to 7 are the references A to H, 8 to 15 the measures
 -- M to T. A word packed into one number is how programs and plans hold a chain.
+use Rattle.std.specs.Prelude.{None, Some}
 use Rattle.std.specs.Prelude.{ℕ, zero, suc, ◌+◌, ◌-◌, ◌*◌, ◌/◌, ◌%◌, ◌≤◌, ◌<◌, ◌≡◌, Bool, true, cond, ◌&&◌, ◌||◌, List, [], ◌∷◌, leb, ltb, eqb, ℤ, pos, nat_abs, length, get_or, drop}
 use Rattle.integers.specs.Range.{is_index}
 use Rattle.register.specs.File.{cell_index}
 use Rattle.register.specs.declared.Sizes.{Sizes}
 use Rattle.register.specs.declared.cells.Cell.{Cell}
 use Rattle.register.specs.declared.cells.Cell.TheVariants.{Missing as Unfilled, Measured, WorkedOut}
-use Rattle.chain.specs.declared.reading.Reading.{Reading}
-use Rattle.chain.specs.declared.reading.Reading.TheVariants.{Missing, Value}
+use Rattle.chain.specs.Reading.{Reading}
 
 -- whether a field is one of the references A to H
 unfoldable pub is_reference : ℕ → Bool
@@ -38,9 +38,9 @@ field_at s c = cond (ltb c s.references) c (8 + (c - s.references))
 
 -- what is read of a stored cell: nothing of an unfilled one, and of a filled one its value, measured or worked out
 unfoldable pub read_of : Cell → Reading
-read_of Unfilled = Missing
-read_of (Measured z) = Value z
-read_of (WorkedOut z) = Value z
+read_of Unfilled = None
+read_of (Measured z) = Some z
+read_of (WorkedOut z) = Some z
 
 -- the cell of record u and field f
 abbrev pub field_cell : Sizes → List Cell → ℕ → ℕ → Cell
@@ -52,8 +52,8 @@ read_cell s cells u f = read_of (field_cell s cells u f)
 
 -- one hop: on from the record that a reading refers to; where nothing is read, nothing is read behind it
 unfoldable pub hop : Sizes → List Cell → Reading → ℕ → Reading
-hop s cells Missing f = Missing
-hop s cells (Value z) f = read_cell s cells (nat_abs z) f
+hop s cells None f = None
+hop s cells (Some z) f = read_cell s cells (nat_abs z) f
 
 -- "Its value at a record is found by following hop by hop"
 unfoldable pub follow : Sizes → List Cell → Reading → List ℕ → Reading
@@ -62,17 +62,17 @@ follow s cells x (f ∷ w) = follow s cells (hop s cells x f) w
 
 -- the value of a chain at record u: at `u` alone the record's own number
 unfoldable pub value_at_record : Sizes → List Cell → List ℕ → ℕ → Reading
-value_at_record s cells w u = follow s cells (Value (pos u)) w
+value_at_record s cells w u = follow s cells (Some (pos u)) w
 
 -- whether a reading leads to one of n records
 unfoldable pub refers_to : ℕ → Reading → Bool
-refers_to n Missing = true
-refers_to n (Value z) = is_index n z
+refers_to n None = true
+refers_to n (Some z) = is_index n z
 
 -- the value that is read, 0 where none is
 unfoldable pub reading_value : Reading → ℤ
-reading_value Missing = pos 0
-reading_value (Value z) = z
+reading_value None = pos 0
+reading_value (Some z) = z
 
 -- one more hop in front of a packed word
 unfoldable pub push : ℕ → ℕ → ℕ

@@ -3,6 +3,7 @@ ghost use Rattle.std.specs.Prelude.{◌≡◌, ◌+◌, ◌*◌, ◌≤◌, ◌<
 ghost use Rattle.chain.specs.Word.{push as pushOf, unpack, FirstHop};
 
 // One more hop in front.
+#[tactic(auto, unfolding(crate::specs::Word::push))]
 pub fn push(packed: u64, field: u64) -> u64
     requires { field + 8 * packed + 9 < 18446744073709551616 }
     ensures { result ≡ pushOf packed field }

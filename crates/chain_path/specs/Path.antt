@@ -1,11 +1,11 @@
 -- The path behind a reading: "lists each hop's record, field and cell, stopping at the value or the first gap" (M-109).
-use Rattle.std.specs.Prelude.{ℕ, ◌≤◌, ◌<◌, ◌≡◌, List, [], ◌∷◌, pos, nat_abs, length, take}
+use Rattle.std.specs.Prelude.{None, Some}
+use Rattle.std.specs.Prelude.{ℕ, ◌<◌, ◌≡◌, List, [], ◌∷◌, pos, nat_abs, length, take}
 use Rattle.laws.specs.Lists.{Each}
 use Rattle.register.specs.File.{cell_index}
 use Rattle.register.specs.declared.Sizes.{Sizes}
 use Rattle.register.specs.declared.cells.Cell.{Cell}
-use Rattle.chain.specs.declared.reading.Reading.{Reading}
-use Rattle.chain.specs.declared.reading.Reading.TheVariants.{Missing, Value}
+use Rattle.chain.specs.Reading.{Reading}
 use Rattle.chain.specs.Word.{column, field_cell, read_of, read_cell}
 use Rattle.chain_path.specs.declared.Hop.{Hop}
 use Rattle.chain_path.specs.declared.Path.{Path}
@@ -17,12 +17,12 @@ hop_at s cells u f = record { u = u; field = f; cell = field_cell s cells u f }
 -- the hops from a reading on; behind a gap there are none
 unfoldable pub path : Sizes → List Cell → Reading → List ℕ → List Hop
 path s cells x [] = []
-path s cells Missing (f ∷ w) = []
-path s cells (Value z) (f ∷ w) = hop_at s cells (nat_abs z) f ∷ path s cells (read_cell s cells (nat_abs z) f) w
+path s cells None (f ∷ w) = []
+path s cells (Some z) (f ∷ w) = hop_at s cells (nat_abs z) f ∷ path s cells (read_cell s cells (nat_abs z) f) w
 
 -- the path of a chain at record u: "At `u` alone the list is empty."
 unfoldable pub path_at_record : Sizes → List Cell → List ℕ → ℕ → List Hop
-path_at_record s cells w u = path s cells (Value (pos u)) w
+path_at_record s cells w u = path s cells (Some (pos u)) w
 
 -- what is read at the end of a path: its last cell; with no hop, what was there
 unfoldable pub read_behind : Reading → List Hop → Reading
@@ -52,5 +52,4 @@ hops_of p = take p.count p.hops
 pub record HoldsPath (p : Path) (hs : List Hop) : Type 0 where
   pub hops_are : hops_of p ≡ hs
   pub places : length p.hops ≡ 16
-  pub taken≤ : p.count ≤ 16
   pub lettered : Each (λ h. h.field < 16) (hops_of p)

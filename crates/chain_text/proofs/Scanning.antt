@@ -3,23 +3,20 @@ use Prim.Native.Nat.{ℕ, suc, ◌+◌, ◌-◌, ◌*◌, ◌^◌, ◌≤◌, �
 use mathlib.Core.Path.{◌≡◌, refl, sym, ap, ap₂, ◌∙◌}
 use mathlib.Core.Logic.{◌≢◌}
 use mathlib.Core.Bool.{Bool, true, false, cond}
+use Rattle.std.specs.Prelude.{Some, None}
 use mathlib.Core.List.{List, [], ◌∷◌}
 use native.Mathlib.Omega.{arith}
 use native.Mathlib.Nat.{add-zero}
 use native.Mathlib.Numerals.{add-one}
-use native.Mathlib.Decide.{dec_lt, ℕ_discrete}
-use borrow.Author.Tests.{eq-eqb, ne_eqb}
+use native.Mathlib.Decide.{dec_lt}
+use borrow.Author.Tests.{ne_eqb}
 use lib.ListN.{length, get_or, drop}
 use lib.Seq.{drop-drop, get_or-drop}
 use Rattle.register.specs.declared.Sizes.{Sizes}
 use Rattle.laws.proofs.Bools.{and_both, true_false}
 use Rattle.chain_text.specs.Text.{is_capital, letter_field, Form, formed, unformed, closed, form}
-use Rattle.chain_text.specs.Scan.{starts_with, opens, step, steps, chain_end, scanned_from, scanned, open_letters, closes, first_of, closed_by}
+use Rattle.chain_text.specs.Scan.{starts_with, opens, step, steps, chain_end, scanned_from, Scanned, scanned, open_letters, closes}
 use Rattle.chain_text.specs.declared.letters.Letters.{Letters}
-use Rattle.chain_text.specs.declared.text.Scanned.{Scanned}
-use Rattle.chain_text.specs.declared.text.Scanned.TheVariants.{Chain, NoForm}
-use Rattle.chain_text.specs.declared.text.Head.{Head}
-use Rattle.chain_text.specs.declared.text.Head.TheVariants.{Answer, Opening}
 use Rattle.chain_text.proofs.Forms
 use Rattle.chain_text.proofs.Flat
 use Rattle.chain_text.proofs.Steps.{start, steps-summary, capital-field}
@@ -95,85 +92,41 @@ closes-next t at n h e = rw add-one (Flat.closes-more n (drop at t) h (ap (start
 pub closes_fails : (t : List ℕ) (at n k : ℕ) → k < n → starts_with 93 (drop (at + k) t) ≡ false → closes n (drop at t) ≡ false
 closes_fails t at n k h e = Flat.closes-not n k (drop at t) h (ap (starts_with 93) (drop-drop k at t) ∙ e)
 
--- the answers for a chain of any length, by the tests at its parts
-module _ (s : Sizes) (x : Letters) (t : List ℕ) (at n : ℕ) (is : n ≡ length (open_letters (drop at t))) where
-  u-place : starts_with 117 (drop (2 * length (open_letters (drop at t))) (drop at t)) ≡ starts_with 117 (drop (at + 2 * n) t)
-  u-place = ap (starts_with 117) (drop-drop _ at t ∙ ap (λ (k : ℕ). drop (at + 2 * k) t) (sym is))
+-- the answers for a chain of any length, by the tests at its parts: n letters open, and `end` is behind them
+module _ (s : Sizes) (x : Letters) (t : List ℕ) (at end n : ℕ) (is : n ≡ length (open_letters (drop at t))) (there : end ≡ at + 2 * length (open_letters (drop at t))) where
+  u-place : starts_with 117 (drop (2 * length (open_letters (drop at t))) (drop at t)) ≡ starts_with 117 (drop end t)
+  u-place = ap (starts_with 117) (drop-drop _ at t ∙ ap (λ (k : ℕ). drop k t) (sym there))
 
-  closes-place : closes (length (open_letters (drop at t))) (drop (2 * length (open_letters (drop at t)) + 1) (drop at t)) ≡ closes n (drop (at + 2 * n + 1) t)
+  closes-place : closes (length (open_letters (drop at t))) (drop (2 * length (open_letters (drop at t)) + 1) (drop at t)) ≡ closes n (drop (end + 1) t)
   closes-place =
-      let place : at + (2 * n + 1) ≡ at + 2 * n + 1 = omega arith in
+      let place : at + (2 * n + 1) ≡ end + 1 = omega arith in
       ap (λ (k : ℕ). closes k (drop (2 * k + 1) (drop at t))) (sym is) ∙ ap (closes n) (drop-drop (2 * n + 1) at t ∙ ap (λ (k : ℕ). drop k t) place)
 
-  pub long_no_u : starts_with 117 (drop (at + 2 * n) t) ≡ false → scanned_from s 0 x at (form (drop at t)) ≡ NoForm
+  pub long_no_u : false ≡ starts_with 117 (drop end t) → None ≡ scanned_from s 0 x at (form (drop at t))
   unfolding scanned_from
-  long_no_u h = ap (scanned_from s 0 x at) (Flat.flat_no_u (drop at t) (u-place ∙ h))
+  long_no_u h = sym (ap (scanned_from s 0 x at) (Flat.flat_no_u (drop at t) (u-place ∙ sym h)))
 
-  pub long_no_close : closes n (drop (at + 2 * n + 1) t) ≡ false → scanned_from s 0 x at (form (drop at t)) ≡ NoForm
+  pub long_no_close : false ≡ closes n (drop (end + 1) t) → None ≡ scanned_from s 0 x at (form (drop at t))
   unfolding scanned_from
-  long_no_close h = ap (scanned_from s 0 x at) (Flat.flat_no_close (drop at t) (closes-place ∙ h))
+  long_no_close h = sym (ap (scanned_from s 0 x at) (Flat.flat_no_close (drop at t) (closes-place ∙ sym h)))
 
-  pub long_chain : starts_with 117 (drop (at + 2 * n) t) ≡ true → closes n (drop (at + 2 * n + 1) t) ≡ true
-      → scanned_from s 0 x at (form (drop at t)) ≡ Chain (steps s 0 x (open_letters (drop at t))) (at + 2 * n + 1 + n)
+  pub long_chain : (y : Letters) → y ≡ steps s 0 x (open_letters (drop at t)) → true ≡ starts_with 117 (drop end t) → true ≡ closes n (drop (end + 1) t)
+      → Some (y, end + 1 + n) ≡ scanned_from s 0 x at (form (drop at t))
   unfolding scanned_from chain_end
-  long_chain u c =
-      let end : at + (3 * length (open_letters (drop at t)) + 1) ≡ at + 2 * n + 1 + n = omega arith in
-      ap (scanned_from s 0 x at) (Flat.flat_formed (drop at t) (u-place ∙ u) (closes-place ∙ c))
-      ∙ ap (Chain (steps s 0 x (open_letters (drop at t)))) end
+  long_chain y e u c =
+      let last : end + 1 + n ≡ at + (3 * length (open_letters (drop at t)) + 1) = omega arith in
+      ap₂ (λ (z : Letters) (k : ℕ). Some (z, k)) e last
+      ∙ sym (ap (scanned_from s 0 x at) (Flat.flat_formed (drop at t) (u-place ∙ sym u) (closes-place ∙ sym c)))
 
 -- the answers by what stands first
 module _ (s : Sizes) (k : ℕ) (x : Letters) (at : ℕ) (t : List ℕ) where
-  pub first-u : starts_with 117 t ≡ true → first_of s k x at t ≡ Answer (Chain x (at + 1))
-  unfolding first_of
-  first-u h = simp h
-
-  module _ (no-u : starts_with 117 t ≡ false) where
-    pub first-none : opens t ≡ false → first_of s k x at t ≡ Answer NoForm
-    unfolding first_of
-    first-none h = simp (no-u, h)
-
-    pub first_full : opens t ≡ true → k ≡ 0 → first_of s k x at t ≡ Answer (scanned_from s 0 x at (form t))
-    unfolding first_of
-    first_full h e = simp (no-u, h, eq-eqb k 0 e)
-
-    pub first-letter : opens t ≡ true → k ≢ 0 → first_of s k x at t ≡ Opening (step s k x (get_or t 0 0))
-    unfolding first_of
-    first-letter h e = simp (no-u, h, ne_eqb k 0 e)
-
--- and what those say
-answers_differ : {A : Type 0} {h : Head} {y : Scanned} {z : Letters} → h ≡ Answer y → h ≡ Opening z → A
-answers_differ p q = absurd (let z : ◌≡◌ {A = ℕ} 0 1 = cc in omega arith)
-
-same_answer : {h : Head} {y z : Scanned} → h ≡ Answer y → h ≡ Answer z → y ≡ z
-same_answer p q = cc
-
-same-opening : {h : Head} {y z : Letters} → h ≡ Opening y → h ≡ Opening z → y ≡ z
-same-opening p q = cc
-
-pub record Opening' (s : Sizes) (k : ℕ) (x : Letters) (t : List ℕ) (y : Letters) : Type 0 where
-  pub opening : opens t ≡ true
-  pub room : k ≢ 0
-  pub next : y ≡ step s k x (get_or t 0 0)
-
-module _ (s : Sizes) (k : ℕ) (x : Letters) (at : ℕ) (t : List ℕ) where
-  pub first-answer : {y : Scanned} → first_of s k x at t ≡ Answer y → y ≡ scanned_from s k x at (form t)
+  pub first-u : starts_with 117 t ≡ true → scanned_from s k x at (form t) ≡ Some (x, at + 1)
   unfolding scanned_from steps chain_end
-  first-answer {y} e = go (starts_with 117 t) refl (opens t) refl (ℕ_discrete k 0)
-    where
-      go : (u : Bool) → starts_with 117 t ≡ u → (o : Bool) → opens t ≡ o → Dec (k ≡ 0) → y ≡ scanned_from s k x at (form t)
-      go true u o ho d = same_answer e (first-u s k x at t u) ∙ sym (ap (scanned_from s k x at) (Forms.form-u t u))
-      go false u true ho (yes z) = same_answer e (first_full s k x at t u ho z) ∙ ap (λ (n : ℕ). scanned_from s n x at (form t)) (sym z)
-      go false u true ho (no z) = answers_differ e (first-letter s k x at t u ho z)
-      go false u false ho d = same_answer e (first-none s k x at t u ho) ∙ sym (ap (scanned_from s k x at) (Forms.form-none t u ho))
+  first-u h = ap (scanned_from s k x at) (Forms.form-u t h)
 
-  pub first_opening : {y : Letters} → first_of s k x at t ≡ Opening y → Opening' s k x t y
-  first_opening {y} e = go (starts_with 117 t) refl (opens t) refl (ℕ_discrete k 0)
-    where
-      go : (u : Bool) → starts_with 117 t ≡ u → (o : Bool) → opens t ≡ o → Dec (k ≡ 0) → Opening' s k x t y
-      go true u o ho d = answers_differ (first-u s k x at t u) e
-      go false u true ho (yes z) = answers_differ (first_full s k x at t u ho z) e
-      go false u true ho (no z) = record { opening = ho; room = z; next = same-opening e (first-letter s k x at t u ho z) }
-      go false u false ho d = answers_differ (first-none s k x at t u ho) e
+  pub first-none : starts_with 117 t ≡ false → opens t ≡ false → scanned_from s k x at (form t) ≡ None
+  unfolding scanned_from
+  first-none no-u h = ap (scanned_from s k x at) (Forms.form-none t no-u h)
 
 -- the packed number stays small
 pub step_small : (s : Sizes) (k : ℕ) (x : Letters) (l : ℕ) → is_capital l ≡ true → k ≢ 0 → k ≤ 16
@@ -182,6 +135,11 @@ unfolding step
 step_small s k x l cap h hk small =
     let e : suc (16 - k) ≡ 16 - (k - 1) = omega arith in
     rw (ne_eqb k 0 h, ← e) (push-small x.packed (letter_field l) (16 - k) small (capital-field l cap))
+
+-- an inner chain, read from a text t, with `]` behind it
+unfoldable pub closed_by : List ℕ → Scanned → Scanned
+closed_by t None = None
+closed_by t (Some (x, end)) = cond (starts_with 93 (drop end t)) (Some (x, end + 1)) None
 
 -- a chain in brackets is its inner chain, closed
 pub scan-inner : (s : Sizes) (k : ℕ) (x : Letters) (t : List ℕ) (at : ℕ) → opens (drop at t) ≡ true
@@ -207,16 +165,32 @@ scan-inner s k x t at h =
         y = steps s (k - 1) (step s k x l) ls
 
         test : {b : Bool} → starts_with 93 r ≡ b
-            → cond b (Chain y (at + 2 + (3 * length ls + 1) + 1)) NoForm ≡ cond (starts_with 93 (drop (at + 2 + (3 * length ls + 1)) t)) (Chain y (at + 2 + (3 * length ls + 1) + 1)) NoForm
-        test q = ap (λ (b : Bool). cond b (Chain y (at + 2 + (3 * length ls + 1) + 1)) NoForm) (sym q ∙ ap (starts_with 93) behind)
+            → cond {A = Scanned} b (Some (y, at + 2 + (3 * length ls + 1) + 1)) None ≡ cond {A = Scanned} (starts_with 93 (drop (at + 2 + (3 * length ls + 1)) t)) (Some (y, at + 2 + (3 * length ls + 1) + 1)) None
+        test q = ap (λ (b : Bool). cond {A = Scanned} b (Some (y, at + 2 + (3 * length ls + 1) + 1)) None) (sym q ∙ ap (starts_with 93) behind)
 
         bracket : (b : Bool) → starts_with 93 r ≡ b
-            → scanned_from s k x at (closed l (formed ls r)) ≡ cond (starts_with 93 (drop (at + 2 + (3 * length ls + 1)) t)) (Chain y (at + 2 + (3 * length ls + 1) + 1)) NoForm
-        bracket true q = ap (scanned_from s k x at) (Forms.closed_yes l ls r q) ∙ ap (Chain y) end ∙ test q
+            → scanned_from s k x at (closed l (formed ls r)) ≡ cond {A = Scanned} (starts_with 93 (drop (at + 2 + (3 * length ls + 1)) t)) (Some (y, at + 2 + (3 * length ls + 1) + 1)) None
+        bracket true q = ap (scanned_from s k x at) (Forms.closed_yes l ls r q) ∙ ap (λ (k : ℕ). Some (y, k)) end ∙ test q
         bracket false q = ap (scanned_from s k x at) (Forms.closed_no l ls r q) ∙ test q
+
+-- the same, by what the code finds of the inner chain
+module _ (s : Sizes) (k : ℕ) (x : Letters) (t : List ℕ) (at : ℕ) (h : opens (drop at t) ≡ true) {y : Letters} (is : y ≡ step s k x (get_or t at 0)) where
+  inner : {r : Scanned} → r ≡ scanned_from s (k - 1) y (at + 2) (form (drop (at + 2) t)) → closed_by t r ≡ scanned_from s k x at (form (drop at t))
+  inner e =
+      ap (closed_by t) (e ∙ ap (λ (z : Letters). scanned_from s (k - 1) z (at + 2) (form (drop (at + 2) t))) (is ∙ ap (step s k x) (sym (first-at t at))))
+      ∙ sym (scan-inner s k x t at h)
+
+  pub inner_none : None ≡ scanned_from s (k - 1) y (at + 2) (form (drop (at + 2) t)) → None ≡ scanned_from s k x at (form (drop at t))
+  unfolding closed_by
+  inner_none e = inner e
+
+  pub inner_some : (z : Letters) (end : ℕ) → Some (z, end) ≡ scanned_from s (k - 1) y (at + 2) (form (drop (at + 2) t)) → (b : Bool) → b ≡ starts_with 93 (drop end t)
+      → cond {A = Scanned} b (Some (z, end + 1)) None ≡ scanned_from s k x at (form (drop at t))
+  unfolding closed_by
+  inner_some z end e b q = ap (λ (c : Bool). cond {A = Scanned} c (Some (z, end + 1)) None) q ∙ inner e
 
 -- the whole chain, read from the start
 pub scan-start : (s : Sizes) (at : ℕ) (f : Form) → scanned_from s 16 start at f ≡ scanned s at f
 unfolding scanned_from scanned
 scan-start s at unformed = refl
-scan-start s at (formed ls r) = ap (λ (x : Letters). Chain x (chain_end at ls)) (steps-summary s ls)
+scan-start s at (formed ls r) = ap (λ (x : Letters). Some (x, chain_end at ls)) (steps-summary s ls)

@@ -1,15 +1,10 @@
 -- How the chain reader goes through a text: letter by letter from the outside in, with what it knows of the letters so far.
-use Rattle.std.specs.Prelude.{ℕ, zero, suc, ◌+◌, ◌-◌, ◌*◌, ◌≡◌, Bool, true, false, cond, ◌&&◌, ◌||◌, List, [], ◌∷◌, ltb, eqb, length, take, drop, get_or}
+use Rattle.std.specs.Prelude.{Option, Some, None, ℕ, zero, suc, ◌+◌, ◌-◌, ◌*◌, ◌≡◌, Bool, true, false, cond, ◌&&◌, ◌||◌, List, [], ◌∷◌, ltb, eqb, length, take, drop}
 use Rattle.register.specs.declared.Sizes.{Sizes}
 use Rattle.chain.specs.Word.{push, pack}
-use Rattle.chain_text.specs.Text.{Form, formed, unformed, form, is_capital, letter_field, names, is_reference_letter, inner_references, word_of}
+use Rattle.chain_text.specs.Text.{Form, formed, unformed, is_capital, letter_field, names, is_reference_letter, inner_references, word_of}
 use Rattle.laws.specs.Lists.{every}
 use Rattle.chain_text.specs.declared.letters.Letters.{Letters}
-use Rattle.chain_text.specs.declared.text.Opened.{Opened}
-use Rattle.chain_text.specs.declared.text.Head.{Head}
-use Rattle.chain_text.specs.declared.text.Head.TheVariants.{Answer, Opening}
-use Rattle.chain_text.specs.declared.text.Scanned.{Scanned}
-use Rattle.chain_text.specs.declared.text.Scanned.TheVariants.{Chain, NoForm}
 
 -- whether a text begins with byte b
 unfoldable pub starts_with : ℕ → List ℕ → Bool
@@ -49,15 +44,19 @@ steps s k x (l ∷ ls) = steps s (k - 1) (step s k x l) ls
 unfoldable pub chain_end : ℕ → List ℕ → ℕ
 chain_end at ls = at + (3 * length ls + 1)
 
+-- a chain and where its text ends, or none
+abbrev pub Scanned : Type 0
+Scanned = Option (Letters × ℕ)
+
 -- the reader's answer for the form of the text from `at` on, behind the letters x
 unfoldable pub scanned_from : Sizes → ℕ → Letters → ℕ → Form → Scanned
-scanned_from s k x at unformed = NoForm
-scanned_from s k x at (formed ls rest) = Chain (steps s k x ls) (chain_end at ls)
+scanned_from s k x at unformed = None
+scanned_from s k x at (formed ls rest) = Some (steps s k x ls, chain_end at ls)
 
 -- the same where nothing was read before
 unfoldable pub scanned : Sizes → ℕ → Form → Scanned
-scanned s at unformed = NoForm
-scanned s at (formed ls rest) = Chain (summary s ls) (chain_end at ls)
+scanned s at unformed = None
+scanned s at (formed ls rest) = Some (summary s ls, chain_end at ls)
 
 -- without a bound on the hops: the letters that open, then `u`, then as many `]`
 unfoldable pub open_letters : List ℕ → List ℕ
@@ -66,24 +65,11 @@ open_letters (l ∷ []) = []
 open_letters (l ∷ d ∷ t) = cond (is_capital l && eqb d 91) (l ∷ open_letters t) []
 
 -- what reading those letters gives: the letters' steps, and the place behind them
-pub record Opens (s : Sizes) (x : Letters) (at : ℕ) (t : List ℕ) (o : Opened) : Type 0 where
-  pub letters_are : o.letters ≡ steps s 0 x (open_letters t)
-  pub at_is : o.at ≡ at + 2 * length (open_letters t)
+pub record Opens (s : Sizes) (x : Letters) (at : ℕ) (t : List ℕ) (o : Letters × ℕ) : Type 0 where
+  pub letters_are : o.0 ≡ steps s 0 x (open_letters t)
+  pub at_is : o.1 ≡ at + 2 * length (open_letters t)
 
 -- whether a text begins with n times `]`
 unfoldable pub closes : ℕ → List ℕ → Bool
 closes zero t = true
 closes (suc n) t = closes n t && starts_with 93 (drop n t)
-
--- what stands first in a text t, from `at` on, with room for k more hops
-unfoldable pub first_of : Sizes → ℕ → Letters → ℕ → List ℕ → Head
-first_of s k x at t =
-    cond (starts_with 117 t) (Answer (Chain x (at + 1)))
-    (cond (opens t)
-    (cond (eqb k 0) (Answer (scanned_from s 0 x at (form t))) (Opening (step s k x (get_or t 0 0))))
-    (Answer NoForm))
-
--- an inner chain, read from a text t, with `]` behind it
-unfoldable pub closed_by : List ℕ → Scanned → Scanned
-closed_by t NoForm = NoForm
-closed_by t (Chain x end) = cond (starts_with 93 (drop end t)) (Chain x (end + 1)) NoForm

@@ -9,7 +9,7 @@ use register::Sizes;
 
 // What is known of a chain's letters: its hops packed into one number, the first 16 of them from the outside; whether
 // every letter names a field; whether all but the outermost are references; whether there are more than 16.
-#[derive(Clone, Copy)]
+#[derive(Clone, Copy, Debug, PartialEq, Eq)]
 pub struct Letters {
     pub packed: u64,
     pub named: bool,
@@ -17,10 +17,44 @@ pub struct Letters {
     pub long: bool,
 }
 
+impl Letters {
+    // Before the first letter.
+    pub const NONE: Letters = Letters {
+        packed: 0,
+        named: true,
+        kinded: true,
+        long: false,
+    };
+
+    // One more letter, with room for `room` more hops.
+    pub fn step(self, sizes: Sizes, room: usize, letter: u8) -> Letters
+        requires { Limits sizes × (is_capital letter ≡ true) × (room ≤ 16) × (self.packed + 5 ≤ 5 * 8 ^ (16 - room)) }
+        ensures { result ≡ step_of sizes room self letter }
+    {
+        let kinded = self.kinded & ((self.packed == 0) | (letter < b'M'));
+        let named = self.named & names_field(sizes, letter);
+        if room == 0 {
+            Letters {
+                named,
+                kinded,
+                long: true,
+                ..self
+            }
+        } else {
+            Letters {
+                packed: packed::push(self.packed, field_of(letter)),
+                named,
+                kinded,
+                ..self
+            }
+        }
+    }
+}
+
 pub fn is_capital(b: u8) -> bool
     ensures { result ≡ is_capital b }
 {
-    (b'A' <= b) & (b <= b'Z')
+    b.is_ascii_uppercase()
 }
 
 // The field of a capital letter.
@@ -45,29 +79,5 @@ pub fn names_field(sizes: Sizes, letter: u8) -> bool
         (b'A' <= letter) & (l < b'A' as usize + sizes.references)
     } else {
         l < b'M' as usize + sizes.measures
-    }
-}
-
-// One more letter, with room for `room` more hops.
-pub fn step(sizes: Sizes, room: usize, letters: Letters, letter: u8) -> Letters
-    requires { Limits sizes × (is_capital letter ≡ true) × (room ≤ 16) × (letters.packed + 5 ≤ 5 * 8 ^ (16 - room)) }
-    ensures { result ≡ step_of sizes room letters letter }
-{
-    let kinded = letters.kinded & ((letters.packed == 0) | (letter < b'M'));
-    let named = letters.named & names_field(sizes, letter);
-    if room == 0 {
-        Letters {
-            packed: letters.packed,
-            named,
-            kinded,
-            long: true,
-        }
-    } else {
-        Letters {
-            packed: packed::push(letters.packed, field_of(letter)),
-            named,
-            kinded,
-            long: letters.long,
-        }
     }
 }

@@ -2,64 +2,42 @@
 ghost use Rattle.std.specs.Prelude.{◌≡◌, ◌+◌, ◌-◌, ◌*◌, ◌^◌, ◌≤◌, length, drop};
 ghost use Rattle.register.specs.Shape.{Limits};
 ghost use Rattle.chain_text.specs.Text.{form};
-ghost use Rattle.chain_text.specs.Scan.{starts_with, opens, closes, scanned_from, scanned, Opens, first_of, closed_by};
+ghost use Rattle.chain_text.specs.Scan.{starts_with, opens, closes, scanned_from, scanned, Opens};
 
 use crate::letters;
 use crate::letters::Letters;
 use register::Sizes;
 
-// A chain and where its text ends; or no chain stands there.
-#[derive(Clone, Copy)]
-pub enum Scanned {
-    Chain(Letters, usize),
-    NoForm,
-}
-
 // Whether byte b stands at `at`.
 pub fn starts_with(text: &[u8], at: usize, b: u8) -> bool
     ensures { result ≡ starts_with b (drop at text.now) }
 {
-    if text.len() <= at {
-        return false;
-    }
-    text[at] == b
+    at < text.len() && text[at] == b
 }
 
 // Whether a field letter and `[` stand at `at`.
 pub fn opens_at(text: &[u8], at: usize) -> bool
     ensures { result ≡ opens (drop at text.now) }
 {
-    if text.len() < 2 {
-        return false;
-    }
-    if text.len() - 2 < at {
+    if text.len().saturating_sub(1) <= at {
         return false;
     }
     letters::is_capital(text[at]) & (text[at + 1] == b'[')
 }
 
-// Letters read so far, and the place behind them.
-#[derive(Clone, Copy)]
-pub struct Opened {
-    pub letters: Letters,
-    pub at: usize,
-}
-
-// All the letters that open from `at` on, where there is room for no more hops.
-fn open_letters(text: &[u8], at: usize, sizes: Sizes, letters: Letters) -> Opened
+// All the letters that open from `at` on, where there is room for no more hops, and the place behind them. Two bytes go
+// to a letter, so the loop counts its place itself.
+fn open_letters(text: &[u8], at: usize, sizes: Sizes, letters: Letters) -> (Letters, usize)
     requires { Limits sizes × (letters.packed + 5 ≤ 5 * 8 ^ 16) × (at ≤ length text.now) }
     ensures { Opens sizes letters at (drop at text.now) result }
 {
     let mut seen = letters;
     let mut i = at;
     while opens_at(text, i) {
-        seen = letters::step(sizes, 0, seen, text[i]);
+        seen = seen.step(sizes, 0, text[i]);
         i += 2;
     }
-    Opened {
-        letters: seen,
-        at: i,
-    }
+    (seen, i)
 }
 
 // Whether `]` stands n times from `at` on.
@@ -76,81 +54,54 @@ fn closes_at(text: &[u8], at: usize, n: usize) -> bool
 }
 
 // A chain with more hops than there is room for: of any length, so it is read by loops.
-fn overlong(text: &[u8], at: usize, sizes: Sizes, letters: Letters) -> Scanned
+fn overlong(text: &[u8], at: usize, sizes: Sizes, letters: Letters) -> Option<(Letters, usize)>
     requires { Limits sizes × (letters.packed + 5 ≤ 5 * 8 ^ 16) × (at ≤ length text.now) }
     ensures { result ≡ scanned_from sizes 0 letters at (form (drop at text.now)) }
 {
-    let opened = open_letters(text, at, sizes, letters);
-    let end = opened.at;
-    let seen = opened.letters;
+    let (seen, end) = open_letters(text, at, sizes, letters);
     let hops = (end - at) / 2;
     if !starts_with(text, end, b'u') {
-        return Scanned::NoForm;
+        return None;
     }
     if !closes_at(text, end + 1, hops) {
-        return Scanned::NoForm;
+        return None;
     }
-    Scanned::Chain(seen, end + 1 + hops)
+    Some((seen, end + 1 + hops))
 }
 
-// What stands first at a place: the answer already, or a letter that opens, with the letters so far.
-#[derive(Clone, Copy)]
-pub enum Head {
-    Answer(Scanned),
-    Opening(Letters),
-}
-
-fn first(text: &[u8], at: usize, sizes: Sizes, letters: Letters, room: usize) -> Head
-    requires { Limits sizes × (room ≤ 16) × (letters.packed + 5 ≤ 5 * 8 ^ (16 - room)) × (at ≤ length text.now) }
-    ensures { result ≡ first_of sizes room letters at (drop at text.now) }
-{
-    if starts_with(text, at, b'u') {
-        return Head::Answer(Scanned::Chain(letters, at + 1));
-    }
-    if !opens_at(text, at) {
-        return Head::Answer(Scanned::NoForm);
-    }
-    if room == 0 {
-        return Head::Answer(overlong(text, at, sizes, letters));
-    }
-    Head::Opening(letters::step(sizes, room, letters, text[at]))
-}
-
-// A chain in brackets, of which the inner chain is read: `]` must stand behind it.
-fn closed(text: &[u8], inner: Scanned) -> Scanned
-    ensures { result ≡ closed_by text.now inner }
-{
-    let Scanned::Chain(letters, end) = inner else {
-        return Scanned::NoForm;
-    };
-    if starts_with(text, end, b']') {
-        Scanned::Chain(letters, end + 1)
-    } else {
-        Scanned::NoForm
-    }
-}
-
-// The chain that stands at `at`: `u`, or a letter and, in brackets, a chain with room for one hop less.
-fn read(text: &[u8], at: usize, sizes: Sizes, letters: Letters, room: usize) -> Scanned
+// The chain that stands at `at` and where its text ends: `u`, or a letter and, in brackets, a chain with room for one
+// hop less.
+fn read(
+    text: &[u8],
+    at: usize,
+    sizes: Sizes,
+    letters: Letters,
+    room: usize,
+) -> Option<(Letters, usize)>
     requires { Limits sizes × (room ≤ 16) × (letters.packed + 5 ≤ 5 * 8 ^ (16 - room)) × (at ≤ length text.now) }
     ensures { result ≡ scanned_from sizes room letters at (form (drop at text.now)) }
 {
-    match first(text, at, sizes, letters, room) {
-        Head::Answer(scanned) => scanned,
-        Head::Opening(next) => closed(text, read(text, at + 2, sizes, next, room - 1)),
+    if starts_with(text, at, b'u') {
+        return Some((letters, at + 1));
     }
+    if !opens_at(text, at) {
+        return None;
+    }
+    if room == 0 {
+        return overlong(text, at, sizes, letters);
+    }
+    let next = letters.step(sizes, room, text[at]);
+    let (inner, end) = read(text, at + 2, sizes, next, room - 1)?;
+    if !starts_with(text, end, b']') {
+        return None;
+    }
+    Some((inner, end + 1))
 }
 
-// The chain that stands at `at`, with at most 16 hops packed.
-pub fn scan(text: &[u8], at: usize, sizes: Sizes) -> Scanned
+// The chain that stands at `at` and where its text ends, with at most 16 hops packed.
+pub fn scan(text: &[u8], at: usize, sizes: Sizes) -> Option<(Letters, usize)>
     requires { Limits sizes × (at ≤ length text.now) }
     ensures { result ≡ scanned sizes at (form (drop at text.now)) }
 {
-    let start = Letters {
-        packed: 0,
-        named: true,
-        kinded: true,
-        long: false,
-    };
-    read(text, at, sizes, start, 16)
+    read(text, at, sizes, Letters::NONE, 16)
 }

@@ -1,4 +1,5 @@
 -- Messages are retained, exchange by exchange, and so their number never falls.
+use Rattle.std.specs.Prelude.{None, Some}
 use Prim.Native.Nat.{ℕ, zero, suc, ◌≤◌}
 use mathlib.Core.Path.{refl}
 use mathlib.Core.Bool.{Bool, true, false, cond}
@@ -8,8 +9,7 @@ use lib.Dec.{ltb, eqb}
 use lib.IntN.{nat_abs}
 use Rattle.register.specs.declared.Sizes.{Sizes}
 use Rattle.register.specs.declared.cells.Cell.{Cell}
-use Rattle.chain.specs.declared.reading.Reading.{Reading}
-use Rattle.chain.specs.declared.reading.Reading.TheVariants.{Missing, Value}
+use Rattle.chain.specs.Reading.{Reading}
 use Rattle.plan_theory.specs.Plan.{Fact, read, hops, back_need, round, line}
 use Rattle.program.specs.Program.{Rule, readings, step_plan}
 use Rattle.machine_messages.specs.Held.{Held, knows, writer, needed, written, sent, held_after}
@@ -43,8 +43,8 @@ module _ (s : Sizes) {cells cells' : List Cell} (fuller : Fuller cells cells') w
 
     written_retained : (f : Fact) (x y : Reading) → Retained x y → Retained (written s cells held f x) (written s cells' held' f y)
     unfolding written
-    written_retained f Missing y r = tt
-    written_retained f (Value v) y r = rw r (knows_retained (nat_abs v) (needed f))
+    written_retained f None y r = tt
+    written_retained f (Some v) y r = rw r (knows_retained (nat_abs v) (needed f))
 
     sent_retained : HeldRetained (sent s cells held) (sent s cells' held')
     unfolding sent
@@ -59,8 +59,8 @@ module _ (s : Sizes) {cells cells' : List Cell} (fuller : Fuller cells cells') w
 
 -- one for one
 sent-most : (x y : Reading) → Retained x y → is_sent x ≤ is_sent y
-sent-most Missing y r = omega arith
-sent-most (Value z) y r = rw r (omega arith)
+sent-most None y r = omega arith
+sent-most (Some z) y r = rw r (omega arith)
 
 line-most : (held held' : ℕ → Reading) → ((u : ℕ) → Retained (held u) (held' u)) → (n : ℕ) → line_messages held n ≤ line_messages held' n
 unfolding line_messages

@@ -1,4 +1,5 @@
 -- What the operations answer over a fuller register: a single reading, a text, and the look at one of its steps.
+use Rattle.std.specs.Prelude.{None, Some}
 use Prim.Native.Nat.{ℕ}
 use mathlib.Core.Path.{◌≡◌, refl, sym, ap, subst, ◌∙◌}
 use mathlib.Core.Bool.{Bool, true, false, cond}
@@ -12,8 +13,7 @@ use Rattle.register.specs.File.{cells_of_file}
 use Rattle.register.specs.declared.Sizes.{Sizes}
 use Rattle.register.specs.declared.cells.Cell.{Cell}
 use Rattle.register.proofs.Roundtrip.{loads as loads-with}
-use Rattle.chain.specs.declared.reading.Reading.{Reading}
-use Rattle.chain.specs.declared.reading.Reading.TheVariants.{Missing, Value}
+use Rattle.chain.specs.Reading.{Reading}
 use Rattle.chain.specs.Word.{value_at_record, reading_value}
 use Rattle.chain_text.specs.Text.{form}
 use Rattle.plan_theory.specs.Plan.{Fact}
@@ -33,13 +33,13 @@ use Rattle.fuller.proofs.Readings.{readings_retained}
 use Rattle.fuller.proofs.Messages.{messages_retained, step-most}
 
 -- a value of the first is that of the second
-retained_value : (x y : Reading) → Retained x y → {z : ℤ} → x ≡ Value z → y ≡ Value z
-retained_value Missing y r e = absurd (let z : ◌≡◌ {A = ℕ} 0 1 = cc in omega arith)
-retained_value (Value a) y r e = r ∙ e
+retained_value : (x y : Reading) → Retained x y → {z : ℤ} → x ≡ Some z → y ≡ Some z
+retained_value None y r e = absurd (let z : ◌≡◌ {A = ℕ} 0 1 = cc in omega arith)
+retained_value (Some a) y r e = r ∙ e
 
 -- a chain, or why it is refused, at a record number
 at_retained : (s : Sizes) {cells cells' : List Cell} → Fuller cells cells' → (u : ℕ) {z : ℤ} (o : Outcome (List ℕ))
-    → after o (at_record s cells u) ≡ done (Value z) → after o (at_record s cells' u) ≡ done (Value z)
+    → after o (at_record s cells u) ≡ done (Some z) → after o (at_record s cells' u) ≡ done (Some z)
 unfolding after at_record
 at_retained s fuller u (refused k l) e = e
 at_retained s {cells} {cells'} fuller u {z} (done w) e = go (ltb u s.records) e
@@ -50,8 +50,8 @@ at_retained s {cells} {cells'} fuller u {z} (done w) e = go (ltb u s.records) e
     y : Reading
     y = value_at_record s cells' w u
 
-    go : (b : Bool) → cond b (done x) (refused 16 0) ≡ done (Value z) → cond b (done y) (refused 16 0) ≡ done (Value z)
-    go true e = let same : x ≡ Value z = cc in ap done (retained_value x y (readings_retained s fuller w u) same)
+    go : (b : Bool) → cond b (done x) (refused 16 0) ≡ done (Some z) → cond b (done y) (refused 16 0) ≡ done (Some z)
+    go true e = let same : x ≡ Some z = cc in ap done (retained_value x y (readings_retained s fuller w u) same)
     go false e = e
 
 -- a place that holds a message over both registers
@@ -59,8 +59,8 @@ stored_retained : (x y : Reading) → Retained x y → {j : ℕ} {values values'
     → Stored x j values marks → Stored y j values' marks'
     → get_or marks j 0 ≡ 1 → (get_or marks' j 0 ≡ 1) × (get_or values' j (pos 0) ≡ get_or values j (pos 0))
 unfolding reading_mark reading_value
-stored_retained Missing y r p q e = absurd (omega (arith, p.mark_is))
-stored_retained (Value z) y r p q e = (q.mark_is ∙ ap reading_mark r, q.value-is ∙ ap reading_value r ∙ sym p.value-is)
+stored_retained None y r p q e = absurd (omega (arith, p.mark_is))
+stored_retained (Some z) y r p q e = (q.mark_is ∙ ap reading_mark r, q.value-is ∙ ap reading_value r ∙ sym p.value-is)
 
 -- the places of a plan's lines
 shown_retained : {s : Sizes} {cells cells' : List Cell} → Fuller cells cells' → {l : List Fact} {t : ℕ}
@@ -71,7 +71,7 @@ shown_retained {s} {cells} {cells'} fuller {l} {t} p q i u hi hu =
 
 module _ {s : Sizes} {file file' : List ℕ} (k : FullerFile s file file') where
   -- a single reading that is filled
-  reading_retained : (text : List ℕ) (u : ℕ) {z : ℤ} → reading file text u ≡ done (Value z) → reading file' text u ≡ done (Value z)
+  reading_retained : (text : List ℕ) (u : ℕ) {z : ℤ} → reading file text u ≡ done (Some z) → reading file' text u ≡ done (Some z)
   unfolding reading_loaded
   reading_retained text u e =
       reading-loaded file' text u k.loads'

@@ -1,4 +1,5 @@
 -- Readings are retained, hop by hop.
+use Rattle.std.specs.Prelude.{None, Some}
 use Prim.Native.Nat.{ℕ}
 use mathlib.Core.Path.{refl}
 use mathlib.Core.List.{List, [], ◌∷◌}
@@ -6,8 +7,7 @@ use lib.IntN.{pos, nat_abs}
 use Rattle.register.specs.File.{cell_index}
 use Rattle.register.specs.declared.Sizes.{Sizes}
 use Rattle.register.specs.declared.cells.Cell.{Cell}
-use Rattle.chain.specs.declared.reading.Reading.{Reading}
-use Rattle.chain.specs.declared.reading.Reading.TheVariants.{Missing, Value}
+use Rattle.chain.specs.Reading.{Reading}
 use Rattle.chain.specs.Word.{column, read_cell, hop, follow, value_at_record}
 use Rattle.fuller.specs.Fuller.{Retained, Fuller}
 use Rattle.fuller.specs.Claims.{ReadingsRetained}
@@ -21,8 +21,8 @@ module _ (s : Sizes) {cells cells' : List Cell} (fuller : Fuller cells cells') w
   -- one hop: from a value that is retained to the same record
   hop_retained : (x y : Reading) → Retained x y → (f : ℕ) → Retained (hop s cells x f) (hop s cells' y f)
   unfolding hop
-  hop_retained Missing y r f = tt
-  hop_retained (Value z) y r f = rw r (cell_retained (nat_abs z) f)
+  hop_retained None y r f = tt
+  hop_retained (Some z) y r f = rw r (cell_retained (nat_abs z) f)
 
   follow_retained : (x y : Reading) → Retained x y → (w : List ℕ) → Retained (follow s cells x w) (follow s cells' y w)
   unfolding follow
@@ -32,4 +32,4 @@ module _ (s : Sizes) {cells cells' : List Cell} (fuller : Fuller cells cells') w
   -- every chain at every record
   pub readings_retained : ReadingsRetained s cells cells'
   unfolding value_at_record
-  readings_retained w u = follow_retained (Value (pos u)) (Value (pos u)) refl w
+  readings_retained w u = follow_retained (Some (pos u)) (Some (pos u)) refl w

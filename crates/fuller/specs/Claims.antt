@@ -1,11 +1,11 @@
 -- What stands over a fuller register: readings, and the messages (document 02's letters) of a step's plan.
+use Rattle.std.specs.Prelude.{Some}
 use Rattle.std.specs.Prelude.{ℕ, ◌+◌, ◌*◌, ◌≤◌, ◌<◌, ◌≡◌, ℤ, pos, length, get_or}
 use mathlib.Core.List.{List, Memᴰ}
 use Rattle.laws.specs.Outcome.{done}
 use Rattle.register.specs.File.{cells_of_file}
 use Rattle.register.specs.declared.Sizes.{Sizes}
 use Rattle.register.specs.declared.cells.Cell.{Cell}
-use Rattle.chain.specs.declared.reading.Reading.TheVariants.{Value}
 use Rattle.chain.specs.Word.{value_at_record}
 use Rattle.plan_theory.specs.Plan.{Fact, line}
 use Rattle.program.specs.Program.{Rule, Step, Program, step_plan}
@@ -40,7 +40,7 @@ PlacesRetained n lines values marks values' marks' =
 -- what the operations answer over two files of which the second is the fuller one
 pub record AnswersRetained (s : Sizes) (file file' : List ℕ) : Type 0 where
   -- a single reading that is filled, for any text of a chain and any record number
-  pub reading_retained : (text : List ℕ) (u : ℕ) {z : ℤ} → reading file text u ≡ done (Value z) → reading file' text u ≡ done (Value z)
+  pub reading_retained : (text : List ℕ) (u : ℕ) {z : ℤ} → reading file text u ≡ done (Some z) → reading file' text u ≡ done (Some z)
   -- a text is the same program, or refused alike
   pub check-same : (text : List ℕ) → check file text ≡ check file' text
   -- the messages of the plan of every step of a text that passes

@@ -1,4 +1,5 @@
 -- When one register is fuller than another of the same sizes.
+use Rattle.std.specs.Prelude.{None, Some}
 use Rattle.std.specs.Prelude.{ℕ, ◌≡◌, List, get_or}
 use Rattle.laws.specs.Outcome.{done}
 use Rattle.register.specs.File.{cells_of_file}
@@ -6,14 +7,13 @@ use Rattle.register.specs.Load.{load}
 use Rattle.register.specs.declared.Sizes.{Sizes}
 use Rattle.register.specs.declared.cells.Cell.{Cell}
 use Rattle.register.specs.declared.cells.Cell.TheVariants.{Missing as Unfilled}
-use Rattle.chain.specs.declared.reading.Reading.{Reading}
-use Rattle.chain.specs.declared.reading.Reading.TheVariants.{Missing, Value}
+use Rattle.chain.specs.Reading.{Reading}
 use Rattle.chain.specs.Word.{read_of}
 
 -- a reading that is retained: filled in the first, it "has that value in the second"
 abbrev pub Retained : Reading → Reading → Type 0
-Retained Missing y = Unit {0}
-Retained (Value z) y = y ≡ Value z
+Retained None y = Unit {0}
+Retained (Some z) y = y ≡ Some z
 
 -- "every filled cell of the first is filled with the same value in the second", by what is read of a cell; behind the last
 -- cell nothing is

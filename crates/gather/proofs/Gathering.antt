@@ -48,7 +48,7 @@ module _ {s : Sizes} {p : Plan} (planned : StepPlanned s p) where
         values_room = v;
         marks_room = k;
       }
-  planned-ready Messages wanted values marks w v k = (record { lines = planned-lines planned; values_room = v; marks_room = k }, planned.rounds_length)
+  planned-ready Messages wanted values marks w v k = record { lines = planned-lines planned; values_room = v; marks_room = k }
 
   module _ {cells : List Cell} {wanted : List Bool} {values values' : List ℤ} {marks marks' : List ℕ} (v : Valid s cells) where
     told-filled : {t n : ℕ} → t ≡ last_round (facts p) → ExchangedTo s cells p t values marks values' marks' n

@@ -18,8 +18,8 @@ use Rattle.gather.specs.declared.counts.Counts.{Counts}
 
 -- what each machine asks of a plan: words that can be followed, or lines that can be made from lines before them
 abbrev pub GatherReady : Machine → Sizes → Plan → List Bool → List ℤ → List ℕ → Type 0
-GatherReady Direct s p wanted values marks = FollowReady s p.keys wanted p.count values marks
-GatherReady Messages s p wanted values marks = PlanReady s p values marks × (length p.rounds ≡ 64)
+GatherReady Direct s p wanted values marks = FollowReady s p wanted values marks
+GatherReady Messages s p wanted values marks = PlanReady s p values marks
 
 -- "The run by letters makes each step's letters there, round by round": the places are as the exchanges of all rounds left them
 pub record AllExchanged (s : Sizes) (cells : List Cell) (p : Plan)

@@ -1,11 +1,9 @@
 // The readings of a step: the places of its plan's Read lines, filled by following references or by messages.
 #![tactic(auto)]
 
-ghost use Rattle.std.specs.Prelude.{length, ◌≡◌};
-ghost use Rattle.register.specs.Cells.{cells_of};
+ghost use Rattle.register.specs.View.{cells_in};
 ghost use Rattle.register.specs.File.{cells_of_file};
-ghost use Rattle.register.specs.Shape.{Parts, Register, Valid};
-ghost use Rattle.plan_lines.specs.Held.{plan_of};
+ghost use Rattle.register.specs.Shape.{Register, Valid};
 ghost use Rattle.gather_exchanges.specs.Lines.{PlanReady};
 ghost use Rattle.gather.specs.Gathered.{GatherReady, AllExchanged, Gathered};
 
@@ -13,69 +11,46 @@ use crate::counts::Counts;
 use gather_exchanges;
 use gather_follow;
 use machine_messages::Machine;
-use plan_lines;
-use register::{Sizes, cells};
+use plan_lines::Plan;
+use register::Sizes;
+use register::cells::Cells;
 
 pub mod counts;
 
 // The exchanges of all rounds of a plan; what they took.
-fn exchange_all(
-    cells: &[u8],
-    filled: &[u8],
-    values: &mut [i64],
-    marks: &mut [u8],
-    sizes: Sizes,
-    keys: &[u64; 64],
-    rounds: &[u8; 64],
-    backs: &[u8; 64],
-    reads: &[u8; 64],
-    count: usize,
-) -> Counts
-    requires { Parts sizes cells.now filled.now × Valid sizes (cells_of cells.now filled.now)
-        × PlanReady sizes (plan_of keys.now rounds.now backs.now reads.now count) values.old marks.old × (length rounds.now ≡ 64) }
-    ensures { AllExchanged sizes (cells_of cells.now filled.now)
-        (plan_of keys.now rounds.now backs.now reads.now count)
+fn exchange_all(cells: &Cells<'_>, values: &mut [i64], marks: &mut [u8], plan: &Plan) -> Counts
+    requires { Valid cells.now.sizes (cells_in cells.now) × PlanReady cells.now.sizes plan.now values.old marks.old }
+    ensures { AllExchanged cells.now.sizes (cells_in cells.now) plan.now
         values.old marks.old values.new marks.new result }
 {
-    let last = plan_lines::last_round(rounds, count);
-    let messages = gather_exchanges::exchange_to(
-        cells, filled, values, marks, sizes, keys, rounds, backs, reads, count, last,
-    );
+    let last = plan.last_round();
+    let messages = gather_exchanges::exchange_to(cells, values, marks, plan, last);
     Counts {
-        exchanges: last as usize,
+        exchanges: usize::from(last),
         messages,
     }
 }
 
 // Fills the places of those Read lines of a plan that a rule reads; what that took.
-pub fn gather<'a>(
+pub fn gather(
     file: &[u8],
     values: &mut [i64],
     marks: &mut [u8],
     sizes: Sizes,
     machine: Machine,
-    keys: &'a [u64; 64],
-    rounds: &'a [u8; 64],
-    backs: &'a [u8; 64],
-    reads: &'a [u8; 64],
-    wanted: &'a [bool; 64],
-    count: usize,
+    plan: &Plan,
+    wanted: &[bool; 64],
 ) -> Counts
-    requires { Register sizes file.now
-        × GatherReady machine sizes (plan_of keys.now rounds.now backs.now reads.now count) wanted.now values.old marks.old }
-    ensures { Gathered machine sizes (cells_of_file sizes file.now)
-        (plan_of keys.now rounds.now backs.now reads.now count) wanted.now
+    requires { Register sizes file.now × GatherReady machine sizes plan.now wanted.now values.old marks.old }
+    ensures { Gathered machine sizes (cells_of_file sizes file.now) plan.now wanted.now
         values.old marks.old values.new marks.new result }
 {
-    let cells = cells::values_part(file, sizes);
-    let filled = cells::marks_part(file, sizes);
+    let cells = Cells::of(file, sizes);
     match machine {
         Machine::Direct => {
-            gather_follow::fill(cells, filled, values, marks, sizes, keys, wanted, count);
-            counts::NONE
+            gather_follow::fill(&cells, values, marks, plan, wanted);
+            Counts::NONE
         }
-        Machine::Messages => exchange_all(
-            cells, filled, values, marks, sizes, keys, rounds, backs, reads, count,
-        ),
+        Machine::Messages => exchange_all(&cells, values, marks, plan),
     }
 }

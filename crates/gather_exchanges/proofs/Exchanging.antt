@@ -1,31 +1,29 @@
 -- Exchanges at the places: one more line of a round, one more round, and places that are cleared.
-use Prim.Native.Nat.{ℕ, suc, ◌+◌, ◌*◌, ◌≤◌, ◌<◌}
-use mathlib.Core.Path.{◌≡◌, refl, sym, ap₂, ◌∙◌}
-use mathlib.Core.List.{List}
+use Prim.Native.Nat.{ℕ, suc, ◌+◌, ◌-◌, ◌*◌, ◌≤◌, ◌<◌}
+use mathlib.Core.Path.{◌≡◌, refl, sym, ap, ap₂, ◌∙◌}
+use mathlib.Core.List.{List, ◌++◌}
 use mathlib.Core.Logic.{◌≢◌, ◌⊎◌, inl, inr, ⊎_elim}
 use native.Mathlib.Numerals.{add-one}
 use native.Mathlib.Omega.{arith}
-use lib.IntN.{ℤ}
-use lib.ListN.{length, set, length-set}
-use mir.Syntax.{w32}
-use mir.Val.{SFits}
+use lib.IntN.{ℤ, pos}
+use lib.ListN.{length, get_or, drop, replicate, length-append, length-drop, get_or-append}
+use Rattle.std.proofs.lemmas.List.{length-replicate, get_or-replicate, get_or-drop, get_or-append_right}
 use Rattle.register.specs.declared.Sizes.{Sizes}
 use Rattle.register.specs.declared.cells.Cell.{Cell}
-use Rattle.chain.specs.declared.reading.Reading.{Reading}
-use Rattle.chain.specs.declared.reading.Reading.TheVariants.{Missing}
+use Rattle.chain.specs.Reading.{Reading}
 use Rattle.chain.specs.Word.{reading_value}
 use Rattle.plan_lines.specs.Held.{line_at}
 use Rattle.plan_lines.specs.declared.Plan.{Plan}
 use Rattle.laws.proofs.Cases.{lt_or_le}
-use Rattle.scratch.specs.Places.{reading_mark, Kept}
-use Rattle.scratch.proofs.Placed.{kept_same, kept_again, kept-other}
+use Rattle.scratch.specs.Places.{reading_mark}
+use Rattle.scratch.proofs.Placed.{kept_same, kept_again}
 use Rattle.gather_line.specs.Written.{ByLine, LineSent}
 use Rattle.gather_exchanges.specs.Lines.{LinesReady}
 use Rattle.gather_exchanges.specs.Exchanged.{sent_by, held_to, round_messages, Agree, Exchanged, ExchangedTo, Cleared}
 use Rattle.gather_line.proofs.Sent.{line-alike}
 use Rattle.gather_exchanges.proofs.Counting.{round-one, round-other, round_le, lines_next, lines_nothing}
 use Rattle.gather_exchanges.proofs.Rounds.{held_now, held_same}
-use Rattle.gather_line.proofs.Places.{stored-place, stored-kept, stored-set}
+use Rattle.gather_line.proofs.Places.{stored-place, stored-kept}
 use Rattle.gather_line.proofs.Writing.{place-before}
 
 -- a line below k + 1 is below k, or is k
@@ -129,26 +127,27 @@ module _ {s : Sizes} {cells : List Cell} {p : Plan} where
           → ExchangedTo s cells p (t + 1) values marks values'' marks'' (m + q)
       to_next y = rw add-one (to_suc (rw add-one at y))
 
--- places that are cleared
-module _ (values : List ℤ) (marks : List ℕ) where
-  pub clear_none : Cleared 0 values marks values marks
-  clear_none = record { values_length = refl; marks_length = refl; missing = λ j h. absurd (omega arith); behind = λ j h. kept_same }
+-- the first k of a list, all the same, and the others as they were
+module _ {X : Type 0} (k : ℕ) (a d : X) (xs : List X) where
+  front-at : (j : ℕ) → j < k → get_or (replicate k a ++ drop k xs) j d ≡ a
+  front-at j h = get_or-append (replicate k a) (drop k xs) d j (simp length-replicate h) ∙ get_or-replicate k j a d h
 
-  pub clear_next : {values' : List ℤ} {marks' : List ℕ} (k : ℕ) → k < length values → k < length marks
-      → Cleared k values marks values' marks' → SFits w32 (reading_value Missing)
-      → Cleared (k + 1) values marks (set values' k (reading_value Missing)) (set marks' k (reading_mark Missing))
-  clear_next {values'} {marks'} k room room' c fits =
-      let other : (j : ℕ) → j ≢ k → Kept j values' marks' (set values' k (reading_value Missing)) (set marks' k (reading_mark Missing)) =
-      kept-other values' marks' k (reading_value Missing) (reading_mark Missing) in
-      record {
-        values_length = length-set values' k (reading_value Missing) ∙ c.values_length;
-        marks_length = length-set marks' k (reading_mark Missing) ∙ c.marks_length;
-        missing = λ j h.
-            ⊎_elim
-            (λ (b : j < k). stored-kept (c.missing j b) (other j (λ q. omega arith)))
-            (λ (b : k ≤ j).
-            let q : j ≡ k = omega arith in
-            rw q (stored-set values' marks' k Missing (omega (arith, c.values_length)) (omega (arith, c.marks_length)) fits))
-            (lt_or_le j k);
-        behind = λ j h. kept_again (c.behind j (omega arith)) (other j (λ q. omega arith));
-      }
+  behind-at : (j : ℕ) → k ≤ j → get_or (replicate k a ++ drop k xs) j d ≡ get_or xs j d
+  behind-at j h =
+      let e : k + (j - k) ≡ j = omega arith in
+      get_or-append_right (replicate k a) (drop k xs) k j d (length-replicate k a) h ∙ get_or-drop k xs (j - k) d ∙ ap (λ (i : ℕ). get_or xs i d) e
+
+  front-length : k ≤ length xs → length (replicate k a ++ drop k xs) ≡ length xs
+  front-length h = simp (length-append, length-replicate, length-drop) (omega arith)
+
+-- places that are cleared
+pub cleared_by : (k : ℕ) (values : List ℤ) (marks : List ℕ) → k ≤ length values → k ≤ length marks
+    → Cleared k values marks (replicate k (pos 0) ++ drop k values) (replicate k 0 ++ drop k marks)
+unfolding reading_value reading_mark
+cleared_by k values marks v m =
+    record {
+      values_length = front-length k (pos 0) (pos 0) values v;
+      marks_length = front-length k 0 0 marks m;
+      missing = λ j h. record { value-is = front-at k (pos 0) (pos 0) values j h; mark_is = front-at k 0 0 marks j h; fits = record { sfits = omega arith } };
+      behind = λ j h. record { value-is = behind-at k (pos 0) (pos 0) values j h; mark_is = behind-at k 0 0 marks j h };
+    }

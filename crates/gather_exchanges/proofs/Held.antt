@@ -1,4 +1,5 @@
 -- What a record knows, who writes and what it has to know, by cases.
+use Rattle.std.specs.Prelude.{Some}
 use Prim.Native.Nat.{ℕ, ◌≤◌, ◌<◌}
 use mathlib.Core.Path.{◌≡◌, refl, sym, ap, ◌∙◌}
 use mathlib.Core.List.{List, [], ◌∷◌}
@@ -9,7 +10,6 @@ use lib.IntN.{pos}
 use lib.ListN.{length, get_or}
 use Rattle.register.specs.declared.Sizes.{Sizes}
 use Rattle.register.specs.declared.cells.Cell.{Cell}
-use Rattle.chain.specs.declared.reading.Reading.TheVariants.{Value}
 use Rattle.chain.specs.Word.{unpack, FirstHop}
 use Rattle.chain.proofs.Packing.{packed_some}
 use Rattle.laws.proofs.Cases.{lt_or_le}
@@ -28,7 +28,7 @@ module _ (s : Sizes) (cells : List Cell) where
   knows-told held v (f ∷ g ∷ w) h = refl
 
 -- the writer and what it has to know, by the number of hops
-pub writer-one : (held : Held) (f : Fact) (u : ℕ) → hops f < 2 → writer held f u ≡ Value (pos u)
+pub writer-one : (held : Held) (f : Fact) (u : ℕ) → hops f < 2 → writer held f u ≡ Some (pos u)
 unfolding writer
 writer-one held f u h = simp (lt-ltb (hops f) 2 h)
 

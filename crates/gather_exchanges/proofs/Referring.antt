@@ -1,4 +1,5 @@
 -- The messages of a line that leads from record to record are records.
+use Rattle.std.specs.Prelude.{None, Some}
 use Prim.Native.Nat.{ℕ, zero, suc, ◌<◌}
 use mathlib.Core.Path.{◌≡◌, refl}
 use mathlib.Core.Bool.{Bool, true, false, cond}
@@ -10,8 +11,7 @@ use Rattle.integers.proofs.Complement.{index_is}
 use Rattle.register.specs.Shape.{Valid}
 use Rattle.register.specs.declared.Sizes.{Sizes}
 use Rattle.register.specs.declared.cells.Cell.{Cell}
-use Rattle.chain.specs.declared.reading.Reading.{Reading}
-use Rattle.chain.specs.declared.reading.Reading.TheVariants.{Missing, Value}
+use Rattle.chain.specs.Reading.{Reading}
 use Rattle.chain.specs.Word.{hop, read_cell, refers_to}
 use Rattle.chain.proofs.Following.{own_refers, hop_refers}
 use Rattle.plan_lines.specs.Held.{line_at}
@@ -26,7 +26,7 @@ use Rattle.gather_exchanges.specs.Exchanged.{sent_by, held_to}
 cell_refers : {s : Sizes} {cells : List Cell} → Valid s cells → (v f : ℕ) → f < s.references → v < s.records
     → refers_to s.records (read_cell s cells v f) ≡ true
 unfolding hop
-cell_refers valid v f l h = hop_refers valid (Value (pos v)) f l (own_refers _ v h)
+cell_refers valid v f l h = hop_refers valid (Some (pos v)) f l (own_refers _ v h)
 
 module _ {s : Sizes} {cells : List Cell} {p : Plan} (valid : Valid s cells) (lines : LinesReady s p) where
   -- what is held for such lines is missing or a record
@@ -52,8 +52,8 @@ module _ {s : Sizes} {cells : List Cell} {p : Plan} (valid : Valid s cells) (lin
       written_refers : (x : Reading) → refers_to s.records x ≡ true
           → refers_to s.records (written_at s cells held (line_at p i).read (field_of (fact_at p i)) x) ≡ true
       unfolding written_at refers_to
-      written_refers Missing r = refl
-      written_refers (Value z) r = known_refers (nat_abs z) (index_is s.records z r).1
+      written_refers None r = refl
+      written_refers (Some z) r = known_refers (nat_abs z) (index_is s.records z r).1
 
       sent_refers : (u : ℕ) → u < s.records → refers_to s.records (sent_by s cells p held i u) ≡ true
       unfolding sent_by message_at

@@ -1,4 +1,5 @@
 -- For a plan that keeps its promise the exchanges send what the message machine sends, over whatever is held.
+use Rattle.std.specs.Prelude.{None, Some}
 use Prim.Native.Nat.{ℕ, zero, suc, ◌<◌}
 use mathlib.Core.Path.{◌≡◌, refl, sym, ap, ◌∙◌}
 use mathlib.Core.List.{List}
@@ -7,8 +8,7 @@ use lib.IntN.{nat_abs}
 use Rattle.register.specs.Shape.{Valid}
 use Rattle.register.specs.declared.Sizes.{Sizes}
 use Rattle.register.specs.declared.cells.Cell.{Cell}
-use Rattle.chain.specs.declared.reading.Reading.{Reading}
-use Rattle.chain.specs.declared.reading.Reading.TheVariants.{Missing, Value}
+use Rattle.chain.specs.Reading.{Reading}
 use Rattle.plan_theory.specs.Plan.{Fact, line}
 use Rattle.plan_lines.specs.Held.{facts, line_at}
 use Rattle.plan_lines.specs.Promised.{fact_at, Serves}
@@ -47,8 +47,8 @@ module _ {s : Sizes} {p : Plan} (planned : StepPlanned s p) (cells : List Cell) 
 
     written_is : (x : Reading) → written_at s cells (by_line held) (line_at p i).read (field_of (fact_at p i)) x ≡ written s cells held (fact_at p i) x
     unfolding written_at written
-    written_is Missing = refl
-    written_is (Value z) = known_is (nat_abs z)
+    written_is None = refl
+    written_is (Some z) = known_is (nat_abs z)
 
     writer-is : (u : ℕ) → writer_at (by_line held) (line_at p i).back u ≡ writer held (fact_at p i) u
     writer-is u =

@@ -9,7 +9,7 @@ use lib.IntN.{ℤ}
 use Rattle.register.specs.Shape.{Valid}
 use Rattle.register.specs.declared.Sizes.{Sizes}
 use Rattle.register.specs.declared.cells.Cell.{Cell}
-use Rattle.chain.specs.declared.reading.Reading.{Reading}
+use Rattle.chain.specs.Reading.{Reading}
 use Rattle.plan_lines.specs.Held.{line_at}
 use Rattle.plan_lines.specs.Promised.{fact_at}
 use Rattle.plan_lines.specs.declared.Plan.{Plan}

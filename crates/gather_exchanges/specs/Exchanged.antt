@@ -1,11 +1,11 @@
 -- What the exchanges make at the places of a plan's lines, and how many messages it takes. A message is made of what the lines
 -- before it hold and of its writer's own cells, and of nothing else.
+use Rattle.std.specs.Prelude.{None}
 use Rattle.std.specs.Prelude.{◌≡◌, true, cond, List, ◌≢◌, ℕ, zero, suc, ◌+◌, ◌*◌, ◌≤◌, ◌<◌, eqb, ℤ, pos, length, get_or}
 use Rattle.std.specs.Int.{w32}
 use Rattle.std.proofs.Common.{SFits}
 use Rattle.register.specs.declared.Sizes.{Sizes}
 use Rattle.register.specs.declared.cells.Cell.{Cell}
-use Rattle.chain.specs.declared.reading.Reading.TheVariants.{Missing}
 use Rattle.chain.specs.Word.{refers_to}
 use Rattle.plan_theory.specs.Plan.{line}
 use Rattle.plan_lines.specs.Held.{facts, line_at}
@@ -24,7 +24,7 @@ module _ (s : Sizes) (cells : List Cell) (p : Plan) where
 
   -- "A step does the lines of round 1, then 2, and so on": in exchange t the lines of round t, over what was held before it
   unfoldable pub held_to : ℕ → ByLine
-  held_to zero i u = Missing
+  held_to zero i u = None
   held_to (suc t) i u = cond (eqb (line_at p i).round (suc t)) (sent_by (held_to t) i u) (held_to t i u)
 
 -- over whatever is held for the facts of its lines, a plan's exchanges send what the message machine sends: "the writer sends
@@ -81,5 +81,5 @@ module _ (s : Sizes) (cells : List Cell) (p : Plan) (t : ℕ) where
 pub record Cleared (k : ℕ) (values : List ℤ) (marks : List ℕ) (values' : List ℤ) (marks' : List ℕ) : Type 0 where
   pub values_length : length values' ≡ length values
   pub marks_length : length marks' ≡ length marks
-  pub missing : (j : ℕ) → j < k → Stored Missing j values' marks'
+  pub missing : (j : ℕ) → j < k → Stored None j values' marks'
   pub behind : (j : ℕ) → k ≤ j → Kept j values marks values' marks'

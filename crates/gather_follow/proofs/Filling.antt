@@ -1,6 +1,6 @@
 -- Places that are filled: one more line of a plan.
 use Prim.Native.Nat.{ℕ, ◌+◌, ◌*◌, ◌≤◌, ◌<◌}
-use mathlib.Core.Path.{◌≡◌, refl, ap₂, sym, ◌∙◌}
+use mathlib.Core.Path.{◌≡◌, refl, ap, ap₂, sym, ◌∙◌}
 use mathlib.Core.Bool.{Bool, true, false}
 use mathlib.Core.List.{List}
 use mathlib.Core.Logic.{⊎_elim}
@@ -38,6 +38,10 @@ pub line_by_key : {k : Kind} {w : List ℕ} (keys : List ℕ) (count i : ℕ) �
 line_by_key keys count i within h e q =
     facts-line keys count within i h ∙ fact_by_kind (fact_of (get_or keys i 0)) ∙ sym (ap₂ kind_fact e q)
 
+-- and by its kind alone
+pub kind_by_key : {k : Kind} (keys : List ℕ) (count i : ℕ) → count ≤ length keys → i < count → k ≡ kind (fact_of (get_or keys i 0)) → k ≡ kind (line (facts_in keys count) i)
+kind_by_key keys count i within h e = e ∙ sym (ap kind (facts-line keys count within i h))
+
 module _ (s : Sizes) (cells : List Cell) where
   -- a reading stays where its place is kept
   read_kept : {w : List ℕ} {i u : ℕ} {values values' : List ℤ} {marks marks' : List ℕ} → ReadAt s cells w i u values marks
@@ -63,9 +67,9 @@ module _ (s : Sizes) (cells : List Cell) where
             behind = λ j h. f.behind j (omega arith);
           }
 
-      -- a Back line has no reading
-      pub plan-back : {w : List ℕ} → line l k ≡ back w → Filled s cells l wanted (k + 1) values marks values' marks'
-      plan-back e = plan-left (λ v a q. let z : ◌≡◌ {A = ℕ} 0 1 = cc in absurd (omega arith))
+      -- a line that is no Read line has no reading
+      pub plan-other : (kind (line l k) ≡ Read → ⊥) → Filled s cells l wanted (k + 1) values marks values' marks'
+      plan-other other = plan-left (λ v a q. other (ap kind q))
 
       pub plan_unwanted : get_or wanted k false ≡ false → Filled s cells l wanted (k + 1) values marks values' marks'
       plan_unwanted e = plan-left (λ v a q. let z : ◌≡◌ {A = ℕ} 0 1 = cc in absurd (omega arith))

@@ -6,7 +6,8 @@ use Rattle.register.specs.declared.Sizes.{Sizes}
 use Rattle.register.specs.declared.cells.Cell.{Cell}
 use Rattle.chain.specs.Word.{readable, value_at_record}
 use Rattle.plan_theory.specs.Plan.{Fact, read, line}
-use Rattle.plan_lines.specs.Held.{facts_in}
+use Rattle.plan_lines.specs.Held.{facts}
+use Rattle.plan_lines.specs.declared.Plan.{Plan}
 use Rattle.scratch.specs.Places.{place_at, Kept}
 
 -- every Read line can be followed, and has two or more hops
@@ -14,14 +15,14 @@ pub record FollowLines (s : Sizes) (l : List Fact) : Type 0 where
   pub each : (i : ℕ) (w : List ℕ) → i < length l → line l i ≡ read w → readable s w ≡ true
   pub two : (i : ℕ) (w : List ℕ) → i < length l → line l i ≡ read w → 2 ≤ length w
 
--- 64 places for keys and as many that tell which lines are wanted, Read lines that can be followed, and room for the places of the first `count`
-pub record FollowReady (s : Sizes) (keys : List ℕ) (wanted : List Bool) (count : ℕ) (values : List ℤ) (marks : List ℕ) : Type 0 where
-  pub keys_length : length keys ≡ 64
-  pub count≤ : count ≤ 64
+-- 64 places for keys and as many that tell which lines are wanted, Read lines that can be followed, and room for their places
+pub record FollowReady (s : Sizes) (p : Plan) (wanted : List Bool) (values : List ℤ) (marks : List ℕ) : Type 0 where
+  pub keys_length : length p.keys ≡ 64
+  pub count≤ : p.count ≤ 64
   pub wanted_length : length wanted ≡ 64
-  pub follow : FollowLines s (facts_in keys count)
-  pub values_room : count * s.records ≤ length values
-  pub marks_room : count * s.records ≤ length marks
+  pub follow : FollowLines s (facts p)
+  pub values_room : p.count * s.records ≤ length values
+  pub marks_room : p.count * s.records ≤ length marks
 
 -- the place of line i and record u holds the reading of w there, a value of 32 bits
 pub record ReadAt (s : Sizes) (cells : List Cell) (w : List ℕ) (i u : ℕ) (values : List ℤ) (marks : List ℕ) : Type 0 where

@@ -1,47 +1,34 @@
 // The direct machine's readings: the places of a plan's Read lines, filled by following references.
 #![tactic(auto)]
 
-ghost use Rattle.register.specs.Cells.{cells_of};
-ghost use Rattle.register.specs.Shape.{Parts, Valid};
-ghost use Rattle.plan_lines.specs.Held.{facts_in};
+ghost use Rattle.register.specs.View.{cells_in};
+ghost use Rattle.register.specs.Shape.{Valid};
+ghost use Rattle.plan_lines.specs.Held.{facts};
 ghost use Rattle.gather_follow.specs.Filled.{FollowReady, Filled};
 
 use gather_hops;
 use plan_keys::key;
 use plan_keys::key::Kind;
-use register::Sizes;
+use plan_lines::Plan;
+use register::cells::Cells;
 
 // The places of the Read lines of a plan that a rule reads; those of the others stay as they are.
 pub fn fill(
-    cells: &[u8],
-    filled: &[u8],
+    cells: &Cells<'_>,
     values: &mut [i64],
     marks: &mut [u8],
-    sizes: Sizes,
-    keys: &[u64; 64],
+    plan: &Plan,
     wanted: &[bool; 64],
-    count: usize,
 )
-    requires { Parts sizes cells.now filled.now × Valid sizes (cells_of cells.now filled.now) × FollowReady sizes keys.now wanted.now count values.old marks.old }
-    ensures { Filled sizes (cells_of cells.now filled.now) (facts_in keys.now count)
-        wanted.now count values.old marks.old values.new marks.new }
+    requires { Valid cells.now.sizes (cells_in cells.now) × FollowReady cells.now.sizes plan.now wanted.now values.old marks.old }
+    ensures { Filled cells.now.sizes (cells_in cells.now) (facts plan.now)
+        wanted.now plan.now.count values.old marks.old values.new marks.new }
 {
-    for i in 0..count {
+    for i in 0..plan.count {
         if wanted[i] {
-            let line = keys[i];
-            match key::kind_of(line) {
-                Kind::Back => {}
-                Kind::Read => {
-                    gather_hops::fill_line(
-                        cells,
-                        filled,
-                        values,
-                        marks,
-                        sizes,
-                        i,
-                        key::chain_of(line),
-                    );
-                }
+            let line = plan.keys[i];
+            if let Kind::Read = key::kind_of(line) {
+                gather_hops::fill_line(cells, values, marks, i, key::chain_of(line));
             }
         }
     }

@@ -1,4 +1,5 @@
 -- A line of places taken hop by hop along a chain.
+use Rattle.std.specs.Prelude.{None, Some}
 use Prim.Native.Nat.{ℕ, ◌<◌}
 use mathlib.Core.Path.{◌≡◌, refl, sym, ap, ◌∙◌}
 use mathlib.Core.Bool.{true}
@@ -13,8 +14,7 @@ use Rattle.register.specs.Cells.{cell_of}
 use Rattle.register.specs.Shape.{Valid}
 use Rattle.register.specs.declared.Sizes.{Sizes}
 use Rattle.register.specs.declared.cells.Cell.{Cell}
-use Rattle.chain.specs.declared.reading.Reading.{Reading}
-use Rattle.chain.specs.declared.reading.Reading.TheVariants.{Missing, Value}
+use Rattle.chain.specs.Reading.{Reading}
 use Rattle.chain.specs.Word.{readable, read_of, read_cell, reading_value, hop, follow, FirstHop, value_at_record}
 use Rattle.chain.proofs.Packing.{first_some_lem}
 use Rattle.chain.proofs.Following.{readable-field, readable-rest, Underway, underway-first, underway-next, underway-last}
@@ -37,8 +37,8 @@ unfolding read_of cell_of reading_value reading_mark
 reading-stored x j values marks v m fits = stored_as (λ u h. put-read x) (stored_one j values marks _ _ v m fits)
   where
     put-read : (x : Reading) → read_of (cell_of (reading_value x) (reading_mark x)) ≡ x
-    put-read Missing = refl
-    put-read (Value z) = refl
+    put-read None = refl
+    put-read (Some z) = refl
 
 -- the first two hops of a word that can be followed
 pub readable-two : (s : Sizes) {w rest : List ℕ} {f g : ℕ} → w ≡ f ∷ g ∷ rest → readable s w ≡ true → readable s (f ∷ g ∷ []) ≡ true

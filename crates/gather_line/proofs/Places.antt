@@ -7,7 +7,7 @@ use lib.ListN.{length, get_or, set}
 use lib.Seq.{get_or-set_same}
 use mir.Syntax.{w32}
 use mir.Val.{SFits}
-use Rattle.chain.specs.declared.reading.Reading.{Reading}
+use Rattle.chain.specs.Reading.{Reading}
 use Rattle.chain.specs.Word.{reading_value}
 use Rattle.scratch.specs.Places.{place_at, reading_mark, Kept}
 use Rattle.scratch.proofs.Placed.{place_at-put}

@@ -1,15 +1,21 @@
 -- The messages of a line, counted.
+use Rattle.std.specs.Prelude.{None, Some, Bool, is_some}
+use Rattle.std.specs.Int.{from_bool}
 use Prim.Native.Nat.{ℕ, zero, suc, ◌+◌, ◌≤◌, ◌<◌}
 use mathlib.Core.Path.{◌≡◌, refl, ap, ap₂, ◌∙◌}
 use native.Mathlib.Numerals.{add-one}
 use native.Mathlib.Omega.{arith}
-use Rattle.chain.specs.declared.reading.Reading.{Reading}
-use Rattle.chain.specs.declared.reading.Reading.TheVariants.{Missing, Value}
+use Rattle.chain.specs.Reading.{Reading}
 use Rattle.machine_messages.specs.Counts.{is_sent, line_messages}
 
 pub sent_le : (x : Reading) → is_sent x ≤ 1
-sent_le Missing = omega arith
-sent_le (Value z) = omega arith
+sent_le None = omega arith
+sent_le (Some z) = omega arith
+
+-- one is sent where there is a reading
+pub sent_is : (x : Reading) (b : Bool) (k : ℕ) → b ≡ is_some x → k ≡ from_bool b → k ≡ is_sent x
+sent_is None b k e q = rw e at q
+sent_is (Some z) b k e q = rw e at q
 
 pub line_nothing : (held : ℕ → Reading) → line_messages held 0 ≡ 0
 unfolding line_messages
@@ -33,7 +39,7 @@ unfolding line_messages
 line-alike held other zero h = refl
 line-alike held other (suc n) h = ap₂ ◌+◌ (line-alike held other n (λ u l. h u (omega arith))) (ap is_sent (h n (omega arith)))
 
-pub line_missing : (held : ℕ → Reading) (n : ℕ) → ((u : ℕ) → held u ≡ Missing) → line_messages held n ≡ 0
+pub line_missing : (held : ℕ → Reading) (n : ℕ) → ((u : ℕ) → held u ≡ None) → line_messages held n ≡ 0
 unfolding line_messages
 line_missing held zero h = refl
 line_missing held (suc n) h = simp (h n) (omega (arith, line_missing held n h))

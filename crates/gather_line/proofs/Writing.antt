@@ -1,4 +1,5 @@
 -- What a writer finds and writes, and a line's messages at its places, origin by origin.
+use Rattle.std.specs.Prelude.{None, Some}
 use Prim.Native.Nat.{ℕ, ◌+◌, ◌*◌, ◌≤◌, ◌<◌}
 use mathlib.Core.Path.{◌≡◌, refl, sym, ap, ◌∙◌}
 use mathlib.Core.Bool.{true}
@@ -17,8 +18,7 @@ use mir.Val.{SFits}
 use Rattle.integers.proofs.Complement.{index_is}
 use Rattle.register.specs.declared.Sizes.{Sizes}
 use Rattle.register.specs.declared.cells.Cell.{Cell}
-use Rattle.chain.specs.declared.reading.Reading.{Reading}
-use Rattle.chain.specs.declared.reading.Reading.TheVariants.{Missing, Value}
+use Rattle.chain.specs.Reading.{Reading}
 use Rattle.chain.specs.Word.{read_cell, refers_to, reading_value}
 use Rattle.laws.proofs.Cases.{lt_or_le}
 use Rattle.chain.proofs.Following.{own_refers}
@@ -39,7 +39,7 @@ none-or-line {P} j none some = go (ℕ_discrete j 64)
 
 -- the writer
 module _ (held : ByLine) (back u : ℕ) where
-  pub writer_own : back ≡ 64 → Value (pos u) ≡ writer_at held back u
+  pub writer_own : back ≡ 64 → Some (pos u) ≡ writer_at held back u
   unfolding writer_at
   writer_own e = simp (eq-eqb back 64 e)
 
@@ -66,11 +66,11 @@ module _ (s : Sizes) (cells : List Cell) (held : ByLine) (read field : ℕ) wher
 
   -- the message, by its writer
   module _ (back u : ℕ) where
-    pub message-none : Missing ≡ writer_at held back u → Missing ≡ message_at s cells held back read field u
+    pub message-none : None ≡ writer_at held back u → None ≡ message_at s cells held back read field u
     unfolding message_at written_at
     message-none e = ap (written_at s cells held read field) e
 
-    pub message_by : {z : ℤ} (v : ℕ) → Value z ≡ writer_at held back u → v ≡ nat_abs z
+    pub message_by : {z : ℤ} (v : ℕ) → Some z ≡ writer_at held back u → v ≡ nat_abs z
         → known_at s cells held read field v ≡ message_at s cells held back read field u
     unfolding message_at written_at
     message_by v e q = ap (known_at s cells held read field) q ∙ ap (written_at s cells held read field) e
@@ -92,8 +92,8 @@ module _ (s : Sizes) (cells : List Cell) (held held' : ByLine) (back read field 
 
   written-alike : (x : Reading) → refers_to s.records x ≡ true → written_at s cells held read field x ≡ written_at s cells held' read field x
   unfolding written_at refers_to
-  written-alike Missing r = refl
-  written-alike (Value z) r = known_alike (nat_abs z) (index_is s.records z r).1
+  written-alike None r = refl
+  written-alike (Some z) r = known_alike (nat_abs z) (index_is s.records z r).1
 
   pub message-alike : refers_to s.records (writer_at held' back u) ≡ true
       → message_at s cells held back read field u ≡ message_at s cells held' back read field u
@@ -102,7 +102,7 @@ module _ (s : Sizes) (cells : List Cell) (held held' : ByLine) (back read field 
 
 -- the writer by the places is an index
 pub writer-index : {s : Sizes} {values : List ℤ} {marks : List ℕ} {back : ℕ} (u : ℕ) (z : ℤ) → BackHeld s values marks back → u < s.records
-    → Value z ≡ writer_at (places_of s values marks) back u → T (non_neg z) × (nat_abs z < s.records)
+    → Some z ≡ writer_at (places_of s values marks) back u → T (non_neg z) × (nat_abs z < s.records)
 unfolding refers_to
 writer-index {s} {values} {marks} {back} u z h p e =
     let i = index_is s.records z (rw (← e) at (writer_refers (places_of s values marks) back u s.records (λ n. h.refers n u p) p)) in

@@ -1,12 +1,12 @@
 -- What a writer finds and writes, by what the lines of its needs hold. A line is given by the lines of its two needs, 64 where it needs none, and where
 -- it needs no Read line by the field of the one hop that its writer has to know.
+use Rattle.std.specs.Prelude.{None, Some}
 use Rattle.std.specs.Prelude.{◌≡◌, true, cond, List, ◌≢◌, ℕ, ◌+◌, ◌*◌, ◌≤◌, ◌<◌, eqb, ℤ, pos, nat_abs, length, get_or}
 use Rattle.std.specs.Int.{w32}
 use Rattle.std.proofs.Common.{SFits}
 use Rattle.register.specs.declared.Sizes.{Sizes}
 use Rattle.register.specs.declared.cells.Cell.{Cell}
-use Rattle.chain.specs.declared.reading.Reading.{Reading}
-use Rattle.chain.specs.declared.reading.Reading.TheVariants.{Missing, Value}
+use Rattle.chain.specs.Reading.{Reading}
 use Rattle.chain.specs.Word.{has_field, read_cell, refers_to, reading_value}
 use Rattle.machine_messages.specs.Counts.{line_messages}
 use Rattle.scratch.specs.Places.{place_at, reading_mark, Kept}
@@ -21,7 +21,7 @@ places_of s values marks i u = place_at values marks (i * s.records + u)
 
 -- the writer for origin u: u, or the addressee of the message of line `back`
 unfoldable pub writer_at : ByLine → ℕ → ℕ → Reading
-writer_at held back u = cond (eqb back 64) (Value (pos u)) (held back u)
+writer_at held back u = cond (eqb back 64) (Some (pos u)) (held back u)
 
 module _ (s : Sizes) (cells : List Cell) (held : ByLine) where
   -- what record v knows: its own cell, or what the message of line `read` told it
@@ -30,8 +30,8 @@ module _ (s : Sizes) (cells : List Cell) (held : ByLine) where
 
   -- what a writer writes; where there is none, nothing
   unfoldable pub written_at : ℕ → ℕ → Reading → Reading
-  written_at read field Missing = Missing
-  written_at read field (Value v) = known_at read field (nat_abs v)
+  written_at read field None = None
+  written_at read field (Some v) = known_at read field (nat_abs v)
 
   -- the message for origin u
   unfoldable pub message_at : ℕ → ℕ → ℕ → ℕ → Reading

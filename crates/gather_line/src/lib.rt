@@ -2,26 +2,24 @@
 #![tactic(auto)]
 
 ghost use Rattle.std.specs.Prelude.{◌≡◌, ◌≤◌, ◌<◌};
-ghost use Rattle.register.specs.Cells.{cells_of};
-ghost use Rattle.register.specs.Shape.{Parts};
-ghost use Rattle.machine_messages.specs.Counts.{is_sent};
+ghost use Rattle.register.specs.View.{cells_in};
 ghost use Rattle.gather_line.specs.Written.{places_of, writer_at, known_at, message_at, ReadHeld, BackHeld, LineReady, LineSent};
 
 use chain::follow;
-use chain::reading::Reading;
 use register::Sizes;
+use register::cells::Cells;
 use scratch;
 
-// The line of a need that has none.
+// The line of a need that has none: a number, and no Option, since a plan's arrays, which the C interface hands out, hold it so.
 const NO_LINE: usize = 64;
 
 // Who writes for origin u: u itself, or the addressee of the message of line `back`; missing where that was not sent.
-fn writer(values: &[i64], marks: &[u8], sizes: Sizes, u: usize, back: usize) -> Reading
+fn writer(values: &[i64], marks: &[u8], sizes: Sizes, u: usize, back: usize) -> Option<i32>
     requires { (sizes.records ≤ 4096) × (u < sizes.records) × BackHeld sizes values.now marks.now back }
     ensures { result ≡ writer_at (places_of sizes values.now marks.now) back u }
 {
     if back == NO_LINE {
-        return Reading::Value(integers::of_index(u));
+        return Some(integers::of_index(u));
     }
     scratch::read_at(values, marks, back * sizes.records + u)
 }
@@ -29,81 +27,62 @@ fn writer(values: &[i64], marks: &[u8], sizes: Sizes, u: usize, back: usize) -> 
 // What record v knows of a word: its own cell of a field where no line reads it, otherwise what the message of line `read`
 // told it.
 fn known(
-    cells: &[u8],
-    filled: &[u8],
+    cells: &Cells<'_>,
     values: &[i64],
     marks: &[u8],
-    sizes: Sizes,
     v: usize,
     read: usize,
     field: usize,
-) -> Reading
-    requires { Parts sizes cells.now filled.now × (v < sizes.records) × ReadHeld sizes values.now marks.now read field }
-    ensures { result ≡ known_at sizes (cells_of cells.now filled.now)
-        (places_of sizes values.now marks.now) read field v }
+) -> Option<i32>
+    requires { (v < cells.now.sizes.records) × ReadHeld cells.now.sizes values.now marks.now read field }
+    ensures { result ≡ known_at cells.now.sizes (cells_in cells.now)
+        (places_of cells.now.sizes values.now marks.now) read field v }
 {
     if read == NO_LINE {
-        return follow::read_cell(cells, filled, sizes, v, field);
+        return follow::read_cell(cells, v, field);
     }
-    scratch::read_at(values, marks, read * sizes.records + v)
+    scratch::read_at(values, marks, read * cells.sizes.records + v)
 }
 
 // The message for origin u: what its writer knows.
 fn message(
-    cells: &[u8],
-    filled: &[u8],
+    cells: &Cells<'_>,
     values: &[i64],
     marks: &[u8],
-    sizes: Sizes,
     u: usize,
     back: usize,
     read: usize,
     field: usize,
-) -> Reading
-    requires { Parts sizes cells.now filled.now × (u < sizes.records) × BackHeld sizes values.now marks.now back
-        × ReadHeld sizes values.now marks.now read field }
-    ensures { result ≡ message_at sizes (cells_of cells.now filled.now)
-        (places_of sizes values.now marks.now) back read field u }
+) -> Option<i32>
+    requires { (u < cells.now.sizes.records) × BackHeld cells.now.sizes values.now marks.now back
+        × ReadHeld cells.now.sizes values.now marks.now read field }
+    ensures { result ≡ message_at cells.now.sizes (cells_in cells.now)
+        (places_of cells.now.sizes values.now marks.now) back read field u }
 {
-    let Reading::Value(number) = writer(values, marks, sizes, u, back) else {
-        return Reading::Missing;
-    };
-    let v = integers::index(number);
-    known(cells, filled, values, marks, sizes, v, read, field)
+    let number = writer(values, marks, cells.sizes, u, back)?;
+    known(cells, values, marks, integers::index(number), read, field)
 }
 
-// 1 for a message, also one to oneself, and 0 for none.
-fn is_sent(message: Reading) -> usize
-    ensures { result ≡ is_sent message }
-{
-    match message {
-        Reading::Missing => 0,
-        Reading::Value(_) => 1,
-    }
-}
-
-// The messages of line i, at its places; how many are sent.
+// The messages of line i, at its places; how many are sent, also those to oneself.
 pub fn exchange(
-    cells: &[u8],
-    filled: &[u8],
+    cells: &Cells<'_>,
     values: &mut [i64],
     marks: &mut [u8],
-    sizes: Sizes,
     i: usize,
     back: usize,
     read: usize,
     field: usize,
 ) -> usize
-    requires { Parts sizes cells.now filled.now × LineReady sizes values.old marks.old i back read field }
-    ensures { LineSent sizes (message_at sizes (cells_of cells.now filled.now)
-        (places_of sizes values.old marks.old) back read field) i sizes.records
+    requires { LineReady cells.now.sizes values.old marks.old i back read field }
+    ensures { LineSent cells.now.sizes (message_at cells.now.sizes (cells_in cells.now)
+        (places_of cells.now.sizes values.old marks.old) back read field) i cells.now.sizes.records
         values.old marks.old values.new marks.new result }
 {
-    let first = i * sizes.records;
+    let first = i * cells.sizes.records;
     let mut sent = 0;
-    for u in 0..sizes.records {
-        let reading = message(cells, filled, values, marks, sizes, u, back, read, field);
-        sent += is_sent(reading);
+    for u in 0..cells.sizes.records {
+        let reading = message(cells, values, marks, u, back, read, field);
+        sent += usize::from(reading.is_some());
         scratch::put_reading(values, marks, first + u, reading);
     }
     sent

@@ -1,8 +1,8 @@
 -- The range that a sum must stay in, and the answer of a sum.
+use Rattle.std.specs.Prelude.{None, Some}
 use Rattle.std.specs.Prelude.{ℕ, Bool, false, cond, ◌&&◌, ℤ, pos, negsuc, eqb}
 use Rattle.std.specs.Int.Signed.{le_z, lt_z}
-use Rattle.integers.specs.declared.Sum.{Sum}
-use Rattle.integers.specs.declared.Sum.TheVariants.{InRange, OutOfRange}
+use Rattle.std.specs.Prelude.{Option, ℤ}
 
 -- −2,147,483,648 to 2,147,483,647
 unfoldable pub in_range : ℤ → Bool
@@ -20,5 +20,5 @@ unfoldable pub is_index : ℕ → ℤ → Bool
 is_index n z = le_z (pos 0) z && lt_z z (pos n)
 
 -- the answer for a sum that comes to z
-unfoldable pub sum_of : ℤ → Sum
-sum_of z = cond (in_range z) (InRange z) OutOfRange
+unfoldable pub sum_of : ℤ → Option ℤ
+sum_of z = cond (in_range z) (Some z) None

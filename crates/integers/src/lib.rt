@@ -10,19 +10,14 @@ ghost use Rattle.integers.specs.Bytes.{four_bytes, word_at, value_at, value_byte
 ghost use Rattle.integers.specs.Factor.{factor};
 ghost use Rattle.integers.specs.Range.{sum_of, eq_z, is_index};
 
-// A sum, or that it leaves the range of a value.
-#[derive(Clone, Copy)]
-pub enum Sum {
-    InRange(i32),
-    OutOfRange,
-}
-
+#[tactic(auto, unfolding(crate::specs::Bytes::four_bytes))]
 pub fn word(a: u8, b: u8, c: u8, d: u8) -> u32
     ensures { result ≡ four_bytes a b c d }
 {
-    a as u32 + 256 * (b as u32 + 256 * (c as u32 + 256 * (d as u32)))
+    u32::from_le_bytes([a, b, c, d])
 }
 
+#[tactic(auto, unfolding(crate::specs::Bytes::word_at))]
 pub fn word_at(s: &[u8], at: usize) -> u32
     requires { at + 4 ≤ length s.now }
     ensures { result ≡ word_at s.now at }
@@ -34,13 +29,10 @@ pub fn word_at(s: &[u8], at: usize) -> u32
 pub fn signed(bits: u32) -> i32
     ensures { result ≡ to_z w32 bits }
 {
-    if bits < 2147483648 {
-        bits as i32
-    } else {
-        (bits - 2147483648) as i32 + (-2147483648)
-    }
+    bits.cast_signed()
 }
 
+#[tactic(auto, unfolding(crate::specs::Bytes::value_at))]
 pub fn value_at(s: &[u8], at: usize) -> i32
     requires { at + 4 ≤ length s.now }
     ensures { result ≡ value_at s.now at }
@@ -49,41 +41,39 @@ pub fn value_at(s: &[u8], at: usize) -> i32
 }
 
 // The four bytes of `value`, stored at `at`.
+#[tactic(auto, unfolding(crate::specs::Bytes::value_bytes, crate::specs::Bytes::word_bytes))]
 pub fn put_value(s: &mut [u8], at: usize, value: i32)
     requires { at + 4 ≤ length s.old }
     ensures { s.new ≡ sets s.old at (value_bytes value) }
 {
-    let bits = unsigned(value);
-    s[at] = (bits % 256) as u8;
-    s[at + 1] = (bits / 256 % 256) as u8;
-    s[at + 2] = (bits / 65536 % 256) as u8;
-    s[at + 3] = (bits / 16777216 % 256) as u8;
+    let [a, b, c, d] = value.to_le_bytes();
+    s[at] = a;
+    s[at + 1] = b;
+    s[at + 2] = c;
+    s[at + 3] = d;
 }
 
 // The bits of `value`.
 pub fn unsigned(value: i32) -> u32
     ensures { result ≡ of_z w32 value }
 {
-    if value < 0 {
-        4294967295 - (!value) as u32
-    } else {
-        value as u32
-    }
+    value.cast_unsigned()
 }
 
-pub fn add(a: i32, b: i32) -> Sum
+pub fn add(a: i32, b: i32) -> Option<i32>
     ensures { result ≡ sum_of (a +ℤ b) }
 {
     in_range(a as i64 + b as i64)
 }
 
-pub fn subtract(a: i32, b: i32) -> Sum
+pub fn subtract(a: i32, b: i32) -> Option<i32>
     ensures { result ≡ sum_of (a -ℤ b) }
 {
     in_range(a as i64 - b as i64)
 }
 
 // A value times the factor of a mark: 0 for mark 0, 1 for marks 1 and 2, without a branch on the mark.
+#[tactic(auto, unfolding(crate::specs::Factor::factor))]
 pub fn times_mark(value: i32, mark: u8) -> i32
     requires { mark ≤ 2 }
     ensures { result ≡ value *ℤ pos (factor mark) }
@@ -91,15 +81,12 @@ pub fn times_mark(value: i32, mark: u8) -> i32
     value * (mark != 0) as i32
 }
 
-pub fn in_range(sum: i64) -> Sum
+// A sum as a value, none where it leaves the range of one.
+#[tactic(auto, unfolding(crate::specs::Range::sum_of, crate::specs::Range::in_range))]
+pub fn in_range(sum: i64) -> Option<i32>
     ensures { result ≡ sum_of sum }
 {
-    if -2147483648 <= sum {
-        if sum <= 2147483647 {
-            return Sum::InRange(sum as i32);
-        }
-    }
-    Sum::OutOfRange
+    i32::try_from(sum).ok()
 }
 
 pub fn less(a: i32, b: i32) -> bool
@@ -108,6 +95,7 @@ pub fn less(a: i32, b: i32) -> bool
     a < b
 }
 
+#[tactic(auto, unfolding(crate::specs::Range::eq_z))]
 pub fn equal(a: i32, b: i32) -> bool
     ensures { result ≡ eq_z a b }
 {
@@ -115,6 +103,7 @@ pub fn equal(a: i32, b: i32) -> bool
 }
 
 // Whether a value is an index below n.
+#[tactic(auto, unfolding(crate::specs::Range::is_index))]
 pub fn is_index(n: usize, value: i32) -> bool
     requires { n < 2147483648 }
     ensures { result ≡ is_index n value }

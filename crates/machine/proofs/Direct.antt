@@ -1,4 +1,5 @@
 -- What the hop-by-hop machine reads in a valid register: a value that fits, and for a reference word a record.
+use Rattle.std.specs.Prelude.{None, Some}
 use Prim.Native.Nat.{ℕ, ◌≤◌, ◌<◌}
 use mathlib.Core.Path.{◌≡◌, sym, ◌∙◌}
 use mathlib.Core.Bool.{Bool, true, or-false}
@@ -15,8 +16,7 @@ use Rattle.register.specs.File.{cell_index}
 use Rattle.register.specs.Shape.{Valid}
 use Rattle.register.specs.declared.Sizes.{Sizes}
 use Rattle.register.specs.declared.cells.Cell.{Cell}
-use Rattle.chain.specs.declared.reading.Reading.{Reading}
-use Rattle.chain.specs.declared.reading.Reading.TheVariants.{Missing, Value}
+use Rattle.chain.specs.Reading.{Reading}
 use Rattle.chain.specs.Word.{is_reference, has_field, readable, Passes, column, read_cell, hop, follow, value_at_record, refers_to, reading_value}
 use Rattle.chain.proofs.ReadOf.{read-value}
 use Rattle.chain.proofs.Following.{own_refers, hop_refers}
@@ -32,8 +32,8 @@ reference_below s f h e = ltb-true f s.references (sym (or-false _) ∙ simp (lt
 -- a reference fits: records are few
 refers_fits : (n : ℕ) (x : Reading) → n ≤ 4096 → refers_to n x ≡ true → SFits w32 (reading_value x)
 unfolding refers_to reading_value
-refers_fits n Missing l h = record { sfits = omega arith }
-refers_fits n (Value z) l h = let i = index_is n z h in rw i.0 (record { sfits = omega arith })
+refers_fits n None l h = record { sfits = omega arith }
+refers_fits n (Some z) l h = let i = index_is n z h in rw i.0 (record { sfits = omega arith })
 
 -- what is known of a reading
 record Read (s : Sizes) (reference : Bool) (x : Reading) : Type 0 where
@@ -44,8 +44,8 @@ module _ {s : Sizes} {cells : List Cell} (v : Valid s cells) where
   -- one hop, to a value that fits
   hop-fits : (x : Reading) (f : ℕ) → SFits w32 (reading_value (hop s cells x f))
   unfolding hop read_cell reading_value
-  hop-fits Missing f = record { sfits = omega arith }
-  hop-fits (Value z) f = rw read-value (v.values (cell_index s (nat_abs z) (column s f)))
+  hop-fits None f = record { sfits = omega arith }
+  hop-fits (Some z) f = rw read-value (v.values (cell_index s (nat_abs z) (column s f)))
 
   -- all hops of a word
   follow-read : (x : Reading) (w : List ℕ) → readable s w ≡ true → refers_to s.records x ≡ true → Read s (is_reference_word w) (follow s cells x w)
@@ -60,7 +60,7 @@ module _ {s : Sizes} {cells : List Cell} (v : Valid s cells) where
     -- from the record's own number
     direct-read : Read s (is_reference_word w) (direct s rs cells u w)
     unfolding direct value_at_record
-    direct-read = follow-read (Value (pos u)) w k.follows (own_refers s.records u inside)
+    direct-read = follow-read (Some (pos u)) w k.follows (own_refers s.records u inside)
 
     pub direct-fits : SFits w32 (reading_value (direct s rs cells u w))
     direct-fits = direct-read.fits

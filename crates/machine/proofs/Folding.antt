@@ -9,7 +9,7 @@ use lib.ListN.{length, length-set}
 use Rattle.laws.proofs.Bools.{or-neither, true_false, cond_both}
 use Rattle.register.specs.declared.Sizes.{Sizes}
 use Rattle.register.specs.declared.cells.Cell.{Cell}
-use Rattle.chain.specs.declared.reading.Reading.{Reading}
+use Rattle.chain.specs.Reading.{Reading}
 use Rattle.chain.specs.Word.{column}
 use Rattle.program.specs.Program.{Target, own, remote, Rule, is_remote, some_target, has_remote, target_field}
 use Rattle.machine.specs.declared.message.Message.{Message}

@@ -1,4 +1,5 @@
 -- A step that does not stop keeps a register valid: the values are in range, and the references lead to records.
+use Rattle.std.specs.Prelude.{None, Some}
 use Prim.Native.Nat.{ℕ, zero, suc, ◌<◌}
 use mathlib.Core.Path.{◌≡◌, refl, sym, ◌∙◌}
 use mathlib.Core.Bool.{true, false}
@@ -17,8 +18,7 @@ use Rattle.register.specs.Shape.{Limits, Valid, refers_within}
 use Rattle.register.specs.declared.Sizes.{Sizes}
 use Rattle.register.specs.declared.cells.Cell.{Cell}
 use Rattle.register.specs.declared.cells.Cell.TheVariants.{WorkedOut}
-use Rattle.chain.specs.declared.reading.Reading.{Reading}
-use Rattle.chain.specs.declared.reading.Reading.TheVariants.{Missing, Value}
+use Rattle.chain.specs.Reading.{Reading}
 use Rattle.chain.specs.Word.{is_reference, Passes, read_of, refers_to, reading_value}
 use Rattle.chain.proofs.ReadOf.{read-value}
 use Rattle.program.specs.declared.rule.Operator.TheVariants.{Plus, Minus, Smaller}
@@ -43,22 +43,22 @@ unfolding cell_in_range reading_in_range reading_value in_range
 in_range-fits c e = rw (← read-value c) (go (read_of c) e)
   where
     go : (x : Reading) → reading_in_range x ≡ true → SFits w32 (reading_value x)
-    go Missing e = record { sfits = omega arith }
-    go (Value z) e = let bounds = and_both _ _ e in range_fits z bounds.0 bounds.1
+    go None e = record { sfits = omega arith }
+    go (Some z) e = let bounds = and_both _ _ e in range_fits z bounds.0 bounds.1
 
 pub fits-in_range : (c : Cell) → SFits w32 (value_of c) → cell_in_range c ≡ true
 unfolding cell_in_range reading_in_range reading_value
 fits-in_range c h = go (read_of c) (rw (read-value c) h)
   where
     go : (x : Reading) → SFits w32 (reading_value x) → reading_in_range x ≡ true
-    go Missing h = refl
-    go (Value z) h = fits_range z h
+    go None h = refl
+    go (Some z) h = fits_range z h
 
 -- a cell that refers does so behind `:=` of a reading that does
 stored_over_refers : (n : ℕ) (x : Reading) (c : Cell) → refers_to n x ≡ true → refers_within n c ≡ true → refers_within n (stored_over x c) ≡ true
 unfolding stored_over refers_within refers_to
-stored_over_refers n Missing c e h = h
-stored_over_refers n (Value z) c e h = e
+stored_over_refers n None c e h = h
+stored_over_refers n (Some z) c e h = e
 
 -- "`<?=` keeps the smaller": one of two references; `+=` is for measures
 merged_refers : (n : ℕ) (k : Sort) (c : Cell) (a : ℤ) → (k ≡ Total → ⊥) → refers_within n c ≡ true → refers_within n (WorkedOut a) ≡ true
@@ -70,9 +70,9 @@ merged_refers n Total c a h hc ha = absurd (h refl)
 -- `<?` of two references is one of them, or missing
 smaller_refers : (n : ℕ) (x y : Reading) → refers_to n x ≡ true → refers_to n y ≡ true → refers_to n (combined Smaller x y) ≡ true
 unfolding combined both operate refers_to
-smaller_refers n Missing y hx hy = refl
-smaller_refers n (Value a) Missing hx hy = refl
-smaller_refers n (Value a) (Value b) hx hy = cond_both (λ z. refers_to n (Value z) ≡ true) (lt_z b a) b a hy hx
+smaller_refers n None y hx hy = refl
+smaller_refers n (Some a) None hx hy = refl
+smaller_refers n (Some a) (Some b) hx hy = cond_both (λ z. refers_to n (Some z) ≡ true) (lt_z b a) b a hy hx
 
 -- what a message does to its cell
 abbrev Sound : Sizes → Message → Type 0
@@ -82,9 +82,9 @@ Sound s m = Change s m.field (λ c. merged m.sort c m.amount)
 sent_sound : (s : Sizes) (k : Sort) (f : ℕ) (c x : Reading) → (k ≡ Total → is_reference f ≡ false) → Change s f (stored_over x)
     → Each (Sound s) (sent_to k f c x)
 unfolding sent_to both stored_over
-sent_sound s k f Missing x m w = tt
-sent_sound s k f (Value v) Missing m w = tt
-sent_sound s k f (Value v) (Value a) m w =
+sent_sound s k f None x m w = tt
+sent_sound s k f (Some v) None m w = tt
+sent_sound s k f (Some v) (Some a) m w =
     (record { field = w.field; refers = λ r d h. merged_refers s.records k d a (λ q. true_false r (m q)) h (w.refers r d h) }, tt)
 
 -- one record, whose reference words lead to records

@@ -12,7 +12,7 @@ use Rattle.register.specs.File.{width, cell_index}
 use Rattle.register.specs.Shape.{Limits}
 use Rattle.register.specs.declared.Sizes.{Sizes}
 use Rattle.register.specs.declared.cells.Cell.{Cell}
-use Rattle.chain.specs.declared.reading.Reading.{Reading}
+use Rattle.chain.specs.Reading.{Reading}
 use Rattle.chain.specs.Word.{column}
 use Rattle.chain.proofs.Following.{column-below}
 use Rattle.program.specs.Program.{Rule, target_field}

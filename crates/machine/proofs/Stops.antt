@@ -13,7 +13,7 @@ use Rattle.register.proofs.Bounds.{place_row, place-column, place_is}
 use Rattle.register.specs.declared.Sizes.{Sizes}
 use Rattle.register.specs.declared.cells.Cell.{Cell}
 use Rattle.register.specs.declared.cells.Cell.TheVariants.{Missing}
-use Rattle.chain.specs.declared.reading.Reading.{Reading}
+use Rattle.chain.specs.Reading.{Reading}
 use Rattle.chain.specs.Word.{read_of}
 use Rattle.laws.proofs.Cases.{lt_or_le}
 use Rattle.program.specs.Program.{Rule}

@@ -1,4 +1,5 @@
 -- What every write keeps of a cell, a run keeps of it, by either machine: that it is filled, and where its mark comes from.
+use Rattle.std.specs.Prelude.{None, Some}
 use Prim.Native.Nat.{ℕ, zero, suc}
 use mathlib.Core.Path.{◌≡◌, refl, sym, ap}
 use mathlib.Core.Logic.{◌≢◌}
@@ -12,8 +13,7 @@ use Rattle.register.specs.Cells.{mark_of}
 use Rattle.register.specs.declared.Sizes.{Sizes}
 use Rattle.register.specs.declared.cells.Cell.{Cell}
 use Rattle.register.specs.declared.cells.Cell.TheVariants.{Missing, Measured, WorkedOut}
-use Rattle.chain.specs.declared.reading.Reading.{Reading}
-use Rattle.chain.specs.declared.reading.Reading.TheVariants as R
+use Rattle.chain.specs.Reading.{Reading}
 use Rattle.program.specs.declared.rule.Sort.{Sort}
 use Rattle.program.specs.declared.rule.Sort.TheVariants.{Least, Total}
 use Rattle.program.specs.Program.{Target, own, remote, Rule, Step, Program}
@@ -89,12 +89,12 @@ unfolding stored_over read_of is_filled merged smaller increased added
 filled_lasts = record { stored = stored; sent = sent }
   where
     stored : (x : Reading) (c : Cell) → is_filled (read_of c) ≡ true → is_filled (read_of (stored_over x c)) ≡ true
-    stored R.Missing c h = h
-    stored (R.Value z) c h = refl
+    stored None c h = h
+    stored (Some z) c h = refl
 
     total : (x : Reading) (a : ℤ) → is_filled x ≡ true → is_filled (read_of (added x a)) ≡ true
-    total R.Missing a h = true_false h refl
-    total (R.Value z) a h = refl
+    total None a h = true_false h refl
+    total (Some z) a h = refl
 
     sent : (k : Sort) (c : Cell) (a : ℤ) → is_filled (read_of c) ≡ true → is_filled (read_of (merged k c a)) ≡ true
     sent Least c a h = cond_both (λ c. is_filled (read_of c) ≡ true) (is_lowered (read_of c) a) _ _ refl h
@@ -113,8 +113,8 @@ others_last d other {B} = record { stored = stored; sent = sent }
     worked z e = absurd (other (sym (ap mark_of e)))
 
     stored : (x : Reading) (c : Cell) → (c ≡ d → B) → stored_over x c ≡ d → B
-    stored R.Missing c h = h
-    stored (R.Value z) c h = worked z
+    stored None c h = h
+    stored (Some z) c h = worked z
 
     sent : (k : Sort) (c : Cell) (a : ℤ) → (c ≡ d → B) → merged k c a ≡ d → B
     sent Least c a h = cond_both (λ c. c ≡ d → B) (is_lowered (read_of c) a) _ _ (worked a) h

@@ -1,4 +1,5 @@
 -- A step leaves every column that its rules do not write as it is.
+use Rattle.std.specs.Prelude.{None, Some}
 use Prim.Native.Nat.{ℕ, zero, suc, ◌<◌}
 use mathlib.Core.Path.{◌≡◌, refl, sym, ap, ◌∙◌}
 use mathlib.Core.Logic.{◌≢◌}
@@ -14,8 +15,7 @@ use Rattle.register.specs.Shape.{Limits}
 use Rattle.register.specs.declared.Sizes.{Sizes}
 use Rattle.register.specs.declared.cells.Cell.{Cell}
 use Rattle.register.specs.declared.cells.Cell.TheVariants.{Missing as Unfilled}
-use Rattle.chain.specs.declared.reading.Reading.{Reading}
-use Rattle.chain.specs.declared.reading.Reading.TheVariants.{Missing, Value}
+use Rattle.chain.specs.Reading.{Reading}
 use Rattle.chain.specs.Word.{column, field_at}
 use Rattle.chain.proofs.Following.{column-below, field-column}
 use Rattle.program.specs.declared.rule.Sort.{Sort}
@@ -45,9 +45,9 @@ SentElsewhere s c ms = Each (λ (m : Message). Elsewhere s c m.field) ms
 module _ (s : Sizes) (c : ℕ) where
   sent_elsewhere : (k : Sort) (f : ℕ) (d x : Reading) → Elsewhere s c f → SentElsewhere s c (sent_to k f d x)
   unfolding sent_to both
-  sent_elsewhere k f Missing x e = tt
-  sent_elsewhere k f (Value v) Missing e = tt
-  sent_elsewhere k f (Value v) (Value a) e = (e, tt)
+  sent_elsewhere k f None x e = tt
+  sent_elsewhere k f (Some v) None e = tt
+  sent_elsewhere k f (Some v) (Some a) e = (e, tt)
 
   module _ (read : List ℕ → Reading) where
     target_elsewhere : (t : Target) (x : Reading) → Elsewhere s c (target_field t) → SentElsewhere s c (sent_by read t x)

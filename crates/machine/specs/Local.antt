@@ -1,12 +1,12 @@
 -- Local rules: what a rule stores in its own record, and the sums that it forms.
+use Rattle.std.specs.Prelude.{None, Some}
 use Rattle.std.specs.Prelude.{Bool, false, cond, ◌&&◌, ◌||◌, List, [], ◌∷◌, ℕ, zero, suc, get_or, set as put}
 use Rattle.std.proofs.Math.Option.{Option, none, some}
 use Rattle.register.specs.File.{cell_index}
 use Rattle.register.specs.declared.Sizes.{Sizes}
 use Rattle.register.specs.declared.cells.Cell.{Cell}
 use Rattle.register.specs.declared.cells.Cell.TheVariants.{Missing as Unfilled, WorkedOut}
-use Rattle.chain.specs.declared.reading.Reading.{Reading}
-use Rattle.chain.specs.declared.reading.Reading.TheVariants.{Missing, Value}
+use Rattle.chain.specs.Reading.{Reading}
 use Rattle.chain.specs.Word.{column}
 use Rattle.program.specs.Program.{Test, always, when, Target, own, remote, Rule, target_field}
 use Rattle.machine.specs.Value.{value, overflows, holds}
@@ -14,8 +14,8 @@ use Rattle.machine.specs.Value.{value, overflows, holds}
 -- what `:=` makes of a cell: "`:=` with an unfilled reading or sum now leaves the cell as earlier rules of that step left it"
 -- (M-103), and "Any stored `:=` .. leaves mark 2" (M-107)
 unfoldable pub stored_over : Reading → Cell → Cell
-stored_over Missing c = c
-stored_over (Value z) c = WorkedOut z
+stored_over None c = c
+stored_over (Some z) c = WorkedOut z
 
 -- the cells with a reading stored for record u; a remote rule stores nothing here
 unfoldable pub assign : Sizes → ℕ → Target → Reading → List Cell → List Cell

@@ -5,7 +5,7 @@ use Rattle.register.specs.File.{width, cell_index}
 use Rattle.register.specs.declared.Sizes.{Sizes}
 use Rattle.register.specs.declared.cells.Cell.{Cell}
 use Rattle.register.specs.declared.cells.Cell.TheVariants.{Missing}
-use Rattle.chain.specs.declared.reading.Reading.{Reading}
+use Rattle.chain.specs.Reading.{Reading}
 use Rattle.chain.specs.Word.{column}
 use Rattle.program.specs.Program.{Rule, target_field}
 use Rattle.machine.specs.Value.{cell_in_range}

@@ -1,12 +1,12 @@
 -- Remote writes: one message for each, delivered to the cells that the local rules leave.
+use Rattle.std.specs.Prelude.{None, Some}
 use Rattle.std.specs.Prelude.{Bool, true, cond, List, [], ◌∷◌, ◌++◌, ℕ, zero, suc, ℤ, nat_abs, ◌+ℤ◌, get_or, set as put}
 use Rattle.std.specs.Int.Signed.{lt_z}
 use Rattle.register.specs.File.{cell_index}
 use Rattle.register.specs.declared.Sizes.{Sizes}
 use Rattle.register.specs.declared.cells.Cell.{Cell}
 use Rattle.register.specs.declared.cells.Cell.TheVariants.{Missing as Unfilled, WorkedOut}
-use Rattle.chain.specs.declared.reading.Reading.{Reading}
-use Rattle.chain.specs.declared.reading.Reading.TheVariants.{Missing, Value}
+use Rattle.chain.specs.Reading.{Reading}
 use Rattle.chain.specs.Word.{column, read_of}
 use Rattle.program.specs.declared.rule.Sort.{Sort}
 use Rattle.program.specs.declared.rule.Sort.TheVariants.{Least, Total}
@@ -39,8 +39,8 @@ record_messages read rs (suc n) = record_messages read rs n ++ messages (read n)
 
 -- whether `<?=` changes or fills a cell of which this is read
 unfoldable pub is_lowered : Reading → ℤ → Bool
-is_lowered Missing a = true
-is_lowered (Value z) a = lt_z a z
+is_lowered None a = true
+is_lowered (Some z) a = lt_z a z
 
 -- "`<?=` keeps the smaller, and fills an unfilled cell"; "any `<?=` that changes or fills a cell leaves mark 2" (M-107), and any
 -- other the cell as it is
@@ -50,8 +50,8 @@ smaller c a = cond (is_lowered (read_of c) a) (WorkedOut a) c
 -- "`+=` adds all amounts to the cell as one whole number; .. an unfilled cell stays unfilled": a total of any size; "any `+=` that
 -- reaches a filled cell .. leaves mark 2" (M-107), of 0 too
 unfoldable pub added : Reading → ℤ → Cell
-added Missing a = Unfilled
-added (Value z) a = WorkedOut (z +ℤ a)
+added None a = Unfilled
+added (Some z) a = WorkedOut (z +ℤ a)
 
 unfoldable pub increased : Cell → ℤ → Cell
 increased c a = added (read_of c) a

@@ -1,12 +1,12 @@
 -- A run: steps until none is left, the budget (document 01's allowance) is exhausted, or a step stops.
+use Rattle.std.specs.Prelude.{None, Some}
 use Rattle.std.specs.Prelude.{Bool, true, false, cond, not, ◌&&◌, ◌||◌, List, [], ◌∷◌, ℕ, zero, suc, ◌+◌, ◌*◌, ltb}
 use Rattle.std.proofs.Math.Option.{Option, none, some}
 use Rattle.integers.specs.Range.{eq_z}
 use Rattle.register.specs.File.{width}
 use Rattle.register.specs.declared.Sizes.{Sizes}
 use Rattle.register.specs.declared.cells.Cell.{Cell}
-use Rattle.chain.specs.declared.reading.Reading.{Reading}
-use Rattle.chain.specs.declared.reading.Reading.TheVariants.{Missing, Value}
+use Rattle.chain.specs.Reading.{Reading}
 use Rattle.chain.specs.Word.{read_cell, value_at_record}
 use Rattle.program.specs.declared.setting.Setting.{Setting}
 use Rattle.program.specs.declared.setting.Setting.TheVariants.{Single, Looped}
@@ -23,10 +23,10 @@ direct s rs cells u w = value_at_record s cells w u
 
 -- "Loops compare values and whether filled, not 1 against 2" (M-107)
 unfoldable pub same_reading : Reading → Reading → Bool
-same_reading Missing Missing = true
-same_reading Missing (Value b) = false
-same_reading (Value a) Missing = false
-same_reading (Value a) (Value b) = eq_z a b
+same_reading None None = true
+same_reading None (Some b) = false
+same_reading (Some a) None = false
+same_reading (Some a) (Some b) = eq_z a b
 
 -- whether field f is the same for the records below n
 unfoldable pub same_column : Sizes → ℕ → List Cell → List Cell → ℕ → Bool

@@ -1,10 +1,10 @@
 -- Expressions and tests at one record. `read` is what the record reads for each word: this is all in which the machines differ.
+use Rattle.std.specs.Prelude.{None, Some}
 use Rattle.std.specs.Prelude.{Bool, true, false, cond, not, ◌||◌, List, ℕ, ℤ, ◌+ℤ◌, ◌-ℤ◌}
 use Rattle.std.specs.Int.Signed.{lt_z}
 use Rattle.integers.specs.Range.{in_range, eq_z}
 use Rattle.register.specs.declared.cells.Cell.{Cell}
-use Rattle.chain.specs.declared.reading.Reading.{Reading}
-use Rattle.chain.specs.declared.reading.Reading.TheVariants.{Missing, Value}
+use Rattle.chain.specs.Reading.{Reading}
 use Rattle.chain.specs.Word.{read_of}
 use Rattle.program.specs.declared.rule.Operator.{Operator}
 use Rattle.program.specs.declared.rule.Operator.TheVariants.{Plus, Minus, Smaller}
@@ -14,9 +14,9 @@ use Rattle.program.specs.Program.{Expression, reading, constant, operation, Test
 
 -- f of two values, or `else` where one is missing
 unfoldable pub both : {A : Type 0} → A → (ℤ → ℤ → A) → Reading → Reading → A
-both else f Missing y = else
-both else f (Value a) Missing = else
-both else f (Value a) (Value b) = f a b
+both else f None y = else
+both else f (Some a) None = else
+both else f (Some a) (Some b) = f a b
 
 -- `+`, `-`, and "`<?` (the smaller; both kinds)", of references by record number
 unfoldable pub operate : Operator → ℤ → ℤ → ℤ
@@ -26,18 +26,18 @@ operate Smaller a b = cond (lt_z b a) b a
 
 -- an operation on two readings: "Any unfilled operand makes the whole unfilled."
 unfoldable pub combined : Operator → Reading → Reading → Reading
-combined op x y = both Missing (λ a b. Value (operate op a b)) x y
+combined op x y = both None (λ a b. Some (operate op a b)) x y
 
 -- the value of an expression, sums of any size
 unfoldable pub value : (List ℕ → Reading) → Expression → Reading
 value read (reading w) = read w
-value read (constant z) = Value z
+value read (constant z) = Some z
 value read (operation op x y) = combined op (value read x) (value read y)
 
 -- −2,147,483,648 to 2,147,483,647, or unfilled
 unfoldable pub reading_in_range : Reading → Bool
-reading_in_range Missing = true
-reading_in_range (Value z) = in_range z
+reading_in_range None = true
+reading_in_range (Some z) = in_range z
 
 -- a stored cell, by what is read of it
 unfoldable pub cell_in_range : Cell → Bool

@@ -1,4 +1,5 @@
 -- A message tells what following the word hop by hop reads.
+use Rattle.std.specs.Prelude.{None, Some}
 use Prim.Native.Nat.{ℕ, suc, ◌≤◌, ◌<◌, max}
 use mathlib.Core.Path.{◌≡◌, refl, sym, ap, ◌∙◌}
 use mathlib.Core.Bool.{true}
@@ -12,8 +13,7 @@ use Rattle.integers.proofs.Complement.{index_is}
 use Rattle.register.specs.Shape.{Valid}
 use Rattle.register.specs.declared.Sizes.{Sizes}
 use Rattle.register.specs.declared.cells.Cell.{Cell}
-use Rattle.chain.specs.declared.reading.Reading.{Reading}
-use Rattle.chain.specs.declared.reading.Reading.TheVariants.{Missing, Value}
+use Rattle.chain.specs.Reading.{Reading}
 use Rattle.chain.specs.Word.{hop, follow, value_at_record, refers_to}
 use Rattle.laws.specs.Lists.{every}
 use Rattle.chain.proofs.Following.{follow_missing, own_refers, hop_refers}
@@ -55,11 +55,11 @@ module _ {s : Sizes} {cells : List Cell} (valid : Valid s cells) where
   written-value : (f : Fact) → 2 ≤ hops f → Told s cells (read_need f) → Follows s (read_need f) → (t : ℕ) → round (read_need f) ≤ t
       → (x : Reading) → refers_to s.records x ≡ true → written s cells (held_after s cells t) f x ≡ follow s cells x (rest (word f))
   unfolding written needed refers_to value_at_record
-  written-value f h told k t ht Missing r = sym (follow_missing s cells (rest (word f)))
-  written-value f h told k t ht (Value z) r =
+  written-value f h told k t ht None r = sym (follow_missing s cells (rest (word f)))
+  written-value f h told k t ht (Some z) r =
       let i = index_is s.records z r in
       rw (le-ltb (hops f) 2 h)
-      (knows_value (rest (word f)) told k t (nat_abs z) ht i.1 ∙ ap (λ x. follow s cells x (rest (word f))) (ap Value (sym i.0)))
+      (knows_value (rest (word f)) told k t (nat_abs z) ht i.1 ∙ ap (λ x. follow s cells x (rest (word f))) (ap Some (sym i.0)))
 
   -- so from the messages of its needs comes the message of a fact
   sent-value : (f : Fact) → 2 ≤ hops f → Told s cells (back_need f) → Told s cells (read_need f) → Follows s f
@@ -69,10 +69,10 @@ module _ {s : Sizes} {cells : List Cell} (valid : Valid s cells) where
   sent-value f h b r k t u hb hr hu =
       let came = b (back_follows s f h k) (omega (arith, front_length (word f) h, half_pos (hops f))) t u hb hu in
       rw (le-ltb (hops f) 2 h, came)
-      (written-value f h r (read-follows s f k) t hr (follow s cells (Value (pos u)) (front (word f)))
-      (follow_refers (Value (pos u)) (front (word f)) (back_follows s f h k) (own_refers s.records u hu))
-      ∙ sym (follow-append s cells (Value (pos u)) (front (word f)) (rest (word f)))
-      ∙ ap (follow s cells (Value (pos u))) (front_rest (word f)))
+      (written-value f h r (read-follows s f k) t hr (follow s cells (Some (pos u)) (front (word f)))
+      (follow_refers (Some (pos u)) (front (word f)) (back_follows s f h k) (own_refers s.records u hu))
+      ∙ sym (follow-append s cells (Some (pos u)) (front (word f)) (rest (word f)))
+      ∙ ap (follow s cells (Some (pos u))) (front_rest (word f)))
 
   -- and u writes its own number to the record at one hop
   sent-one : (f : Fact) → line_from f ≤ hops f → hops f < 2 → (t u : ℕ) → sent s cells (held_after s cells t) f u ≡ value_at_record s cells (word f) u

@@ -1,10 +1,10 @@
 -- The message machine as a reader of the machine's definition, and what a run counts: exchanges and messages (document 01's
 -- letters), "summed over the finished steps".
+use Rattle.std.specs.Prelude.{None, Some}
 use Rattle.std.specs.Prelude.{cond, List, [], ◌∷◌, ℕ, zero, suc, ◌+◌, max, length}
 use Rattle.register.specs.declared.Sizes.{Sizes}
 use Rattle.register.specs.declared.cells.Cell.{Cell}
-use Rattle.chain.specs.declared.reading.Reading.{Reading}
-use Rattle.chain.specs.declared.reading.Reading.TheVariants.{Missing, Value}
+use Rattle.chain.specs.Reading.{Reading}
 use Rattle.plan_theory.specs.Plan.{Fact, read, round}
 use Rattle.program.specs.Program.{Rule, Step, readings, step_plan, has_remote}
 use Rattle.machine.specs.Remote.{record_messages}
@@ -26,8 +26,8 @@ by_messages s rs cells u w = knows s cells (held_in s rs cells) u w
 
 -- 1 for a message, whomever it goes to: "Letters to oneself count."; 0 for none
 abbrev pub is_sent : Reading → ℕ
-is_sent Missing = 0
-is_sent (Value z) = 1
+is_sent None = 0
+is_sent (Some z) = 1
 
 -- the messages of one line, to the origins below n, and of all
 unfoldable pub line_messages : (ℕ → Reading) → ℕ → ℕ

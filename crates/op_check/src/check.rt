@@ -1,67 +1,53 @@
 // Document 01's check of a rules text: the register first, then the text.
 ghost use Rattle.std.specs.Prelude.{◌≡◌, length};
-ghost use Rattle.laws.specs.Outcome.{done, unless};
-ghost use Rattle.register.specs.File.{sizes_of};
-ghost use Rattle.op_limits.specs.Admitted.{admitted};
 ghost use Rattle.text_rules.specs.Text.{check as checkOf};
-ghost use Rattle.text_reader.specs.Answers.{Answers};
-ghost use Rattle.op_check.specs.Checked.{Checks, Readable};
+ghost use Rattle.op_limits.specs.declared.Refusal.TheVariants.{Text};
+ghost use Rattle.op_check.specs.Checked.{Answers, Checks};
 
 use op_limits;
-use register;
-use register::Sizes;
-use text_reader::Checked;
+use op_limits::Refusal;
+use program::Program;
+use text_reader;
 use text_rules::scope::Scope;
 
-// The scope under which a text is read, and how much of it: all of it, or nothing where it is refused before.
-#[derive(Clone, Copy)]
-pub struct Part {
-    pub scope: Scope,
-    pub end: usize,
+// Why a text over a register is refused, and at which line of it, 0 for none.
+#[derive(Clone, Copy, Debug, PartialEq, Eq)]
+pub struct Refused {
+    pub refusal: Refusal,
+    pub line: usize,
 }
 
-fn readable(file: &[u8], text: &[u8], refusal: u32) -> Part
-    requires { unless refusal 0 (done (sizes_of file.now)) ≡ admitted file.now text.now }
-    ensures { Readable file.now text.now refusal result }
-{
-    if refusal != 0 {
-        let sizes = Sizes {
-            records: 0,
-            references: 0,
-            measures: 0,
-        };
-        return Part {
-            scope: Scope { sizes },
-            end: 0,
-        };
-    }
-    let sizes = register::sizes_of(file);
-    Part {
-        scope: Scope { sizes },
-        end: text.len(),
+impl From<Refusal> for Refused {
+    ghost from_gives = { λ a b. b ≡ record { refusal = a; line = 0 } };
+
+    fn from(refusal: Refusal) -> Refused {
+        Refused { refusal, line: 0 }
     }
 }
 
-// The program of a text over a register, or why either is refused; the codes of its expressions are in the lent array. A
-// refusal that names no line has the program of the empty text: one call of the reader, for its answer is large.
-pub fn read(file: &[u8], text: &[u8], codes: &mut [u64]) -> Checked
+impl From<text_reader::Refused> for Refused {
+    ghost from_gives = { λ a b. b ≡ record { refusal = Text a.refusal; line = a.line } };
+
+    fn from(refused: text_reader::Refused) -> Refused {
+        Refused {
+            refusal: Refusal::Text(refused.refusal),
+            line: refused.line,
+        }
+    }
+}
+
+// The program of a text over a register, or why either is refused; the codes of its expressions are in the lent array.
+pub fn read(file: &[u8], text: &[u8], codes: &mut [u64]) -> Result<Program, Refused>
     requires { length codes.old ≡ 8192 }
     ensures { Answers codes.new (checkOf file.now text.now) result }
 {
-    let refusal = op_limits::unread(file, text);
-    let part = readable(file, text, refusal);
-    let end = part.end;
-    let mut checked = text_reader::read_lines(&text[..end], part.scope, codes);
-    if refusal == 0 {
-        return checked;
-    }
-    checked.refusal = refusal;
-    checked.line = 0;
-    checked
+    let sizes = op_limits::admit(file, text)?;
+    let program = text_reader::read_lines(text, Scope { sizes }, codes)?;
+    Ok(program)
 }
 
 // The same for who has no use for the codes.
-pub fn check(file: &[u8], text: &[u8]) -> Checked
+pub fn check(file: &[u8], text: &[u8]) -> Result<Program, Refused>
     ensures { Checks (checkOf file.now text.now) result }
 {
     let mut codes = [0u64; 8192];

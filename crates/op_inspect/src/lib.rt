@@ -40,27 +40,16 @@ pub fn inspect(
     ensures { InspectAnswered (inspection file.now text.now step (length values.old) (length marks.old))
         file.now t values.old marks.old values.new marks.new result }
 {
-    let planned = step::plan_step(file, text, step);
-    if planned.refusal != 0 {
-        return refused(planned.refusal, planned.line);
-    }
+    let planned = match step::plan_step(file, text, step) {
+        Ok(planned) => planned,
+        Err(why) => return refused(why.refusal.number(), why.line),
+    };
     let sizes = register::sizes_of(file);
     if op_limits::is_short(sizes, planned.most, values.len(), marks.len()) {
         return refused(19, 0);
     }
     let plan = planned.plan;
-    op_show::show(
-        file,
-        values,
-        marks,
-        sizes,
-        &plan.keys,
-        &plan.rounds,
-        &plan.backs,
-        &plan.reads,
-        plan.count,
-        t,
-    );
+    op_show::show(file, values, marks, sizes, &plan, t);
     InspectAnswer {
         refusal: 0,
         line: 0,

@@ -1,34 +1,17 @@
 -- A text that is read, or why it is not.
-use Prim.Native.Nat.{ℕ, ◌≤◌, ◌<◌}
-use mathlib.Core.Path.{◌≡◌, refl, ap}
+use Prim.Native.Nat.{ℕ, ◌≤◌}
+use mathlib.Core.Path.{◌≡◌, refl}
 use mathlib.Core.Bool.{Bool, true, false, cond}
 use mathlib.Core.List.{List}
 use native.Mathlib.Omega.{arith}
-use borrow.Author.Tests.{ltb-false, lt-ltb, le-ltb}
+use borrow.Author.Tests.{ltb-false}
 use lib.Dec.{ltb}
 use lib.ListN.{length}
 use Rattle.laws.specs.Outcome.{Outcome, done, refused, after}
-use Rattle.register.specs.File.{sizes_of}
 use Rattle.register.specs.Load.{load}
 use Rattle.register.specs.declared.Sizes.{Sizes}
 use Rattle.register.proofs.Roundtrip.{Loads, loads}
 use Rattle.op_limits.specs.Admitted.{admitted}
-
-module _ (file text : List ℕ) where
-  -- the register is refused
-  pub admit_refused : {n k : ℕ} → load file ≡ refused n k → admitted file text ≡ refused n k
-  unfolding admitted after
-  admit_refused h = rw h
-
-  -- it loads: by the length of the text
-  module _ {s : Sizes} (h : load file ≡ done s) where
-    pub admit_long : 8192 < length text → admitted file text ≡ refused 6 0
-    unfolding admitted after
-    admit_long l = rw (h, lt-ltb 8192 (length text) l)
-
-    pub admit_read : length text ≤ 8192 → admitted file text ≡ done (sizes_of file)
-    unfolding admitted after
-    admit_read l = rw (h, le-ltb 8192 (length text) l) (ap done (loads s file h).sizes)
 
 -- both pass
 passing : (o : Outcome Sizes) (b : Bool) {s : Sizes} → after o (λ s. cond b (refused 6 0) (done s)) ≡ done s → (o ≡ done s) × (b ≡ false)

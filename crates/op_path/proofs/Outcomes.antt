@@ -1,10 +1,9 @@
 -- The ways a path can end, and what an answer tells of them.
-use Prim.Native.Nat.{ℕ, zero, suc, ◌≤◌, ◌<◌}
-use mathlib.Core.Path.{◌≡◌, refl, sym, ap, ◌∙◌}
-use mathlib.Core.List.{List, []}
-use mathlib.Core.Logic.{◌≢◌}
+use Prim.Native.Nat.{ℕ, ◌≤◌, ◌<◌}
+use mathlib.Core.Path.{◌≡◌, sym, ap, ◌∙◌}
+use mathlib.Core.List.{List}
 use borrow.Author.Tests.{lt-ltb, le-ltb}
-use Rattle.laws.specs.Outcome.{Outcome, done, refused, unless, after}
+use Rattle.laws.specs.Outcome.{Outcome, done, refused, after}
 use Rattle.register.specs.File.{cells_of_file}
 use Rattle.register.specs.Load.{load}
 use Rattle.register.specs.declared.Sizes.{Sizes}
@@ -12,11 +11,11 @@ use Rattle.chain_text.specs.Text.{form}
 use Rattle.chain_path.specs.Path.{path_at_record, hops_of, HoldsPath}
 use Rattle.chain_path.specs.declared.Hop.{Hop}
 use Rattle.chain_path.specs.declared.Path.{Path}
-use Rattle.op_read.specs.Reading.{word_of_form, chain_refusal_number}
-use Rattle.op_read.specs.declared.Refusal.{Refusal}
-use Rattle.op_read.specs.declared.Refusal.TheVariants.{Form, Field, Kind, Hops}
-use Rattle.op_path.specs.Path.{path_of_word, path_loaded, reading_path, PathAnswers}
-use Rattle.op_path.specs.declared.PathAnswer.{PathAnswer}
+use Rattle.op_read.specs.Reading.{word_of_form, refusal_number, refusal_line}
+use Rattle.op_read.specs.declared.ReadingRefusal.{ReadingRefusal}
+use Rattle.chain_path.proofs.Walking.{holds_own}
+use Rattle.std.specs.Prelude.{Ok, Err}
+use Rattle.op_path.specs.Path.{path_of_word, path_loaded, reading_path, path_outcome, PathAnswers}
 
 pub after-done : {A B : Type 0} {o : Outcome A} {a : A} (g : A → Outcome B) → o ≡ done a → after o g ≡ g a
 unfolding after
@@ -26,40 +25,23 @@ pub after-refused : {A B : Type 0} {o : Outcome A} {k l : ℕ} (g : A → Outcom
 unfolding after
 after-refused g e = ap (λ o. after o g) e
 
--- a chain's refusal has a number, so that it refuses
-pub unless_chain : {A : Type 0} (r : Refusal) (o : Outcome A) → unless (chain_refusal_number r) 1 o ≡ refused (chain_refusal_number r) 1
-unfolding unless chain_refusal_number
-unless_chain Form o = refl
-unless_chain Field o = refl
-unless_chain Kind o = refl
-unless_chain Hops o = refl
+-- what an answer tells of the outcome
+pub answered-refused : {o : Outcome (List Hop)} {r : ReadingRefusal} → PathAnswers o (Err r) → o ≡ refused (refusal_number r) (refusal_line r)
+unfolding path_outcome
+answered-refused h = sym h.outcome_is
 
--- an answer of the same outcome
-pub answers_same : {o o' : Outcome (List Hop)} {a : PathAnswer} → PathAnswers o a → o ≡ o' → PathAnswers o' a
-answers_same h e = record { outcome_is = h.outcome_is ∙ e; holds = h.holds }
+pub answered-listed : {o : Outcome (List Hop)} {p : Path} → PathAnswers o (Ok p) → o ≡ done (hops_of p)
+unfolding path_outcome
+answered-listed h = sym h.outcome_is
 
-holds_own : {p : Path} {hs : List Hop} → HoldsPath p hs → HoldsPath p (hops_of p)
-holds_own h = record { hops_are = refl; places = h.places; taken≤ = h.taken≤; lettered = h.lettered }
+-- an answer that lists, and one that refuses
+pub answers_listed : {o : Outcome (List Hop)} {p : Path} {hs : List Hop} → HoldsPath p hs → o ≡ done hs → PathAnswers o (Ok p)
+unfolding path_outcome
+answers_listed h e = record { outcome_is = ap done h.hops_are ∙ sym e; holds = holds_own h }
 
-pub answers_refused : (k l : ℕ) {p : Path} → HoldsPath p [] → PathAnswers (unless k l (done [])) (record { refusal = k; line = l; path = p })
-answers_refused k l h = record { outcome_is = ap (λ (hs : List Hop). unless k l (done hs)) h.hops_are; holds = holds_own h }
-
-pub answers_listed : {p : Path} {hs : List Hop} → HoldsPath p hs → PathAnswers (done hs) (record { refusal = 0; line = 0; path = p })
-unfolding unless
-answers_listed h = record { outcome_is = ap done h.hops_are; holds = holds_own h }
-
--- the outcome of an answer that refuses, and of one that does not
-pub answered-refused : {o : Outcome (List Hop)} {a : PathAnswer} → PathAnswers o a → a.refusal ≢ 0 → o ≡ refused a.refusal a.line
-unfolding unless
-answered-refused {o} {a} h n = go a.refusal n h.outcome_is
-  where
-    go : (k : ℕ) → k ≢ 0 → unless k a.line (done (hops_of a.path)) ≡ o → o ≡ refused k a.line
-    go zero n e = absurd (n refl)
-    go (suc k) n e = sym e
-
-pub answered-listed : {o : Outcome (List Hop)} {a : PathAnswer} → PathAnswers o a → a.refusal ≡ 0 → o ≡ done (hops_of a.path)
-unfolding unless
-answered-listed {o} {a} h z = sym h.outcome_is ∙ ap (λ (k : ℕ). unless k a.line (done (hops_of a.path))) z
+pub answers_refused : {o : Outcome (List Hop)} (r : ReadingRefusal) → o ≡ refused (refusal_number r) (refusal_line r) → PathAnswers o (Err r)
+unfolding path_outcome
+answers_refused r e = record { outcome_is = sym e; holds = tt }
 
 module _ (s : Sizes) (file text : List ℕ) (u : ℕ) where
   pub loaded-refused : {k l : ℕ} → word_of_form s (form text) ≡ refused k l → path_loaded s file text u ≡ refused k l

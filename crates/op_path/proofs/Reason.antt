@@ -1,5 +1,6 @@
 -- The path is the reason for a single reading, refusals included: "in every register with the same sizes that agrees on
 -- the listed cells, the reading has the same outcome" (M-109).
+use Rattle.std.specs.Prelude.{None, Some}
 use Prim.Native.Nat.{ℕ}
 use mathlib.Core.Path.{◌≡◌, refl, sym, ap, subst, ◌∙◌}
 use mathlib.Core.Bool.{Bool, true, false, cond}
@@ -21,8 +22,7 @@ use Rattle.register.specs.declared.Sizes.{Sizes}
 use Rattle.register.specs.declared.cells.Cell.{Cell}
 use Rattle.register.specs.declared.cells.Cell.TheVariants.{Missing as Unfilled}
 use Rattle.register.proofs.Roundtrip.{loads, cells-valid, load_encode, decode_encode}
-use Rattle.chain.specs.declared.reading.Reading.{Reading}
-use Rattle.chain.specs.declared.reading.Reading.TheVariants.{Missing, Value}
+use Rattle.chain.specs.Reading.{Reading}
 use Rattle.chain.specs.Word.{value_at_record}
 use Rattle.chain_text.specs.Text.{form}
 use Rattle.chain_path.specs.declared.Hop.{Hop}
@@ -60,7 +60,7 @@ unfolding after
 reading-is-last file text u = go (load file) refl
   where
     last : Outcome (List Hop) → Outcome Reading
-    last o = after o (λ hs. done (read_behind (Value (pos u)) hs))
+    last o = after o (λ hs. done (read_behind (Some (pos u)) hs))
 
     word : (s : Sizes) (o : Outcome (List ℕ))
         → after o (λ w. done (value_at_record s (cells_of_file s file) w u)) ≡ last (after o (λ w. done (path_at_record s (cells_of_file s file) w u)))
@@ -86,7 +86,7 @@ module _ (s : Sizes) (file other text : List ℕ) (u : ℕ) (e : load file ≡ d
       go : (o : Outcome (List ℕ)) → reading_path file text u ≡ after o (listed file) → reading_path other text u ≡ after o (listed other)
           → reading file text u ≡ after o (read file) → reading other text u ≡ after o (read other) → SameAt file other text u
       go (done w) pf po rf ro =
-          let same = agree_same s (cells_of_file s file) (cells_of_file s other) (Value (pos u)) w (agrees _ pf) in
+          let same = agree_same s (cells_of_file s file) (cells_of_file s other) (Some (pos u)) w (agrees _ pf) in
           record {
             path_same = ap path_shows po ∙ ap done same.path_same ∙ sym (ap path_shows pf);
             reading_same = ro ∙ ap done same.reading_same ∙ sym rf;
@@ -95,15 +95,15 @@ module _ (s : Sizes) (file other text : List ℕ) (u : ℕ) (e : load file ≡ d
 
   -- no cell is listed for nothing: with any one of them unfilled, nothing is read
   unfilled_missing : {hs : List Hop} {h : Hop} → reading_path file text u ≡ done hs → Memᴰ h hs
-      → cells_of_file s other ≡ set (cells_of_file s file) (cell_place s h) Unfilled → reading other text u ≡ done Missing
+      → cells_of_file s other ≡ set (cells_of_file s file) (cell_place s h) Unfilled → reading other text u ≡ done None
   unfolding path_at_record value_at_record after
   unfilled_missing {hs} {h} p m q = go (asked s text u) (path-asked s file text u e) (reading-asked s other text u e')
     where
       go : (o : Outcome (List ℕ)) → reading_path file text u ≡ after o (λ w. done (path_at_record s (cells_of_file s file) w u))
-          → reading other text u ≡ after o (λ w. done (value_at_record s (cells_of_file s other) w u)) → reading other text u ≡ done Missing
+          → reading other text u ≡ after o (λ w. done (value_at_record s (cells_of_file s other) w u)) → reading other text u ≡ done None
       go (done w) pf ro =
           let listed = subst (Memᴰ h) (same-done p pf) m in
-          ro ∙ ap (λ (cells : List Cell). done (value_at_record s cells w u)) q ∙ ap done (listed-needed s (cells_of_file s file) w (Value (pos u)) listed)
+          ro ∙ ap (λ (cells : List Cell). done (value_at_record s cells w u)) q ∙ ap done (listed-needed s (cells_of_file s file) w (Some (pos u)) listed)
       go (refused k l) pf ro = not_done pf p
 
 -- "Its list must be the reason": cells outside the list may be any

@@ -1,16 +1,17 @@
 -- The path behind a single reading: "A tool takes a record and a chain and lists each hop's record, field and cell" (M-109).
-use Rattle.std.specs.Prelude.{ℕ, ◌≡◌, cond, List, map, ltb}
-use Rattle.laws.specs.Outcome.{Outcome, done, refused, unless, after}
+use Rattle.std.specs.Prelude.{Result, Ok, Err, IfOk, ℕ, ◌≡◌, cond, List, map, ltb}
+use Rattle.laws.specs.Outcome.{Outcome, done, refused, after}
 use Rattle.register.specs.File.{cells_of_file}
 use Rattle.register.specs.Load.{load}
 use Rattle.register.specs.declared.Sizes.{Sizes}
 use Rattle.register.specs.declared.cells.Cell.{Cell}
-use Rattle.chain.specs.declared.reading.Reading.{Reading}
+use Rattle.chain.specs.Reading.{Reading}
 use Rattle.chain_text.specs.Text.{form}
 use Rattle.chain_path.specs.Path.{path_at_record, shows, hops_of, HoldsPath}
 use Rattle.chain_path.specs.declared.Hop.{Hop}
-use Rattle.op_read.specs.Reading.{word_of_form}
-use Rattle.op_path.specs.declared.PathAnswer.{PathAnswer}
+use Rattle.chain_path.specs.declared.Path.{Path}
+use Rattle.op_read.specs.declared.ReadingRefusal.{ReadingRefusal}
+use Rattle.op_read.specs.Reading.{word_of_form, refusal_number, refusal_line}
 
 -- a word at record u: "16 record number not below n"
 unfoldable pub path_of_word : Sizes → List Cell → ℕ → List ℕ → Outcome (List Hop)
@@ -28,7 +29,12 @@ reading_path file text u = after (load file) (λ s. path_loaded s file text u)
 abbrev pub path_shows : Outcome (List Hop) → Outcome (List (ℕ × ℕ × Reading))
 path_shows o = after o (λ hs. done (map shows hs))
 
--- an answer of this outcome: the hops of its path, or document 01's number and line
-pub record PathAnswers (o : Outcome (List Hop)) (a : PathAnswer) : Type 0 where
-  pub outcome_is : unless a.refusal a.line (done (hops_of a.path)) ≡ o
-  pub holds : HoldsPath a.path (hops_of a.path)
+-- the outcome of each answer: the hops of its path, or document 01's number and line
+unfoldable pub path_outcome : Result Path ReadingRefusal → Outcome (List Hop)
+path_outcome (Ok p) = done (hops_of p)
+path_outcome (Err r) = refused (refusal_number r) (refusal_line r)
+
+-- an answer of this outcome, whose path holds its hops
+pub record PathAnswers (o : Outcome (List Hop)) (a : Result Path ReadingRefusal) : Type 0 where
+  pub outcome_is : path_outcome a ≡ o
+  pub holds : IfOk a (λ p. HoldsPath p (hops_of p))

@@ -12,30 +12,28 @@ use Rattle.register.specs.Shape.{Limits}
 use Rattle.register.specs.declared.Sizes.{Sizes}
 use Rattle.chain_text.specs.Text.{Form, formed, unformed, form, names, inner_references, letters_refusal, word_of}
 use Rattle.laws.specs.Lists.{every}
-use Rattle.chain_text.specs.Scan.{summary, scanned, chain_end}
+use Rattle.chain_text.specs.Scan.{summary, Scanned, scanned, chain_end}
 use Rattle.op_read.specs.Reading.{judged_of, chain_outcome, chain_refusal_number, word_of_form}
 use Rattle.chain_text.specs.declared.letters.Letters.{Letters}
-use Rattle.chain_text.specs.declared.text.Scanned.{Scanned}
-use Rattle.chain_text.specs.declared.text.Scanned.TheVariants.{Chain, NoForm}
 use Rattle.op_read.specs.declared.Refusal.TheVariants.{Field, Kind, Hops}
-use Rattle.op_read.specs.declared.ChainAnswer.TheVariants.{Chain as Passed, Refused}
+use Rattle.std.specs.Prelude.{Some, None, Ok, Err}
 use Rattle.chain_text.proofs.Forms.{form-length}
 use Rattle.chain_text.proofs.Passing.{refused-field, refused-kind, refused-hops, refused_none, letters_unpacked}
 
 module _ (x : Letters) where
-  pub judged_field : x.named ≡ false → judged_of x ≡ Refused Field
+  pub judged_field : x.named ≡ false → judged_of x ≡ Err Field
   unfolding judged_of
   judged_field n = simp n
 
-  pub judged_kind : x.named ≡ true → x.kinded ≡ false → judged_of x ≡ Refused Kind
+  pub judged_kind : x.named ≡ true → x.kinded ≡ false → judged_of x ≡ Err Kind
   unfolding judged_of
   judged_kind n k = simp (n, k)
 
-  pub judged_hops : x.named ≡ true → x.kinded ≡ true → x.long ≡ true → judged_of x ≡ Refused Hops
+  pub judged_hops : x.named ≡ true → x.kinded ≡ true → x.long ≡ true → judged_of x ≡ Err Hops
   unfolding judged_of
   judged_hops n k l = simp (n, k, l)
 
-  pub judged_chain : x.named ≡ true → x.kinded ≡ true → x.long ≡ false → judged_of x ≡ Passed x.packed
+  pub judged_chain : x.named ≡ true → x.kinded ≡ true → x.long ≡ false → judged_of x ≡ Ok x.packed
   unfolding judged_of
   judged_chain n k l = simp (n, k, l)
 
@@ -65,30 +63,30 @@ judged_outcome s l ls = go (every (names s) ls) refl (inner_references ls) refl 
         ap chain_outcome (judged_chain x n k h) ∙ ap done (letters_unpacked s ls n k l h) ∙ sym (unless-none _ (refused_none s ls n k h))
 
 -- the outcome of a single chain, by what the reader finds
-no_chain : {A : Type 0} {y : Scanned} {x : Letters} {e : ℕ} → y ≡ NoForm → y ≡ Chain x e → A
+no_chain : {A : Type 0} {y : Scanned} {x : Letters} {e : ℕ} → y ≡ None → y ≡ Some (x, e) → A
 no_chain p q = absurd (let z : ◌≡◌ {A = ℕ} 0 1 = cc in omega arith)
 
-same-letters : {y : Scanned} {x x' : Letters} {e e' : ℕ} → y ≡ Chain x e → y ≡ Chain x' e' → x ≡ x'
-same-letters p q = cc
+same-letters : {y : Scanned} {x x' : Letters} {e e' : ℕ} → y ≡ Some (x, e) → y ≡ Some (x', e') → x ≡ x'
+same-letters {x = x} {x' = x'} {e = e} {e' = e'} p q = let pair : ◌≡◌ {A = Letters × ℕ} (x, e) (x', e') = cc in ap (λ (r : Letters × ℕ). r.0) pair
 
-same_end : {y : Scanned} {x x' : Letters} {e e' : ℕ} → y ≡ Chain x e → y ≡ Chain x' e' → e ≡ e'
-same_end p q = cc
+same_end : {y : Scanned} {x x' : Letters} {e e' : ℕ} → y ≡ Some (x, e) → y ≡ Some (x', e') → e ≡ e'
+same_end {x = x} {x' = x'} {e = e} {e' = e'} p q = let pair : ◌≡◌ {A = Letters × ℕ} (x, e) (x', e') = cc in ap (λ (r : Letters × ℕ). r.1) pair
 
 module _ (s : Sizes) (t : List ℕ) where
-  pub chain_none : scanned s 0 (form t) ≡ NoForm → refused 7 1 ≡ word_of_form s (form t)
+  pub chain_none : scanned s 0 (form t) ≡ None → refused 7 1 ≡ word_of_form s (form t)
   unfolding scanned word_of_form
   chain_none h = go (form t) h
     where
-      go : (f : Form) → scanned s 0 f ≡ NoForm → refused 7 1 ≡ word_of_form s f
+      go : (f : Form) → scanned s 0 f ≡ None → refused 7 1 ≡ word_of_form s f
       go unformed h = refl
       go (formed ls r) h = no_chain h refl
 
-  module _ {x : Letters} {e : ℕ} (h : scanned s 0 (form t) ≡ Chain x e) where
+  module _ {x : Letters} {e : ℕ} (h : scanned s 0 (form t) ≡ Some (x, e)) where
     pub chain_rest : e ≢ length t → refused 7 1 ≡ word_of_form s (form t)
     unfolding scanned word_of_form chain_end
     chain_rest ne = go (form t) refl h
       where
-        go : (f : Form) → form t ≡ f → scanned s 0 f ≡ Chain x e → refused 7 1 ≡ word_of_form s f
+        go : (f : Form) → form t ≡ f → scanned s 0 f ≡ Some (x, e) → refused 7 1 ≡ word_of_form s f
         go unformed q h = refl
         go (formed ls []) q h = absurd (ne (omega (arith, same_end h refl, form-length t ls [] q)))
         go (formed ls (b ∷ r)) q h = refl
@@ -97,7 +95,7 @@ module _ (s : Sizes) (t : List ℕ) where
     unfolding scanned word_of_form chain_end
     chain_whole l eq = go (form t) refl h
       where
-        go : (f : Form) → form t ≡ f → scanned s 0 f ≡ Chain x e → chain_outcome (judged_of x) ≡ word_of_form s f
+        go : (f : Form) → form t ≡ f → scanned s 0 f ≡ Some (x, e) → chain_outcome (judged_of x) ≡ word_of_form s f
         go unformed q h = no_chain refl h
         go (formed ls []) q h = ap (λ (y : Letters). chain_outcome (judged_of y)) (same-letters h refl) ∙ judged_outcome s l ls
         go (formed ls (b ∷ r)) q h = absurd (omega (arith, same_end h refl, form-length t ls (b ∷ r) q))

@@ -1,19 +1,17 @@
 -- A single reading: what document 01 answers for a register file, a chain's text and a record number.
-use Rattle.std.specs.Prelude.{ℕ, cond, List, [], ◌∷◌, ltb}
+use Rattle.std.specs.Prelude.{Result, Ok, Err, ℕ, cond, List, [], ◌∷◌, ltb}
 use Rattle.laws.specs.Outcome.{Outcome, done, refused, unless, after}
 use Rattle.register.specs.File.{cells_of_file}
 use Rattle.register.specs.Load.{load}
 use Rattle.register_check.specs.Number.{refusal_number as register-number}
 use Rattle.register.specs.declared.Sizes.{Sizes}
 use Rattle.register.specs.declared.cells.Cell.{Cell}
-use Rattle.chain.specs.declared.reading.Reading.{Reading}
+use Rattle.chain.specs.Reading.{Reading}
 use Rattle.chain_text.specs.declared.letters.Letters.{Letters}
 use Rattle.op_read.specs.declared.Refusal.{Refusal}
 use Rattle.op_read.specs.declared.Refusal.TheVariants.{Form as BadForm, Field, Kind, Hops}
-use Rattle.op_read.specs.declared.ChainAnswer.{ChainAnswer}
-use Rattle.op_read.specs.declared.ChainAnswer.TheVariants.{Chain, Refused}
-use Rattle.op_read.specs.declared.ReadingAnswer.{ReadingAnswer}
-use Rattle.op_read.specs.declared.ReadingAnswer.TheVariants.{Read, Register, Chain as BadChain, Record}
+use Rattle.op_read.specs.declared.ReadingRefusal.{ReadingRefusal}
+use Rattle.op_read.specs.declared.ReadingRefusal.TheVariants.{Register, Chain as BadChain, Record}
 use Rattle.chain.specs.Word.{unpack, value_at_record}
 use Rattle.chain_text.specs.Text.{Form, formed, unformed, form, letters_refusal, word_of}
 
@@ -43,17 +41,26 @@ chain_refusal_number Kind = 10
 chain_refusal_number Hops = 11
 
 -- the outcome of each answer for a chain
-unfoldable pub chain_outcome : ChainAnswer → Outcome (List ℕ)
-chain_outcome (Chain n) = done (unpack n)
-chain_outcome (Refused r) = refused (chain_refusal_number r) 1
+unfoldable pub chain_outcome : Result ℕ Refusal → Outcome (List ℕ)
+chain_outcome (Ok n) = done (unpack n)
+chain_outcome (Err r) = refused (chain_refusal_number r) 1
+
+-- the number and the line of each refusal of a reading
+unfoldable pub refusal_number : ReadingRefusal → ℕ
+refusal_number (Register r) = register-number r
+refusal_number (BadChain r) = chain_refusal_number r
+refusal_number Record = 16
+
+unfoldable pub refusal_line : ReadingRefusal → ℕ
+refusal_line (Register r) = 0
+refusal_line (BadChain r) = 1
+refusal_line Record = 0
 
 -- the outcome of each answer for a reading
-unfoldable pub reading_outcome : ReadingAnswer → Outcome Reading
-reading_outcome (Read x) = done x
-reading_outcome (Register r) = refused (register-number r) 0
-reading_outcome (BadChain r) = refused (chain_refusal_number r) 1
-reading_outcome Record = refused 16 0
+unfoldable pub reading_outcome : Result Reading ReadingRefusal → Outcome Reading
+reading_outcome (Ok x) = done x
+reading_outcome (Err r) = refused (refusal_number r) (refusal_line r)
 
 -- the answer for what is known of the letters
-unfoldable pub judged_of : Letters → ChainAnswer
-judged_of x = cond x.named (cond x.kinded (cond x.long (Refused Hops) (Chain x.packed)) (Refused Kind)) (Refused Field)
+unfoldable pub judged_of : Letters → Result ℕ Refusal
+judged_of x = cond x.named (cond x.kinded (cond x.long (Err Hops) (Ok x.packed)) (Err Kind)) (Err Field)

@@ -1,15 +1,15 @@
 -- Buffers that are ready for a run.
 use Prim.Native.Nat.{ℕ, ◌≤◌}
-use mathlib.Core.Path.{◌≡◌, refl, sym, ◌∙◌}
-use mathlib.Core.Logic.{◌≢◌}
+use mathlib.Core.Path.{◌≡◌, refl, sym}
 use mathlib.Core.List.{List}
 use mathlib.Core.Bool.{Bool, true, false, cond}
 use native.Mathlib.Omega.{arith}
-use borrow.Author.Tests.{ne_eqb}
 use lib.Dec.{eqb}
 use lib.IntN.{ℤ}
 use lib.ListN.{length}
 use Rattle.op_limits.proofs.Room.{room}
+use Rattle.std.specs.Prelude.{Ok}
+use Rattle.op_limits.specs.Number.{check_number}
 use Rattle.op_ready.specs.Ready.{length_refusal, Readied}
 
 -- neither 18 nor 19
@@ -18,15 +18,9 @@ neither true true e = absurd (omega arith)
 neither true false e = refl
 neither false b e = absurd (omega arith)
 
--- buffers that are ready, or why they are not
-module _ {places : ℕ} {file out : List ℕ} {values : List ℤ} {marks out' : List ℕ} {values' : List ℤ} {marks' : List ℕ} {r : ℕ}
-    (h : Readied places file out values marks out' values' marks' r) where
-  pub ready-room : r ≡ 0 → (places ≤ length values) × (places ≤ length marks)
-  unfolding length_refusal
-  ready-room z = room places (length values) (length marks) (neither (eqb (length out) (length file)) _ (sym h.refusal_is ∙ z))
-
-  pub ready-copied : r ≡ 0 → out' ≡ file
-  ready-copied z = rw z at h.out_is
-
-  pub unready_untouched : r ≢ 0 → out' ≡ out
-  unready_untouched z = rw (ne_eqb r 0 z) at h.out_is
+-- buffers that are ready
+module _ {places : ℕ} {file out : List ℕ} {values : List ℤ} {marks out' : List ℕ} {values' : List ℤ} {marks' : List ℕ} {u : Unit {0}}
+    (h : Readied places file out values marks out' values' marks' (Ok u)) where
+  pub ready-room : (places ≤ length values) × (places ≤ length marks)
+  unfolding length_refusal check_number
+  ready-room = room places (length values) (length marks) (neither (eqb (length out) (length file)) _ (sym h.refusal_is))

@@ -6,18 +6,11 @@ ghost use Rattle.register.specs.Shape.{Limits};
 ghost use Rattle.machine.specs.Run.{scratch};
 ghost use Rattle.op_ready.specs.Ready.{Readied};
 
+use op_limits::Refusal;
 use register::Sizes;
 
-fn copy(from: &[u8], to: &mut [u8])
-    requires { length from.now ≡ length to.old }
-    ensures { to.new ≡ from.now }
-{
-    for i in 0..from.len() {
-        to[i] = from[i];
-    }
-}
-
 // The register in the output, for a run of a program with at most this many lines in a step; or 18 or 19, and nothing is written.
+#[tactic(auto, unfolding(crate::specs::Ready::length_refusal, op_limits::specs::Number::check_number, op_limits::specs::Number::refusal_number))]
 pub fn ready(
     file: &[u8],
     sizes: Sizes,
@@ -25,19 +18,19 @@ pub fn ready(
     out: &mut [u8],
     values: &mut [i64],
     marks: &mut [u8],
-) -> u32
+) -> Result<(), Refusal>
     requires { Limits sizes × (lines ≤ 64) }
     ensures { Readied (scratch sizes lines) file.now out.old values.old marks.old
         out.new values.new marks.new result }
 {
     if out.len() != file.len() {
-        return 18;
+        return Err(Refusal::Output);
     }
     if op_limits::is_short(sizes, lines, values.len(), marks.len()) {
-        return 19;
+        return Err(Refusal::Scratch);
     }
-    copy(file, out);
-    0
+    out.copy_from_slice(file);
+    Ok(())
 }
 
 // The output behind a run: after 20 or 21 it is the register as loaded.
@@ -46,6 +39,6 @@ pub fn restore(file: &[u8], out: &mut [u8], refusal: u32)
     ensures { out.new ≡ cond (eqb refusal 0) out.old file.now }
 {
     if refusal != 0 {
-        copy(file, out);
+        out.copy_from_slice(file);
     }
 }

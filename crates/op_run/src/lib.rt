@@ -6,7 +6,7 @@ ghost use Rattle.machine_messages.specs.declared.Machine.TheVariants.{Direct, Me
 ghost use Rattle.op_run.specs.Direct.{direct_run};
 ghost use Rattle.op_run.specs.Answer.{lengths, refused_with, Answered};
 
-use gather::counts;
+use gather::counts::Counts;
 use machine_messages::Machine;
 use op_check::check;
 use op_ready;
@@ -21,7 +21,7 @@ fn refused(refusal: u32, line: usize) -> RunAnswer
         refusal,
         line,
         finished: 0,
-        counts: counts::NONE,
+        counts: Counts::NONE,
         row: 0,
         column: 0,
     }
@@ -41,15 +41,14 @@ fn run_text(
         file.now out.old values.old marks.old out.new values.new marks.new result }
 {
     let mut codes = [0u64; 8192];
-    let checked = check::read(file, text, &mut codes);
-    if checked.refusal != 0 {
-        return refused(checked.refusal, checked.line);
-    }
+    let program = match check::read(file, text, &mut codes) {
+        Ok(program) => program,
+        Err(why) => return refused(why.refusal.number(), why.line),
+    };
     let sizes = register::sizes_of(file);
-    let program = checked.program;
-    let refusal = op_ready::ready(file, sizes, program.lines, out, values, marks);
-    if refusal != 0 {
-        return refused(refusal, 0);
+    match op_ready::ready(file, sizes, program.lines, out, values, marks) {
+        Ok(()) => {}
+        Err(refusal) => return refused(refusal.number(), 0),
     }
     let answer = run_steps::run_program(
         out, values, marks, sizes, &codes, program, machine, budget,

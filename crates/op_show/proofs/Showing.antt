@@ -1,17 +1,13 @@
 -- Places that are cleared, and then exchanges 1 to t, or all of them where t is past the last round.
-use Prim.Native.Nat.{ℕ, ◌+◌, ◌*◌, ◌≤◌, ◌<◌, min}
-use mathlib.Core.Path.{◌≡◌, ap₂, ◌∙◌}
+use Prim.Native.Nat.{ℕ, ◌*◌, ◌≤◌, ◌<◌, min}
+use mathlib.Core.Path.{◌≡◌, ◌∙◌}
 use mathlib.Core.List.{List}
 use mathlib.Core.Logic.{⊎_elim}
 use native.Mathlib.Omega.{arith}
 use lib.IntN.{ℤ}
-use lib.ListN.{length}
-use Rattle.register.specs.Cells.{cells_of}
-use Rattle.register.specs.File.{cell_count, values_part, marks_part, cells_of_file}
-use Rattle.register.specs.Shape.{Parts, Valid}
+use Rattle.register.specs.Shape.{Valid}
 use Rattle.register.specs.declared.Sizes.{Sizes}
 use Rattle.register.specs.declared.cells.Cell.{Cell}
-use Rattle.register.proofs.Loading.{file-parts}
 use Rattle.plan_theory.specs.Plan.{round, last_round, line}
 use Rattle.plan_lines.specs.Held.{facts}
 use Rattle.plan_lines.specs.declared.Plan.{Plan}
@@ -25,15 +21,6 @@ use Rattle.gather_exchanges.proofs.Sending.{held_over}
 use Rattle.gather_line.proofs.Places.{stored-kept}
 use Rattle.gather_line.proofs.Writing.{place-before}
 use Rattle.op_show.specs.Shown.{Shown}
-
--- the parts of a register that the exchanges take
-module _ (s : Sizes) (file : List ℕ) {values marks : List ℕ} (v : values ≡ values_part s file) (m : marks ≡ marks_part s file) where
-  pub parts-cells : cells_of values marks ≡ cells_of_file s file
-  unfolding cells_of_file
-  parts-cells = ap₂ cells_of v m
-
-  pub parts-valid : Valid s (cells_of_file s file) → length file ≡ 12 + 5 * cell_count s → Parts s values marks × Valid s (cells_of values marks)
-  parts-valid k whole = (rw (v, m) (file-parts file s k.limits whole), rw parts-cells k)
 
 -- clearing and exchanging
 module _ {s : Sizes} {cells : List Cell} {p : Plan} (planned : StepPlanned s p) (valid : Valid s cells)

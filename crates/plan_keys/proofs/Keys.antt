@@ -1,5 +1,5 @@
 -- The keys of lines: each has its fact and no other key has it.
-use Prim.Native.Nat.{ℕ, ◌+◌, ◌*◌, ◌/◌, ◌%◌, ◌≤◌, ◌<◌}
+use Prim.Native.Nat.{ℕ, ◌+◌, ◌*◌, ◌/◌, ◌%◌, ◌^◌, ◌≤◌, ◌<◌}
 use mathlib.Core.Path.{◌≡◌, sym, ap, ◌∙◌}
 use mathlib.Core.Logic.{◌⊎◌, inl, inr, ⊎_elim, ◌≢◌}
 use native.Mathlib.Omega.{arith}
@@ -8,10 +8,12 @@ use lib.Dec.{ltb, leb}
 use lib.ListN.{length}
 use Rattle.chain.specs.Word.{pack, unpack}
 use Rattle.chain.proofs.Packing.{pack-unpack}
-use Rattle.plan_theory.specs.Plan.{back, read, word, hops, line_from}
+use Rattle.plan_theory.specs.Plan.{back, read, word, hops, line_from, front as frontOf, rest as rest_of}
+use Rattle.plan_theory.proofs.Facts.{back_need-shorter, read_need-shorter}
 use Rattle.laws.proofs.Cases.{lt_or_le}
-use Rattle.plan_keys.specs.Keys.{fact_of}
-use Rattle.plan_keys.proofs.Words.{hops-none, hops-one, hops-pos, hops-two}
+use Rattle.plan_keys.specs.Keys.{fact_of, kind}
+use Rattle.plan_keys.specs.declared.key.Kind.TheVariants.{Back, Read}
+use Rattle.plan_keys.proofs.Words.{hops-none, hops-one, hops-pos, hops-two, packed_small}
 
 -- two tests that hold and fail together
 same_test : (a b c d : ℕ) → (a < b → c ≤ d) → (b ≤ a → d < c) → ltb a b ≡ leb c d
@@ -28,6 +30,12 @@ module _ (k : ℕ) where
 
   even_or_odd : (k % 2 ≡ 0) ⊎ (k % 2 ≢ 0)
   even_or_odd = ⊎_elim (λ l. inl (omega arith)) (λ l. inr (λ e. omega arith)) (lt_or_le (k % 2) 1)
+
+  pub kind_even : kind (fact_of k) ≡ Back → k % 2 ≡ 0
+  kind_even e = ⊎_elim (λ p. p) (λ n. absurd (let z : Read ≡ Back = sym (ap kind (fact_odd n)) ∙ e in cc)) even_or_odd
+
+  pub kind_odd : kind (fact_of k) ≡ Read → k % 2 ≢ 0
+  kind_odd e p = let z : Back ≡ Read = sym (ap kind (fact_even p)) ∙ e in cc
 
   pub fact-word : word (fact_of k) ≡ unpack (k / 2)
   fact-word = ⊎_elim (λ e. ap word (fact_even e)) (λ n. ap word (fact_odd n)) even_or_odd
@@ -60,6 +68,13 @@ fact-back n = let e : 2 * n / 2 ≡ n = omega arith in fact_even (2 * n) (omega 
 
 pub fact-read : (n : ℕ) → fact_of (2 * n + 1) ≡ read (unpack n)
 fact-read n = let e : (2 * n + 1) / 2 ≡ n = omega arith in fact_odd (2 * n + 1) (λ z. omega arith) ∙ ap (λ (m : ℕ). read (unpack m)) e
+
+-- the two parts of a fact of at most 16 hops are packed into numbers that leave room for a key
+pub front_small : (k n : ℕ) → (2 ≤ hops (fact_of k)) × (hops (fact_of k) ≤ 16) → unpack n ≡ frontOf (unpack (k / 2)) → n + 5 ≤ 5 * 8 ^ 16
+front_small k n h e = packed_small n 16 (omega (arith, ap length (e ∙ ap frontOf (sym (fact-word k))), back_need-shorter (fact_of k) h.0, h.1))
+
+pub rest_small : (k n : ℕ) → (2 ≤ hops (fact_of k)) × (hops (fact_of k) ≤ 16) → unpack n ≡ rest_of (unpack (k / 2)) → n + 5 ≤ 5 * 8 ^ 16
+rest_small k n h e = packed_small n 16 (omega (arith, ap length (e ∙ ap rest_of (sym (fact-word k))), read_need-shorter (fact_of k) h.0, h.1))
 
 unpack_injective : (m n : ℕ) → unpack m ≡ unpack n → m ≡ n
 unpack_injective m n e = sym (pack-unpack m) ∙ ap pack e ∙ pack-unpack n

@@ -1,5 +1,5 @@
 -- Packed words taken apart: their number of hops, and two parts.
-use Prim.Native.Nat.{ℕ, zero, suc, ◌+◌, ◌-◌, ◌*◌, ◌/◌, ◌^◌, ◌≤◌, ◌<◌}
+use Prim.Native.Nat.{ℕ, zero, suc, ◌+◌, ◌-◌, ◌*◌, ◌/◌, ◌^◌, ◌≤◌, ◌<◌, max}
 use mathlib.Core.Path.{◌≡◌, refl, sym, ap, subst, ◌∙◌}
 use mathlib.Core.Logic.{◌≢◌}
 use mathlib.Core.List.{List, ◌∷◌}
@@ -7,6 +7,9 @@ use native.Mathlib.Omega.{arith}
 use native.Mathlib.Nat.{pow-succ', one-le-pow}
 use lib.ListN.{length, take, drop, length-drop}
 use lib.Seq.{drop-drop}
+use Rattle.std.specs.Int.{IsPowerOfTwo}
+use Rattle.plan_theory.specs.Plan.{half}
+use Rattle.plan_theory.proofs.Half.{half_unique}
 use Rattle.chain.specs.Word.{push, pack, unpack, FirstHop}
 use Rattle.chain.proofs.Packing.{unpack-none, unpack-last, unpack-more, unpack_ind, taken_apart, Kinded, none, last, more, unpack-pack, pack-unpack, unpack-kinded}
 
@@ -68,3 +71,10 @@ module _ (n r : ℕ) {f : ℕ} (first : FirstHop f (unpack n)) (e : unpack r ≡
 
   pub rest_more : (b : ℕ) → unpack b ≡ drop h (unpack r) → unpack b ≡ drop (suc h) (unpack n)
   rest_more b i = let one : 1 + h ≡ suc h = omega arith in i ∙ ap (drop h) e ∙ drop-drop h 1 (unpack n) ∙ ap (λ (k : ℕ). drop k (unpack n)) one
+
+-- the half of the next power of two is the largest below
+pub half_is : (n p : ℕ) → 2 ≤ n → IsPowerOfTwo p → n ≤ p → p / 2 < max 1 n → p / 2 ≡ half n
+half_is n p two (zero, e) lo hi = absurd (omega arith)
+half_is n p two (suc s, e) lo hi =
+    let d : p / 2 ≡ 2 ^ s = omega (arith, pow-succ' 2 s) in
+    d ∙ sym (half_unique n s (omega arith) (omega (arith, pow-succ' 2 s)))

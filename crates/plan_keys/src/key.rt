@@ -9,14 +9,14 @@ use crate::word::split;
 // The largest key of a chain of at most one hop.
 pub const ONE_HOP: u64 = 33;
 
-#[derive(Clone, Copy)]
+#[derive(Clone, Copy, Debug, PartialEq, Eq)]
 pub enum Kind {
     Back,
     Read,
 }
 
 // The keys of a line's two needs.
-#[derive(Clone, Copy)]
+#[derive(Clone, Copy, Debug, PartialEq, Eq)]
 pub struct Needs {
     pub back: u64,
     pub read: u64,
@@ -44,7 +44,10 @@ pub fn chain_of(key: u64) -> u64
 pub fn has_line(key: u64) -> bool
     ensures { result ≡ leb (line_from (fact_of key)) (hops (fact_of key)) }
 {
-    if key % 2 == 0 { 1 < key } else { ONE_HOP < key }
+    match kind_of(key) {
+        Kind::Back => 1 < key,
+        Kind::Read => ONE_HOP < key,
+    }
 }
 
 pub fn needs_of(key: u64) -> Needs

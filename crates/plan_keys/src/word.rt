@@ -6,6 +6,7 @@ ghost use Rattle.plan_keys.specs.Keys.{SplitAt, HalvesOf};
 
 use chain::packed;
 
+// The hops are taken off one by one: a packed word is no slice that could be walked.
 pub fn hops(chain: u64) -> u64
     ensures { result ≡ length (unpack chain) }
 {
@@ -30,19 +31,16 @@ pub fn rest(chain: u64, h: u64) -> u64
 }
 
 // Document 01's h: the largest power of two below a number of hops.
+#[tactic(auto, using(crate::proofs::Words::half_is))]
 fn half(hops: u64) -> u64
     requires { (2 ≤ hops) × (hops ≤ 16) }
     ensures { result ≡ half_of hops }
 {
-    let mut h = 1;
-    while h + h < hops {
-        h = h + h;
-    }
-    h
+    hops.next_power_of_two() / 2
 }
 
 // Document 01's parts a and b of a chain.
-#[derive(Clone, Copy)]
+#[derive(Clone, Copy, Debug, PartialEq, Eq)]
 pub struct Halves {
     pub front: u64,
     pub rest: u64,

@@ -5,10 +5,10 @@ use mathlib.Core.List.{List, [], ◌∷◌, ◌++◌, map-append}
 use mathlib.Core.Logic.{⊎_elim}
 use native.Mathlib.Omega.{arith}
 use native.Mathlib.Numerals.{add-one}
-use lib.Dec.{ltb}
+use mathlib.Core.Bool.{true, false}
 use lib.ListN.{length, get_or, set, take, length-append, length-set, get_or-eq_default}
 use lib.Seq.{take-suc-set, get_or-set_same, get_or-set_other}
-use borrow.Author.Tests.{lt-ltb}
+use borrow.Author.Tests.{lt-ltb, le-ltb}
 use Rattle.plan_theory.specs.Plan.{Fact, hops, line_from, back_need, read_need, round, line_index, line}
 use Rattle.plan_theory.specs.Promise.{Stands, Had, Next, Ordered}
 use Rattle.laws.proofs.Cases.{lt_or_le}
@@ -16,7 +16,7 @@ use Rattle.plan_theory.proofs.Facts.{round-none, round-one, round-both, round-ho
 use Rattle.plan_theory.proofs.Places.{place-line, place-append-listed}
 use Rattle.plan_theory.proofs.Kept.{ordered-append, lines-append}
 use Rattle.plan_keys.specs.Keys.{fact_of}
-use Rattle.plan_lines.specs.Held.{facts_in, index, need_index, LineColumn, HoldsLines, LineOf, NeedsReady, ExtendedTo}
+use Rattle.plan_lines.specs.Held.{facts_in, index, need_index, LineColumn, HoldsLines, LineOf, NeedsReady, Extended}
 use Rattle.plan_lines.specs.declared.Plan.{Plan}
 use Rattle.plan_lines.specs.declared.Line.{Line}
 use Rattle.plan_keys.specs.declared.key.Needs.{Needs}
@@ -108,16 +108,16 @@ need_round {xs} {l} g h had =
     (lt_or_le (line_index l g) (length l))
 
 -- the answer for the lines with one more: where all 64 places are taken, and where one is left
-pub extended_full : {p o : Plan} {l : List Fact} (f : Fact) → HoldsLines p l → p.count ≡ 64 → 64 < o.count → ExtendedTo (l ++ (f ∷ [])) o
-extended_full {p} {o} {l} f h e b =
+pub extended_full : {p : Plan} {l : List Fact} (f : Fact) → HoldsLines p l → p.count ≡ 64 → Extended (l ++ (f ∷ [])) (record { plan = p; full = true })
+extended_full {p} {l} f h e =
     let k : length (l ++ (f ∷ [])) ≡ 65 = simp length-append (omega (arith, holds_count h)) in
-    record { full_is = lt-ltb 64 o.count b ∙ sym (lt-ltb 64 (length (l ++ (f ∷ []))) (omega (arith, k))); holds = λ n. absurd (omega (arith, k)) }
+    record { full_is = sym (lt-ltb 64 (length (l ++ (f ∷ []))) (omega (arith, k))); holds = λ n. absurd (omega (arith, k)) }
 
-pub extended-append : {p : Plan} {l : List Fact} {x : Line} → HoldsLines p l → LineOf l x → p.count < 64 → ExtendedTo (l ++ (fact_of x.key ∷ [])) (appended p x)
+pub extended-append : {p : Plan} {l : List Fact} {x : Line} → HoldsLines p l → LineOf l x → p.count < 64
+    → Extended (l ++ (fact_of x.key ∷ [])) (record { plan = appended p x; full = false })
 extended-append {p} {l} {x} h n room =
-    let m = l ++ (fact_of x.key ∷ []) in
-    let k : length m ≡ p.count + 1 = simp length-append (omega (arith, holds_count h)) in
-    record { full_is = ap (ltb 64) (sym k); holds = λ b. holds-append h n room }
+    let k : length (l ++ (fact_of x.key ∷ [])) ≡ p.count + 1 = simp length-append (omega (arith, holds_count h)) in
+    record { full_is = sym (le-ltb 64 _ (omega (arith, k))); holds = λ b. holds-append h n room }
 
 -- the line of a fact of two or more hops, from the lines that its needs have
 module _ {xs : List ℕ} {l : List Fact} {k : ℕ} {needs : Needs} (h : LineColumn xs l round) (q : NeedsReady l k needs) where

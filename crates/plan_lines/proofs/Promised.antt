@@ -5,7 +5,7 @@ use mathlib.Core.List.{List}
 use mathlib.Core.Logic.{⊎_elim}
 use native.Mathlib.Omega.{arith}
 use lib.ListN.{length}
-use Rattle.plan_theory.specs.Plan.{Fact, read, word, hops, back_need, read_need, round, line_index, plan, last_round, line}
+use Rattle.plan_theory.specs.Plan.{Fact, word, hops, back_need, read_need, round, line_index, plan, last_round, line}
 use Rattle.plan_theory.specs.Promise.{Stands, Promise}
 use Rattle.laws.proofs.Cases.{lt_or_le}
 use Rattle.plan_theory.proofs.Facts.{rest-length}

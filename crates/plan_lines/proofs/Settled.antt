@@ -1,7 +1,7 @@
 -- Facts that are listed, and those that add no line.
 use Prim.Native.Nat.{ℕ, ◌≤◌, ◌<◌}
-use mathlib.Core.Path.{◌≡◌, sym, ◌∙◌}
-use mathlib.Core.Bool.{true, false}
+use mathlib.Core.Path.{◌≡◌, refl, sym, ap, ◌∙◌}
+use mathlib.Core.Bool.{Bool, true, false}
 use mathlib.Core.List.{List}
 use mathlib.Core.Logic.{⊎_elim}
 use native.Mathlib.Omega.{arith}
@@ -10,10 +10,20 @@ use lib.ListN.{length}
 use borrow.Author.Tests.{lt-ltb, le-ltb, ltb-true, ltb-false}
 use Rattle.plan_theory.specs.Plan.{Fact, hops, line_from, line_index, listed, add}
 use Rattle.laws.proofs.Cases.{lt_or_le}
+use Rattle.std.specs.Prelude.{Some, None, cond, is_some}
+use Rattle.std.specs.Option.{option_map_or}
 use Rattle.plan_theory.proofs.Places.{place-line}
 use Rattle.plan_theory.proofs.Lines.{listed-old, listed_new, add_none, add-listed}
 use Rattle.plan_theory.specs.Promise.{Ordered}
-use Rattle.plan_lines.specs.Held.{settled, index, need_index}
+use Rattle.plan_lines.specs.Held.{settled, place, index, need_index}
+
+some-cond : (b : Bool) (i : ℕ) → is_some (cond b (Some i) None) ≡ b
+some-cond true i = refl
+some-cond false i = refl
+
+index-cond : (b : Bool) (i : ℕ) → elim b [ true ↦ i | false ↦ 64 ] ≡ option_map_or (λ i. i) (cond b (Some i) None) 64
+index-cond true i = refl
+index-cond false i = refl
 
 module _ (l : List Fact) (f : Fact) where
   pub index-old : line_index l f < length l → index l f ≡ line_index l f
@@ -41,6 +51,26 @@ module _ (l : List Fact) (f : Fact) where
   pub settled-line : line_from f ≤ hops f → settled l f ≡ ltb (line_index l f) (length l)
   unfolding settled listed
   settled-line h = simp (le-ltb (hops f) (line_from f) h)
+
+  pub settled-place : line_from f ≤ hops f → settled l f ≡ is_some (place l f)
+  unfolding place listed
+  settled-place h = settled-line h ∙ sym (some-cond (ltb (line_index l f) (length l)) (line_index l f))
+
+  pub index-place : index l f ≡ option_map_or (λ i. i) (place l f) 64
+  unfolding index place
+  index-place = index-cond (listed l f) (line_index l f)
+
+  pub place_had : line_index l f < length l → place l f ≡ Some (line_index l f)
+  unfolding place
+  place_had h = rw (listed-old l f h) refl
+
+  pub place_listed : (i : ℕ) → place l f ≡ Some i → i < length l
+  unfolding place listed
+  place_listed i e =
+      ⊎_elim
+      (λ h. omega (arith, h, ap (λ o. option_map_or (λ i. i) o 0) (rw (lt-ltb (line_index l f) (length l) h) at e)))
+      (λ h. absurd (let none : false ≡ true = ap is_some (rw (le-ltb (line_index l f) (length l) h) at e) in cc))
+      (lt_or_le (line_index l f) (length l))
 
   -- it adds no line
   pub settled_adds : settled l f ≡ true → add l f ≡ l

@@ -1,10 +1,11 @@
 -- What a plan of the code holds: the facts of its lines, their rounds, and which lines their needs are.
-use Rattle.std.specs.Prelude.{◌≡◌, Bool, true, false, ◌||◌, List, map, ℕ, ◌≤◌, ◌<◌, ltb, length, get_or, take}
+use Rattle.std.specs.Prelude.{◌≡◌, Bool, true, false, ◌||◌, List, map, ℕ, ◌≤◌, ◌<◌, ltb, length, get_or, take, Option, Some, None, cond, Result, is_err}
 use Rattle.plan_theory.specs.Plan.{Fact, hops, line_from, back_need, read_need, round, line_index, listed, last_round, line}
 use Rattle.plan_theory.specs.Promise.{Next, Ordered}
 use Rattle.plan_keys.specs.Keys.{fact_of, NeedsOf}
 use Rattle.plan_lines.specs.declared.Plan.{Plan}
 use Rattle.plan_lines.specs.declared.Line.{Line}
+use Rattle.plan_lines.specs.declared.Full.{Full}
 use Rattle.plan_keys.specs.declared.key.Needs.{Needs}
 
 -- the facts of the first n keys
@@ -27,7 +28,11 @@ first_line k = record { key = k; round = 1; back = 64; read = 64 }
 unfoldable pub settled : List Fact → Fact → Bool
 settled l f = ltb (hops f) (line_from f) || listed l f
 
--- the line of l that brings f about, counted from 0; 64 where none does
+-- the line of l that brings f about, counted from 0
+unfoldable pub place : List Fact → Fact → Option ℕ
+place l f = cond (listed l f) (Some (line_index l f)) None
+
+-- the same as a number, 64 where no line does
 unfoldable pub index : List Fact → Fact → ℕ
 index l f = elim (listed l f) [ true ↦ line_index l f | false ↦ 64 ]
 
@@ -83,10 +88,6 @@ pub record Extended (l : List Fact) (r : Added) : Type 0 where
   pub full_is : r.full ≡ ltb 64 (length l)
   pub holds : length l ≤ 64 → HoldsLines r.plan l
 
--- a plan by its arrays and the number of its lines
-abbrev pub plan_of : List ℕ → List ℕ → List ℕ → List ℕ → ℕ → Plan
-plan_of keys rounds backs reads n = record { keys = keys; rounds = rounds; backs = backs; reads = reads; count = n }
-
--- the same answer as a plan whose number of lines is above 64 where there is no room
-abbrev pub ExtendedTo : List Fact → Plan → Type 0
-ExtendedTo l p = Extended l (record { plan = p; full = ltb 64 p.count })
+-- the same answer as a plan and the refusal of a 65th line
+abbrev pub ExtendedTo : List Fact → Plan → Result Unit Full → Type 0
+ExtendedTo l p r = Extended l (record { plan = p; full = is_err r })

@@ -2,18 +2,20 @@
 #![tactic(auto)]
 
 ghost use Rattle.std.specs.Prelude.{◌≡◌, ◌++◌, ◌+◌, ◌*◌, ◌<◌, length};
-ghost use Rattle.register.specs.Cells.{cells_of};
 ghost use Rattle.register.specs.File.{cell_count, cells_of_file};
-ghost use Rattle.register.specs.Shape.{Limits, Parts};
+ghost use Rattle.register.specs.Shape.{Limits};
+ghost use Rattle.register.specs.View.{cells_in};
 ghost use Rattle.print_page.specs.Decimal.{decimal_text};
 ghost use Rattle.print_page.specs.Put.{PageRoom, PagePut};
 ghost use Rattle.print_listing.specs.Listing.{header, in_a_row, record_line, listing, refused_line};
 
 use print_page::{put_byte, put_bytes, put_cell, put_number};
-use register::{Sizes, cells};
+use register::Sizes;
+use register::cells::Cells;
 
-// The refusal's number, 0 for none, and its line; the finished steps, and their exchanges and letters.
-#[derive(Clone, Copy)]
+// The refusal's number, 0 for none, and its line; the finished steps, and their exchanges and letters. They are numbers
+// here, since they are printed.
+#[derive(Clone, Copy, Debug, PartialEq, Eq)]
 pub struct Ran {
     pub refusal: u32,
     pub line: usize,
@@ -40,33 +42,26 @@ fn put_header(page: &mut [u8], records: usize, ran: Ran) -> usize
     put_count(page, letters, ran.letters as u64, b" letters\n")
 }
 
-fn put_record(
-    page: &mut [u8],
-    at: usize,
-    cells: &[u8],
-    filled: &[u8],
-    sizes: Sizes,
-    u: usize,
-) -> usize
-    requires { Parts sizes cells.now filled.now × (u < sizes.records) × PageRoom at (record_line sizes (cells_of cells.now filled.now) u) page.old }
-    ensures { PagePut at (record_line sizes (cells_of cells.now filled.now) u) page.old page.new result }
+fn put_record(page: &mut [u8], at: usize, cells: &Cells<'_>, u: usize) -> usize
+    requires { (u < cells.now.sizes.records) × PageRoom at (record_line cells.now.sizes (cells_in cells.now) u) page.old }
+    ensures { PagePut at (record_line cells.now.sizes (cells_in cells.now) u) page.old page.new result }
 {
     let mut next = put_number(page, at, u as u64);
-    for f in 0..sizes.references + sizes.measures {
-        let cell = cells::cell_at(cells, filled, register::cell_index(sizes, u, f));
+    for f in 0..cells.sizes.references + cells.sizes.measures {
+        let cell = cells.at(register::cell_index(cells.sizes, u, f));
         next = put_byte(page, next, b' ');
         next = put_cell(page, next, cell);
     }
     put_byte(page, next, b'\n')
 }
 
-fn put_records(page: &mut [u8], at: usize, cells: &[u8], filled: &[u8], sizes: Sizes) -> usize
-    requires { Parts sizes cells.now filled.now × PageRoom at (in_a_row sizes.records (record_line sizes (cells_of cells.now filled.now))) page.old }
-    ensures { PagePut at (in_a_row sizes.records (record_line sizes (cells_of cells.now filled.now))) page.old page.new result }
+fn put_records(page: &mut [u8], at: usize, cells: &Cells<'_>) -> usize
+    requires { PageRoom at (in_a_row cells.now.sizes.records (record_line cells.now.sizes (cells_in cells.now))) page.old }
+    ensures { PagePut at (in_a_row cells.now.sizes.records (record_line cells.now.sizes (cells_in cells.now))) page.old page.new result }
 {
     let mut next = at;
-    for u in 0..sizes.records {
-        next = put_record(page, next, cells, filled, sizes, u);
+    for u in 0..cells.sizes.records {
+        next = put_record(page, next, cells, u);
     }
     next
 }
@@ -78,9 +73,8 @@ pub fn put_listing(page: &mut [u8], file: &[u8], sizes: Sizes, ran: Ran) -> usiz
     ensures { PagePut 0 (listing sizes (cells_of_file sizes file.now) ran.finished ran.exchanges ran.letters) page.old page.new result }
 {
     let at = put_header(page, sizes.records, ran);
-    let cells = cells::values_part(file, sizes);
-    let filled = cells::marks_part(file, sizes);
-    put_records(page, at, cells, filled, sizes)
+    let cells = Cells::of(file, sizes);
+    put_records(page, at, &cells)
 }
 
 // A refusal's number, and the number behind `at`.

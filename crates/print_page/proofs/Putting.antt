@@ -1,11 +1,9 @@
 -- Laws of what is put on the page.
-use Prim.Native.Nat.{ℕ, ◌+◌, ◌<◌}
-use mathlib.Core.Path.{◌≡◌, refl, sym, ap, ◌∙◌}
-use mathlib.Core.List.{List, [], ◌∷◌, ◌++◌, append-nil, append_assoc}
-use native.Mathlib.Numerals.{add-one}
+use Prim.Native.Nat.{ℕ}
+use mathlib.Core.Path.{◌≡◌, sym, ap, ◌∙◌}
+use mathlib.Core.List.{List, [], ◌++◌, append-nil, append_assoc}
 use native.Mathlib.Omega.{arith}
-use lib.ListN.{length, take, set, length-append}
-use lib.Seq.{take-suc-set}
+use lib.ListN.{length, take, length-append}
 use Rattle.print_page.specs.Put.{PageRoom, PagePut}
 
 -- room for two texts is room for the first, and behind it for the second
@@ -25,7 +23,3 @@ put-more {at} {a = a} {b = b} {page = page} p q = record {
   end = simp length-append (omega (arith, p.end, q.end));
   put = q.put ∙ ap (λ (t : List ℕ). t ++ b) p.put ∙ append_assoc (take at page) a b;
 }
-
--- one store puts a byte
-pub put_one : (page : List ℕ) (at byte : ℕ) → at < length page → PagePut at (byte ∷ []) page (set page at byte) (at + 1)
-put_one page at byte h = record { end = refl; put = rw add-one (take-suc-set page at byte h) }

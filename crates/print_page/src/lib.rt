@@ -1,7 +1,8 @@
-// Bytes, numbers and cells, put on the page at a place: each function answers the place behind what it put.
+// Bytes, numbers and cells, put on the page at a place: each function answers the place behind what it put. A page that
+// knows its place would have to promise its length, which a lent slice keeps, and nothing ties it to the slice where it ends.
 #![tactic(auto)]
 
-ghost use Rattle.std.specs.Prelude.{◌≡◌, [], ◌∷◌, ◌++◌, nat_abs};
+ghost use Rattle.std.specs.Prelude.{◌≡◌, [], ◌∷◌, ◌++◌};
 ghost use Rattle.print_page.specs.Decimal.{decimal_text, value_text, cell_text};
 ghost use Rattle.print_page.specs.Put.{PageRoom, PagePut};
 
@@ -19,10 +20,9 @@ pub fn put_bytes(page: &mut [u8], at: usize, bytes: &[u8]) -> usize
     requires { PageRoom at bytes.now page.old }
     ensures { PagePut at bytes.now page.old page.new result }
 {
-    for i in 0..bytes.len() {
-        page[at + i] = bytes[i];
-    }
-    at + bytes.len()
+    let end = at + bytes.len();
+    page[at..end].copy_from_slice(bytes);
+    end
 }
 
 pub fn put_number(page: &mut [u8], at: usize, number: u64) -> usize
@@ -34,26 +34,16 @@ pub fn put_number(page: &mut [u8], at: usize, number: u64) -> usize
     put_bytes(page, at, &digits[..count])
 }
 
-// A value without its sign.
-fn magnitude(value: i32) -> u64
-    ensures { result ≡ nat_abs value }
-{
-    if value < 0 {
-        (!value) as u64 + 1
-    } else {
-        value as u64
-    }
-}
-
 fn put_value(page: &mut [u8], at: usize, value: i32) -> usize
     requires { PageRoom at (value_text value) page.old }
     ensures { PagePut at (value_text value) page.old page.new result }
 {
+    let size = u64::from(value.unsigned_abs());
     if value < 0 {
         let next = put_byte(page, at, b'-');
-        return put_number(page, next, magnitude(value));
+        return put_number(page, next, size);
     }
-    put_number(page, at, magnitude(value))
+    put_number(page, at, size)
 }
 
 // A value, and what stands behind it.

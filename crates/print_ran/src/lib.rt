@@ -12,6 +12,7 @@ use print_listing::Ran;
 use register;
 
 // The number behind `at` where a refusal is printed.
+#[tactic(auto, unfolding(crate::specs::Behind::behind_at))]
 fn behind_at(refusal: u32, line: usize, finished: u16) -> usize
     ensures { result ≡ behind_at refusal line finished }
 {

@@ -5,7 +5,9 @@ ghost use Rattle.program.specs.Code.{kind_in, location_in, chain_in, number_in, 
 use crate::location::Location;
 use crate::rule::Operator;
 
-// The kind of a code: 0 a chain, 1 a number, from 2 on an operator.
+// The kind of a code: 0 a chain, 1 a number, from 2 on an operator. It stays a number: the runs branch on it for each code, and
+// codes are numbers of an array.
+#[tactic(auto, unfolding(crate::specs::Code::kind_in))]
 pub fn kind(code: u64) -> u8
     ensures { result ≡ kind_in code }
 {
@@ -13,20 +15,19 @@ pub fn kind(code: u64) -> u8
 }
 
 // Where the chain of a code is found.
+#[tactic(auto, unfolding(crate::specs::Code::location_in, crate::specs::Code::location_at))]
 pub fn location(code: u64) -> Location
     ensures { result ≡ location_in code }
 {
-    let number = code / 8 % 256;
-    if number == 0 {
-        return Location::Own;
+    match (code / 8 % 256) as u8 {
+        0 => Location::Own,
+        number @ 1..=16 => Location::Cell(number - 1),
+        number => Location::Line(number - 17),
     }
-    if number < 17 {
-        return Location::Cell((number - 1) as u8);
-    }
-    Location::Line((number - 17) as u8)
 }
 
 // The chain of a code, packed.
+#[tactic(auto, unfolding(crate::specs::Code::chain_in))]
 pub fn chain(code: u64) -> u64
     ensures { result ≡ chain_in code }
 {
@@ -40,6 +41,7 @@ pub fn number(code: u64) -> i32
     integers::signed((code / 8 % 4294967296) as u32)
 }
 
+#[tactic(auto, unfolding(crate::specs::Code::chain_code))]
 pub fn of_chain(packed: u64) -> u64
     requires { packed < 9007199254740992 }
     ensures { result ≡ chain_code packed }
@@ -53,17 +55,15 @@ pub fn of_number(number: i32) -> u64
     8 * integers::unsigned(number) as u64 + 1
 }
 
+#[tactic(auto, unfolding(crate::specs::Code::kind_of))]
 pub fn of_operator(operator: Operator) -> u64
     ensures { result ≡ kind_of operator }
 {
-    match operator {
-        Operator::Plus => 2,
-        Operator::Minus => 3,
-        Operator::Smaller => 4,
-    }
+    operator as u64
 }
 
 // A location as a number.
+#[tactic(auto, unfolding(crate::specs::Code::location_number))]
 fn location_number(location: Location) -> u8
     requires { Numbered location }
     ensures { result ≡ location_number location }
@@ -76,6 +76,7 @@ fn location_number(location: Location) -> u8
 }
 
 // A code whose chain is found at a location.
+#[tactic(auto, unfolding(crate::specs::Code::with_location))]
 pub fn with_location(code: u64, location: Location) -> u64
     requires { Numbered location }
     ensures { result ≡ with_location code location }

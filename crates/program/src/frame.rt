@@ -3,7 +3,7 @@ use crate::setting::Setting;
 use plan_lines::Plan;
 
 // Their number, whether one is remote, which fields they write, the step's loop, its plan, and which lines of it they read.
-#[derive(Clone, Copy)]
+#[derive(Clone, Copy, Debug, PartialEq, Eq)]
 pub struct Frame {
     pub rules: usize,
     pub remote: bool,

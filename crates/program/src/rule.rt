@@ -1,23 +1,23 @@
 // Rules and tests, as a program holds them.
 use crate::term::Term;
 
-// `+`, `-`, `<?`
-#[derive(Clone, Copy)]
+// `+`, `-`, `<?`, by their kinds in the codes of expressions.
+#[derive(Clone, Copy, Debug, PartialEq, Eq)]
 pub enum Operator {
-    Plus,
-    Minus,
-    Smaller,
+    Plus = 2,
+    Minus = 3,
+    Smaller = 4,
 }
 
 // `<?=`, `+=`
-#[derive(Clone, Copy)]
+#[derive(Clone, Copy, Debug, PartialEq, Eq)]
 pub enum Sort {
     Least,
     Total,
 }
 
 // `F[u] := X`; `F[u] := X + Y` or `F[u] := X - Y`; `remote F[C] <?= X` or `remote F[C] += X`: F by its field, C packed.
-#[derive(Clone, Copy)]
+#[derive(Clone, Copy, Debug, PartialEq, Eq)]
 pub enum Rule {
     Set(u64, Term),
     Combine(u64, Operator, Term, Term),
@@ -25,7 +25,7 @@ pub enum Rule {
 }
 
 // `<`, `==`, `!=`
-#[derive(Clone, Copy)]
+#[derive(Clone, Copy, Debug, PartialEq, Eq)]
 pub enum Comparison {
     Less,
     Equal,
@@ -33,14 +33,14 @@ pub enum Comparison {
 }
 
 // "Before any of them may stand `if X < Y: `".
-#[derive(Clone, Copy)]
+#[derive(Clone, Copy, Debug, PartialEq, Eq)]
 pub enum Test {
     Always,
     When(Term, Comparison, Term),
 }
 
 // A rule with its test.
-#[derive(Clone, Copy)]
+#[derive(Clone, Copy, Debug, PartialEq, Eq)]
 pub struct Slot {
     pub test: Test,
     pub rule: Rule,

@@ -3,3 +3,4 @@ pub mod Cells
 pub mod File
 pub mod Load
 pub mod Shape
+pub mod View

@@ -2,7 +2,7 @@
 ghost use Rattle.std.specs.Prelude.{◌≡◌, ◌+◌, ◌*◌, ◌≤◌, ◌<◌, length, set};
 ghost use Rattle.register.specs.Cells.{cell_at};
 ghost use Rattle.register.specs.File.{cell_count, values_part, marks_part, put_marked};
-ghost use Rattle.register.specs.Shape.{Limits};
+ghost use Rattle.register.specs.Shape.{Limits, Parts};
 ghost use Rattle.std.proofs.lemmas.List.Edits.{sets};
 ghost use Rattle.integers.specs.Bytes.{value_bytes};
 
@@ -14,6 +14,41 @@ pub enum Cell {
     Missing,
     Measured(i32),
     WorkedOut(i32),
+}
+
+// The cells of a register: its sizes, and the two parts of its file behind them.
+#[derive(Clone, Copy)]
+pub struct Cells<'a> {
+    pub sizes: Sizes,
+    pub values: &'a [u8],
+    pub marks: &'a [u8],
+    pub ghost parts: { Parts sizes values.now marks.now },
+}
+
+impl<'a> Cells<'a> {
+    ghost use Rattle.std.specs.Prelude.{get_or};
+    ghost use Rattle.register.specs.View.{cells_in};
+    ghost use Rattle.register.specs.declared.cells.Cell.TheVariants.{Missing};
+
+    // Those of a file with these sizes.
+    pub fn of(file: &'a [u8], sizes: Sizes) -> Cells<'a>
+        requires { Limits sizes × (length file.now ≡ 12 + 5 * cell_count sizes) }
+        ensures { (result.sizes ≡ sizes) × (result.values.now ≡ values_part sizes file.now) × (result.marks.now ≡ marks_part sizes file.now) }
+    {
+        Cells {
+            sizes,
+            values: values_part(file, sizes),
+            marks: marks_part(file, sizes),
+        }
+    }
+
+    // Cell j.
+    pub fn at(&self, j: usize) -> Cell
+        requires { j < cell_count self.now.sizes }
+        ensures { result ≡ get_or (cells_in self.now) j Missing }
+    {
+        cell_at(self.values, self.marks, j)
+    }
 }
 
 // The values, a part of the file behind the sizes.
@@ -35,6 +70,7 @@ pub fn marks_part(file: &[u8], sizes: Sizes) -> &[u8]
 }
 
 // Cell j of the two arrays.
+#[tactic(auto, unfolding(crate::specs::Cells::cell_at, crate::specs::Cells::cell_of))]
 pub fn cell_at(cells: &[u8], filled: &[u8], j: usize) -> Cell
     requires { (4 * j + 4 ≤ length cells.now) × (j < length filled.now) }
     ensures { result ≡ cell_at cells.now filled.now j }

@@ -16,6 +16,7 @@ pub struct Sizes {
 }
 
 // The sizes that a file begins with.
+#[tactic(auto, unfolding(crate::specs::File::sizes_of))]
 pub fn sizes_of(file: &[u8]) -> Sizes
     requires { 12 ≤ length file.now }
     ensures { result ≡ sizes_of file.now }
@@ -27,6 +28,7 @@ pub fn sizes_of(file: &[u8]) -> Sizes
     }
 }
 
+#[tactic(auto, unfolding(crate::specs::File::cell_count, crate::specs::File::width))]
 pub fn cell_count(sizes: Sizes) -> usize
     requires { Limits sizes }
     ensures { result ≡ cell_count sizes }
@@ -35,6 +37,7 @@ pub fn cell_count(sizes: Sizes) -> usize
 }
 
 // Where the cell of record u and field f stands.
+#[tactic(auto, unfolding(crate::specs::File::cell_index, crate::specs::File::width, crate::specs::File::cell_count))]
 pub fn cell_index(sizes: Sizes, u: usize, f: usize) -> usize
     requires { Limits sizes × (u < sizes.records) × (f < width sizes) }
     ensures { result ≡ cell_index sizes u f }

@@ -1,6 +1,6 @@
 -- The numbers of refusals, and a check that stops at the first failure.
 use Prim.Native.Nat.{ℕ, ◌+◌, ◌<◌}
-use mathlib.Core.Path.{◌≡◌, refl, sym, ap, ◌∙◌}
+use mathlib.Core.Path.{◌≡◌, refl, sym, ◌∙◌}
 use mathlib.Core.Logic.{◌≢◌}
 use native.Mathlib.Omega.{arith}
 use native.Mathlib.Numerals.{add-one}
@@ -9,8 +9,7 @@ use Rattle.laws.proofs.First.{first_more, first_found}
 use Rattle.register_check.specs.Number.{refusal_number, check_number}
 use Rattle.register_check.specs.declared.Refusal.{Refusal}
 use Rattle.register_check.specs.declared.Refusal.TheVariants.{Length, SizeLimit, Mark, MissingValue, Reference}
-use Rattle.register_check.specs.declared.Check.{Check}
-use Rattle.register_check.specs.declared.Check.TheVariants.{Passed, Failed}
+use Rattle.std.specs.Prelude.{Ok, Err}
 
 pub unless_refusal : {A : Type 0} (r : Refusal) (o : Outcome A) → unless (refusal_number r) 0 o ≡ refused (refusal_number r) 0
 unfolding unless refusal_number
@@ -28,14 +27,13 @@ number_positive Mark e = omega arith
 number_positive MissingValue e = omega arith
 number_positive Reference e = omega arith
 
--- a loop that checks f 0, f 1, .. and stops at the first failure
-module _ (f : ℕ → ℕ) (i : ℕ) (k : Check) (so_far : first i f ≡ 0) (next : check_number k ≡ f i) where
-  pub goes_on_lem : k ≡ Passed → first (i + 1) f ≡ 0
+-- a loop that checks f 0, f 1, .. and returns at the first failure
+module _ (f : ℕ → ℕ) (i : ℕ) (so_far : first i f ≡ 0) where
+  pub goes_on_lem : (x : Unit {0}) → check_number (Ok x) ≡ f i → first (i + 1) f ≡ 0
   unfolding check_number
-  goes_on_lem e = rw add-one (first_more f i so_far (sym next ∙ ap check_number e))
+  goes_on_lem x here = rw add-one (first_more f i so_far (sym here))
 
-  pub stops : (n : ℕ) → i < n → (r : Refusal) → k ≡ Failed r → check_number (Failed r) ≡ first n f
+  -- it does so below any end
+  pub stops : (n : ℕ) → i < n → (r : Refusal) → check_number (Err r) ≡ f i → check_number (Err r) ≡ first n f
   unfolding check_number
-  stops n l r e =
-      let here : refusal_number r ≡ f i = ap check_number (sym e) ∙ next in
-      here ∙ sym (first_found f n i so_far (λ z. number_positive r (here ∙ z)) l)
+  stops n l r here = here ∙ sym (first_found f n i so_far (λ z. number_positive r (here ∙ z)) l)

@@ -1,3 +1,2 @@
 -- Refusals of a register's cells.
 pub mod Number
-pub mod Fields

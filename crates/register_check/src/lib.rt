@@ -2,17 +2,14 @@
 #![tactic(auto)]
 
 ghost use Rattle.std.specs.Prelude.{◌≡◌, ◌+◌, ◌*◌, ◌≤◌, ◌<◌, ltb};
-ghost use Rattle.laws.specs.Outcome.{first};
 ghost use Rattle.register.specs.File.{width};
 ghost use Rattle.register.specs.Load.{cell_refusal, refusal_at, record_refusal, cells_refusal};
-ghost use Rattle.register_check.specs.Number.{check_number};
-ghost use Rattle.register.specs.Shape.{Parts};
-ghost use Rattle.register_check.specs.Fields.{Fields};
+ghost use Rattle.register_check.specs.Number.{refusal_number, check_number};
 
-use register::Sizes;
+use register::cells::Cells;
 
 // Refusals 1 to 5 of document 01, in order.
-#[derive(Clone, Copy)]
+#[derive(Clone, Copy, Debug, PartialEq, Eq)]
 pub enum Refusal {
     Length,
     SizeLimit,
@@ -21,86 +18,75 @@ pub enum Refusal {
     Reference,
 }
 
-#[derive(Clone, Copy)]
-pub enum Check {
-    Passed,
-    Failed(Refusal),
+impl Refusal {
+    // Document 01's number of a refusal.
+    #[tactic(auto, unfolding(crate::specs::Number::refusal_number))]
+    pub fn number(self) -> u32
+        ensures { result ≡ refusal_number self }
+    {
+        match self {
+            Refusal::Length => 1,
+            Refusal::SizeLimit => 2,
+            Refusal::Mark => 3,
+            Refusal::MissingValue => 4,
+            Refusal::Reference => 5,
+        }
+    }
 }
 
-fn check_cell(records: usize, reference: bool, value: i32, mark: u8) -> Check
+fn check_cell(records: usize, reference: bool, value: i32, mark: u8) -> Result<(), Refusal>
     requires { records ≤ 4096 }
     ensures { check_number result ≡ cell_refusal records reference value mark }
 {
     if 2 < mark {
-        return Check::Failed(Refusal::Mark);
+        return Err(Refusal::Mark);
     }
     if mark == 0 {
         if integers::equal(value, 0) {
-            return Check::Passed;
+            return Ok(());
         }
-        return Check::Failed(Refusal::MissingValue);
+        return Err(Refusal::MissingValue);
     }
     if reference {
         if integers::is_index(records, value) {
-            return Check::Passed;
+            return Ok(());
         }
-        return Check::Failed(Refusal::Reference);
+        return Err(Refusal::Reference);
     }
-    Check::Passed
+    Ok(())
 }
 
 // The cell of record u and field f, a reference or a measure.
-fn check_at(cells: &[u8], filled: &[u8], sizes: Sizes, u: usize, f: usize, reference: bool) -> Check
-    requires { Parts sizes cells.now filled.now × (u < sizes.records) × (f < width sizes) × (ltb f sizes.references ≡ reference) }
-    ensures { check_number result ≡ refusal_at sizes cells.now filled.now u f }
+fn check_at(cells: &Cells<'_>, u: usize, f: usize, reference: bool) -> Result<(), Refusal>
+    requires { (u < cells.now.sizes.records) × (f < width cells.now.sizes) × (ltb f cells.now.sizes.references ≡ reference) }
+    ensures { check_number result ≡ refusal_at cells.now.sizes cells.now.values.now cells.now.marks.now u f }
 {
-    let j = register::cell_index(sizes, u, f);
-    let value = integers::value_at(cells, 4 * j);
-    check_cell(sizes.records, reference, value, filled[j])
+    let j = register::cell_index(cells.sizes, u, f);
+    let value = integers::value_at(cells.values, 4 * j);
+    check_cell(cells.sizes.records, reference, value, cells.marks[j])
 }
 
-// The fields `from` to `to` of record u, all references or all measures, where no field before them is refused.
-fn check_fields(
-    cells: &[u8],
-    filled: &[u8],
-    sizes: Sizes,
-    u: usize,
-    from: usize,
-    to: usize,
-    reference: bool,
-) -> Check
-    requires { Fields sizes cells.now filled.now u from to reference }
-    ensures { check_number result ≡ first to (refusal_at sizes cells.now filled.now u) }
+// The references, then the measures: a loop each, so that neither asks of a cell which it is.
+fn check_record(cells: &Cells<'_>, u: usize) -> Result<(), Refusal>
+    requires { u < cells.now.sizes.records }
+    ensures { check_number result ≡ record_refusal cells.now.sizes cells.now.values.now cells.now.marks.now u }
 {
-    for f in from..to {
-        if let Check::Failed(refusal) = check_at(cells, filled, sizes, u, f, reference) {
-            return Check::Failed(refusal);
-        }
+    let references = cells.sizes.references;
+    let fields = references + cells.sizes.measures;
+    for f in 0..references {
+        check_at(cells, u, f, true)?;
     }
-    Check::Passed
+    for f in references..fields {
+        check_at(cells, u, f, false)?;
+    }
+    Ok(())
 }
 
-fn check_record(cells: &[u8], filled: &[u8], sizes: Sizes, u: usize) -> Check
-    requires { Parts sizes cells.now filled.now × (u < sizes.records) }
-    ensures { check_number result ≡ record_refusal sizes cells.now filled.now u }
+pub fn check_cells(cells: &Cells<'_>) -> Result<(), Refusal>
+    ensures { check_number result ≡ cells_refusal cells.now.sizes cells.now.values.now cells.now.marks.now }
 {
-    let references = sizes.references;
-    let fields = references + sizes.measures;
-    match check_fields(cells, filled, sizes, u, 0, references, true) {
-        Check::Passed => check_fields(cells, filled, sizes, u, references, fields, false),
-        Check::Failed(refusal) => Check::Failed(refusal),
+    for u in 0..cells.sizes.records {
+        check_record(cells, u)?;
     }
-}
-
-pub fn check_cells(cells: &[u8], filled: &[u8], sizes: Sizes) -> Check
-    requires { Parts sizes cells.now filled.now }
-    ensures { check_number result ≡ cells_refusal sizes cells.now filled.now }
-{
-    let records = sizes.records;
-    for u in 0..records {
-        if let Check::Failed(refusal) = check_record(cells, filled, sizes, u) {
-            return Check::Failed(refusal);
-        }
-    }
-    Check::Passed
+    Ok(())
 }

@@ -3,56 +3,30 @@
 #![tactic(auto)]
 
 ghost use Rattle.std.specs.Prelude.{◌≡◌, true, cond, ◌+◌, ◌*◌, ◌<◌, length};
-ghost use Rattle.register.specs.Cells.{cells_of};
+ghost use Rattle.register.specs.View.{cells_in};
 ghost use Rattle.register.specs.File.{cell_count, cells_of_file};
-ghost use Rattle.register.specs.Shape.{Limits, Parts};
+ghost use Rattle.register.specs.Shape.{Limits};
 ghost use Rattle.chain.specs.Word.{has_field};
 ghost use Rattle.program.specs.Passed.{SettingPasses};
-ghost use Rattle.machine.specs.Run.{same_reading as sameReadingOf, begins};
+ghost use Rattle.machine.specs.Run.{begins};
 ghost use Rattle.run_loop.specs.Column.{Space, HasColumn, SameAs, HasPass, Entered, NextIs};
 
 use chain::follow;
-use chain::reading::Reading;
 use program::setting::Setting;
-use register::{Sizes, cells};
+use register::Sizes;
+use register::cells::Cells;
 use scratch;
 use scratch::column;
 
-// Whether the same is read, value and whether filled: "not 1 against 2" (M-107).
-fn same_reading(x: Reading, y: Reading) -> bool
-    ensures { result ≡ sameReadingOf x y }
+// Whether the column of a field is as it was kept: the same is read, value and whether filled, "not 1 against 2" (M-107).
+fn is_same(cells: &Cells<'_>, values: &[i64], marks: &[u8], at: usize, field: u64) -> bool
+    requires { (has_field cells.now.sizes field ≡ true) × Space cells.now.sizes at values.now marks.now × HasColumn cells.now.sizes at values.now }
+    ensures { SameAs cells.now.sizes field (cells_in cells.now) at values.now marks.now result }
 {
-    match x {
-        Reading::Missing => match y {
-            Reading::Missing => true,
-            Reading::Value(_) => false,
-        },
-        Reading::Value(a) => match y {
-            Reading::Missing => false,
-            Reading::Value(b) => integers::equal(a, b),
-        },
-    }
-}
-
-// Whether the column of a field is as it was kept.
-fn is_same(
-    cells: &[u8],
-    filled: &[u8],
-    values: &[i64],
-    marks: &[u8],
-    sizes: Sizes,
-    at: usize,
-    field: u64,
-) -> bool
-    requires { Parts sizes cells.now filled.now × (has_field sizes field ≡ true) × Space sizes at values.now marks.now × HasColumn sizes at values.now }
-    ensures { SameAs sizes field (cells_of cells.now filled.now) at values.now marks.now result }
-{
-    for u in 0..sizes.records {
+    for u in 0..cells.sizes.records {
         let before = scratch::read_at(values, marks, at + u);
-        if !same_reading(
-            before,
-            follow::read_cell(cells, filled, sizes, u, field as usize),
-        ) {
+        let after = follow::read_cell(cells, u, field as usize);
+        if before != after {
             return false;
         }
     }
@@ -78,9 +52,8 @@ pub fn enter(
         Setting::Single => first,
         Setting::Looped(field, is_first, _) => {
             if is_first {
-                let cells = cells::values_part(file, sizes);
-                let filled = cells::marks_part(file, sizes);
-                column::copy_column(cells, filled, values, marks, sizes, at, field as usize);
+                let cells = Cells::of(file, sizes);
+                column::copy_column(&cells, values, marks, at, field as usize);
                 return step;
             }
             first
@@ -106,12 +79,8 @@ pub fn next(
     match setting {
         Setting::Single => step + 1,
         Setting::Looped(field, _, last) => {
-            if last {
-                let cells = cells::values_part(file, sizes);
-                let filled = cells::marks_part(file, sizes);
-                if !is_same(cells, filled, values, marks, sizes, at, field) {
-                    return first;
-                }
+            if last && !is_same(&Cells::of(file, sizes), values, marks, at, field) {
+                return first;
             }
             step + 1
         }

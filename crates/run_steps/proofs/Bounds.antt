@@ -1,12 +1,12 @@
 -- How large the counts of a run can grow: each record sends at most one message for each rule, and each step a bounded number.
+use Rattle.std.specs.Prelude.{None, Some}
 use Prim.Native.Nat.{ℕ, zero, suc, ◌*◌, ◌≤◌}
 use mathlib.Core.Path.{◌≡◌}
 use mathlib.Core.Bool.{Bool, true, false, cond}
 use mathlib.Core.List.{List, [], ◌∷◌}
 use native.Mathlib.Omega.{arith}
 use lib.ListN.{length, length-append}
-use Rattle.chain.specs.declared.reading.Reading.{Reading}
-use Rattle.chain.specs.declared.reading.Reading.TheVariants.{Missing, Value}
+use Rattle.chain.specs.Reading.{Reading}
 use Rattle.program.specs.declared.rule.Sort.{Sort}
 use Rattle.program.specs.Program.{Target, own, remote, Rule}
 use Rattle.machine.specs.Value.{both, value, holds}
@@ -18,9 +18,9 @@ use Rattle.gather.specs.declared.counts.Counts.{Counts}
 
 sent-few : (k : Sort) (f : ℕ) (c x : Reading) → length (sent_to k f c x) ≤ 1
 unfolding sent_to both
-sent-few k f Missing x = omega arith
-sent-few k f (Value v) Missing = omega arith
-sent-few k f (Value v) (Value a) = omega arith
+sent-few k f None x = omega arith
+sent-few k f (Some v) None = omega arith
+sent-few k f (Some v) (Some a) = omega arith
 
 target-few : (read : List ℕ → Reading) (t : Target) (x : Reading) → length (sent_by read t x) ≤ 1
 unfolding sent_by

@@ -27,8 +27,9 @@ use Rattle.machine_messages.specs.declared.Machine.{Machine}
 use Rattle.scratch.specs.Places.{Kept}
 use Rattle.scratch.proofs.Placed.{kept_again}
 use Rattle.step_cells.specs.Work.{HoldsCells, Same}
-use Rattle.step_cells.specs.declared.stop.Stop.{Stop}
-use Rattle.step_cells.specs.declared.stop.Stop.TheVariants.{Nowhere, At}
+use Rattle.std.specs.Prelude.{Ok, Err}
+use Rattle.step_cells.specs.Stop.{Stop}
+use Rattle.step_cells.specs.declared.stop.Offence.{Offence}
 use Rattle.step_cells.proofs.Working.{same_refl, same_then, proper-held}
 use Rattle.step_rules.specs.Delivered.{Delivers, Delivered, AllSend}
 use Rattle.step_rules.specs.Stepped.{GoesThrough}
@@ -69,19 +70,19 @@ module _ {m : Machine} {s : Sizes} {codes : List ℕ} {p : R.Program} {budget : 
     {places : List Located} {values₂ : List ℤ} {marks₂ : List ℕ} {begun : Begun} where
   -- a local sum is out of range
   ends_local : (b : Prepared a places values₂ marks₂ begun) {values₃ : List ℤ} {marks₃ : List ℕ} {stop : Stop} → Applied b values₃ marks₃ stop
-      → {u c : ℕ} → stop ≡ At u c → Ends m s (program_of codes p) budget file out (stopped_at run.finished run.counts u c)
+      → {o : Offence} → stop ≡ Err o → Ends m s (program_of codes p) budget file out (stopped_at run.finished run.counts o.row o.column)
   unfolding direct
-  ends_local b h {u} {c} e =
-      stands_offended a.stands (inside a) a.later (offence-sum s (direct s (rs a) (cells a)) (rs a) (cells a) (rw (rules_taken b) at (h.stops u c e)))
+  ends_local b h {o} e =
+      stands_offended a.stands (inside a) a.later (offence-sum s (direct s (rs a) (cells a)) (rs a) (cells a) (rw (rules_taken b) at (h.stops o e)))
 
   -- the rules of the step are done, local and remote, where none stops
   pub record Done (b : Prepared a places values₂ marks₂ begun) (stop : Stop) (values₄ : List ℤ) (marks₄ : List ℕ) (sent : ℕ) : Type 0 where
     pub same : Same (base a) values₂ marks₂ values₄ marks₄
-    pub all : stop ≡ Nowhere → AllDone s (followed s (cells a)) (cells a) (base a) (rs a) values₄ marks₄ sent
+    pub all : stop ≡ Ok tt → AllDone s (followed s (cells a)) (cells a) (base a) (rs a) values₄ marks₄ sent
 
   module _ {b : Prepared a places values₂ marks₂ begun} {stop : Stop} {values₃ values₄ : List ℤ} {marks₃ marks₄ : List ℕ} {sent : ℕ}
       (l : Applied b values₃ marks₃ stop) where
-    delivers : Same (base a) values₃ marks₃ values₄ marks₄ → (stop ≡ Nowhere → Delivers s (base a) (record_messages (followed s (cells a)) (ls b) s.records) values₃ marks₃ values₄ marks₄ 0 sent)
+    delivers : Same (base a) values₃ marks₃ values₄ marks₄ → (stop ≡ Ok tt → Delivers s (base a) (record_messages (followed s (cells a)) (ls b) s.records) values₃ marks₃ values₄ marks₄ 0 sent)
         → Done b stop values₄ marks₄ sent
     delivers k d = record {
       same = same_then l.same k;
@@ -105,7 +106,7 @@ module _ {m : Machine} {s : Sizes} {codes : List ℕ} {p : R.Program} {budget : 
         delivers (rw (v, k) same_refl) (λ e. rw (v, k, n) (silent_step s (followed s (cells a)) (ls b) (sym (step_sends b) ∙ (rw e at none))))
 
   module _ {b : Prepared a places values₂ marks₂ begun} {stop : Stop} {values₄ : List ℤ} {marks₄ : List ℕ} {sent : ℕ}
-      (d : Done b stop values₄ marks₄ sent) (e : stop ≡ Nowhere) where
+      (d : Done b stop values₄ marks₄ sent) (e : stop ≡ Ok tt) where
     -- the cells behind the step
     abbrev after : List Cell
     after = step_cells s (direct s (rs a) (cells a)) (rs a) (cells a)
@@ -124,8 +125,8 @@ module _ {m : Machine} {s : Sizes} {codes : List ℕ} {p : R.Program} {budget : 
         step_untouched s (limits a) (direct s (rs a) (cells a)) (rs a) (cells a) (step-passes a).rules.each u c col (sym ((at-step a).frame.fields_are _) ∙ w)
 
     -- a total is out of range
-    ends_total : {out' : List ℕ} {u c : ℕ} → Committed s (base a) (frame a).fields values₄ marks₄ out out' (At u c)
-        → Ends m s (program_of codes p) budget file out' (stopped_at run.finished run.counts u c)
+    ends_total : {out' : List ℕ} {o : Offence} → Committed s (base a) (frame a).fields values₄ marks₄ out out' (Err o)
+        → Ends m s (program_of codes p) budget file out' (stopped_at run.finished run.counts o.row o.column)
     unfolding direct
     ends_total h =
         stands_offended a.stands (inside a) a.later (total-stops s (followed s (cells a)) out (rs a) (d.all e) (stop_first s after after_count (base a) after_held h))
@@ -200,19 +201,19 @@ module _ {m : Machine} {s : Sizes} {codes : List ℕ} {p : R.Program} {budget : 
     turn-stands n = go stop refl
       where
         go : (x : Stop) → stop ≡ x → StandsBy m s (program_of codes p) (at a) budget file r out' values₄ marks₄
-        go Nowhere e =
+        go (Ok done) e =
             let end = ended_as b.begins.machine_is b.begins.at_is b.begins.setting_is b.begins.remote_is (h.ended e) in
             record {
               stands = λ w. next-stands d e (rw w at end.committed) n (end.counted w);
-              stopped = λ u c w. rw (end.uncounted u c w) (ends_total d e (rw w at end.committed));
+              stopped = λ o w. rw (end.uncounted o w) (ends_total d e (rw w at end.committed));
             }
-        go (At u c) e =
-            let (same, is) = h.stays u c e in
-            rw (same, is) (record { stands = λ w. not-both w refl; stopped = λ v k w. ends_local b l (e ∙ w) })
+        go (Err o) e =
+            let (same, is) = h.stays o e in
+            rw (same, is) (record { stands = λ w. not-both w refl; stopped = λ q w. ends_local b l (e ∙ w) })
 
     pub turn-nearer : turns budget r < turns budget run
     turn-nearer = turns-nearer budget run r a.nowhere a.later (λ w. go w stop refl)
       where
-        go : r.stop ≡ Nowhere → (x : Stop) → stop ≡ x → r.finished ≡ suc run.finished
-        go w Nowhere e = ((h.ended e).counted w).finished_is
-        go w (At u c) e = not-both w (ap (λ (x : Progress). x.stop) (h.stays u c e).1)
+        go : r.stop ≡ Ok tt → (x : Stop) → stop ≡ x → r.finished ≡ suc run.finished
+        go w (Ok done) e = ((h.ended e).counted w).finished_is
+        go w (Err o) e = not-both w (ap (λ (x : Progress). x.stop) (h.stays o e).1)

@@ -17,7 +17,7 @@ use Rattle.laws.proofs.Lists.{each_of, each_all, mem_map}
 use Rattle.register.specs.Shape.{Valid}
 use Rattle.register.specs.declared.Sizes.{Sizes}
 use Rattle.register.specs.declared.cells.Cell.{Cell}
-use Rattle.chain.specs.declared.reading.Reading.{Reading}
+use Rattle.chain.specs.Reading.{Reading}
 use Rattle.chain.specs.Word.{Passes, readable, unpack, hop, follow, value_at_record}
 use Rattle.plan_theory.specs.Plan.{Fact, read, line_index, line}
 use Rattle.plan_theory.proofs.Kept.{plan-promise}

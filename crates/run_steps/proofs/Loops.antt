@@ -13,8 +13,10 @@ use Rattle.program.specs.declared.location.Located.{Located}
 use Rattle.program.specs.Stored.{rules_in}
 use Rattle.machine.specs.Step.{sum_offence}
 use Rattle.step_cells.specs.Work.{Same}
-use Rattle.step_cells.specs.declared.stop.Stop.{Stop}
-use Rattle.step_cells.specs.declared.stop.Stop.TheVariants.{Nowhere, At}
+use Rattle.std.specs.Prelude.{Ok, Err, is_err, true}
+use Rattle.laws.proofs.Bools.{true_false}
+use Rattle.step_cells.specs.Stop.{Stop}
+use Rattle.step_cells.specs.declared.stop.Offence.{Offence}
 use Rattle.step_cells.proofs.Working.{same_refl, same_then}
 use Rattle.step_rules.specs.Ready.{LocalRule, LocalDone}
 use Rattle.step_rules.proofs.Locals.{RecordDone, rule_at, record-start, record-more, record-stops, records-start, records-more, records_all}
@@ -36,7 +38,7 @@ pub record Taken (slots : List Located) (step used : ℕ) (rules : List Located)
 pub record RulesDone (s : Sizes) (cells : List Cell) (base : ℕ) (codes : List ℕ) (rules : List Located) (used u : ℕ)
     (values : List ℤ) (marks : List ℕ) (values' : List ℤ) (marks' : List ℕ) (stop : Stop) (k : ℕ) : Type 0 where
   pub done : RecordDone s (followed s cells) base codes rules u k values marks values' marks'
-  pub nowhere : stop ≡ Nowhere
+  pub nowhere : stop ≡ Ok tt
   pub k≤ : k ≤ used
 
 -- all rules are done at the records below u, and no sum was out of range
@@ -44,20 +46,20 @@ pub record RecordsDone (s : Sizes) (cells : List Cell) (base : ℕ) (codes : Lis
     (values : List ℤ) (marks : List ℕ) (values' : List ℤ) (marks' : List ℕ) (stop : Stop) (u : ℕ) : Type 0 where
   pub same : Same base values marks values' marks'
   pub done : LocalDone s (followed s cells) base (rules_in codes used rules) u values marks values' marks'
-  pub nowhere : stop ≡ Nowhere
+  pub nowhere : stop ≡ Ok tt
   pub u≤ : u ≤ s.records
 
 module _ {s : Sizes} {cells : List Cell} {base : ℕ} {codes : List ℕ} {rules : List Located} {used : ℕ} {values : List ℤ} {marks : List ℕ} where
-  pub rules-first : {u : ℕ} {stop : Stop} → stop ≡ Nowhere → RulesDone s cells base codes rules used u values marks values marks stop 0
+  pub rules-first : {u : ℕ} {stop : Stop} → stop ≡ Ok tt → RulesDone s cells base codes rules used u values marks values marks stop 0
   rules-first e = record { done = record-start; nowhere = e; k≤ = omega arith }
 
-  pub records-first : RecordsDone s cells base codes rules used values marks values marks Nowhere 0
+  pub records-first : RecordsDone s cells base codes rules used values marks values marks (Ok tt) 0
   records-first = record { same = same_refl; done = records-start; nowhere = refl; u≤ = omega arith }
 
   module _ {values' values'' : List ℤ} {marks' marks'' : List ℕ} {stop : Stop} {u : ℕ} where
     -- one rule more at record u
     pub rules-next : {k : ℕ} → RulesDone s cells base codes rules used u values marks values' marks' stop k → k < used → used ≤ length rules
-        → {stop' : Stop} → stop' ≡ Nowhere → (x : Located) → LocalRule s (followed s cells u) base u (rule_at codes (get_or rules k x)) values' marks' values'' marks'' stop'
+        → {stop' : Stop} → stop' ≡ Ok tt → (x : Located) → LocalRule s (followed s cells u) base u (rule_at codes (get_or rules k x)) values' marks' values'' marks'' stop'
         → {k' : ℕ} → k' ≡ suc k → RulesDone s cells base codes rules used u values marks values'' marks'' stop' k'
     rules-next a h fits e x rule q =
         record { done = record-more a.done x (omega arith) (rw e at rule) q; nowhere = e; k≤ = omega arith }
@@ -80,12 +82,17 @@ pub local_as : (s : Sizes) (cells : List Cell) (base u : ℕ) (r : Rule) (values
     → LocalRule s (followed s cells u) base u r values marks values'' marks'' stop'
 local_as s cells base u r values marks v m t rule = rw (v, m, t) rule
 
+-- a rule whose sum is out of range stops at a place
+pub with_offence : {P : Type 0} (stop : Stop) → is_err stop ≡ true → ((o : Offence) → stop ≡ Err o → P) → P
+with_offence (Ok done) h f = true_false h refl
+with_offence (Err o) h f = f o refl
+
 -- what the loops leave: all records are done, or one rule's sum is out of range
 pub record LocalsLeft (s : Sizes) (cells : List Cell) (base : ℕ) (rs : List Rule) (values : List ℤ) (marks : List ℕ)
     (values' : List ℤ) (marks' : List ℕ) (stop : Stop) : Type 0 where
   pub same : Same base values marks values' marks'
-  pub all : stop ≡ Nowhere → LocalDone s (followed s cells) base rs s.records values marks values' marks'
-  pub stops : (u c : ℕ) → stop ≡ At u c → sum_offence s (followed s cells) rs ≡ some (record { row = u; column = c })
+  pub all : stop ≡ Ok tt → LocalDone s (followed s cells) base rs s.records values marks values' marks'
+  pub stops : (o : Offence) → stop ≡ Err o → sum_offence s (followed s cells) rs ≡ some (record { row = o.row; column = o.column })
 
 module _ {s : Sizes} {cells : List Cell} {base : ℕ} {codes : List ℕ} {rules : List Located} {used : ℕ} {values values' : List ℤ} {marks marks' : List ℕ}
     {stop : Stop} {u : ℕ} (a : RecordsDone s cells base codes rules used values marks values' marks' stop u)
@@ -96,12 +103,12 @@ module _ {s : Sizes} {cells : List Cell} {base : ℕ} {codes : List ℕ} {rules 
       rw (v, m) (record {
         same = a.same;
         all = λ e. records_all (omega (arith, a.u≤)) a.done;
-        stops = λ u c e. not-both (t ∙ a.nowhere) e;
+        stops = λ o e. not-both (t ∙ a.nowhere) e;
       })
 
-  pub left-within : {values'' values''' : List ℤ} {marks'' marks''' : List ℕ} {stop' stop'' : Stop} {k v c : ℕ} → u < s.records
+  pub left-within : {values'' values''' : List ℤ} {marks'' marks''' : List ℕ} {stop' stop'' : Stop} {k : ℕ} {there : Offence} → u < s.records
       → RulesDone s cells base codes rules used u values' marks' values'' marks'' stop' k → k < used → used ≤ length rules
-      → stop'' ≡ At v c → valuesₑ ≡ values''' → marksₑ ≡ marks''' → stopₑ ≡ stop''
+      → stop'' ≡ Err there → valuesₑ ≡ values''' → marksₑ ≡ marks''' → stopₑ ≡ stop''
       → (x : Located) → LocalRule s (followed s cells u) base u (rule_at codes (get_or rules k x)) values'' marks'' values''' marks''' stop''
       → LocalsLeft s cells base (rules_in codes used rules) values marks valuesₑ marksₑ stopₑ
   left-within {k = k} row b h fits o vₑ mₑ t x rule =
@@ -110,6 +117,6 @@ module _ {s : Sizes} {cells : List Cell} {base : ℕ} {codes : List ℕ} {rules 
       rw (vₑ, mₑ) (record {
         same = same_then (same_then a.same b.done.same) stops.0;
         all = λ e. not-both e (t ∙ o);
-        stops = λ u c e.
+        stops = λ q e.
             record-stops (followed s cells) codes rules k x inside h row a.done.in_range b.done.in_range (rw (sym t ∙ e) at rule).1;
       })

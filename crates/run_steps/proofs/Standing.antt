@@ -35,8 +35,9 @@ use Rattle.gather.specs.Counted.{no_counts}
 use Rattle.run_steps.specs.Answer.{counts_of, ended_with, stopped_at, AnswerIs, Scratch, Ends}
 use Rattle.run_steps.specs.declared.RunAnswer.{RunAnswer}
 use Rattle.gather.specs.declared.counts.Counts.{Counts}
-use Rattle.step_cells.specs.declared.stop.Stop.{Stop}
-use Rattle.step_cells.specs.declared.stop.Stop.TheVariants.{Nowhere, At}
+use Rattle.std.specs.Prelude.{Ok, Err}
+use Rattle.step_cells.specs.Stop.{Stop}
+use Rattle.step_cells.specs.declared.stop.Offence.{Offence}
 use Rattle.run_turn.specs.declared.Progress.{Progress}
 use Rattle.run_turn.specs.Turned.{GoesOn}
 use Rattle.run_steps.proofs.Counting.{counts_none}
@@ -215,24 +216,24 @@ module _ {m : Machine} {s : Sizes} {p : Program} {at budget : ℕ} {file : List 
 -- how far the run has come: it stands before a step, or has stopped at one
 pub record StandsBy (m : Machine) (s : Sizes) (p : Program) (at budget : ℕ) (file : List ℕ) (run : Progress) (out : List ℕ) (values : List ℤ) (marks : List ℕ)
     : Type 0 where
-  pub stands : run.stop ≡ Nowhere → Stands m s p at budget file run.step run.first run.finished run.counts out values marks
-  pub stopped : (u c : ℕ) → run.stop ≡ At u c → Ends m s p budget file out (stopped_at run.finished run.counts u c)
+  pub stands : run.stop ≡ Ok tt → Stands m s p at budget file run.step run.first run.finished run.counts out values marks
+  pub stopped : (o : Offence) → run.stop ≡ Err o → Ends m s p budget file out (stopped_at run.finished run.counts o.row o.column)
 
 -- the turns that the budget allows
 abbrev turns_left : Stop → ℕ → ℕ
-turns_left Nowhere n = suc n
-turns_left (At u c) n = 0
+turns_left (Ok done) n = suc n
+turns_left (Err o) n = 0
 
 abbrev pub turns : ℕ → Progress → ℕ
 turns budget run = turns_left run.stop (budget - run.finished)
 
-pub turns-nearer : (budget : ℕ) (run r : Progress) → run.stop ≡ Nowhere → run.finished < budget → (r.stop ≡ Nowhere → r.finished ≡ suc run.finished)
+pub turns-nearer : (budget : ℕ) (run r : Progress) → run.stop ≡ Ok tt → run.finished < budget → (r.stop ≡ Ok tt → r.finished ≡ suc run.finished)
     → turns budget r < turns budget run
 turns-nearer budget run r n l f = rw n (go r.stop refl)
   where
     go : (x : Stop) → r.stop ≡ x → turns_left x (budget - r.finished) < suc (budget - run.finished)
-    go Nowhere e = omega (arith, f e, l)
-    go (At u c) e = omega arith
+    go (Ok done) e = omega (arith, f e, l)
+    go (Err o) e = omega arith
 
 -- there is no further turn: the run has stopped, no step is left, or the budget is spent
 module _ {m : Machine} {s : Sizes} {p : Program} {at budget : ℕ} {file : List ℕ} {run : Progress} {out : List ℕ} {values : List ℤ} {marks : List ℕ}
@@ -242,11 +243,11 @@ module _ {m : Machine} {s : Sizes} {p : Program} {at budget : ℕ} {file : List 
   ends_by {r} h = go run.stop refl
     where
       go : (x : Stop) → run.stop ≡ x → Ends m s p budget file out r
-      go Nowhere e =
+      go (Ok done) e =
           let (more, complete) = rw e at h in
           let t = a.stands e in
           ⊎_elim
           (λ l. rw (more l) (stands_exhausted t (omega (arith, n)) (g.ends f e l)))
           (λ l. rw (complete l) (stands-complete t (omega (arith, n))))
           (lt_or_le run.step steps)
-      go (At u c) e = rw (rw e at h) (a.stopped u c e)
+      go (Err o) e = rw (rw e at h) (a.stopped o e)

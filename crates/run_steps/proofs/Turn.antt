@@ -36,8 +36,8 @@ use Rattle.step_cells.specs.Work.{Room, HoldsCells, Same, Small}
 use Rattle.step_cells.proofs.Working.{room-same, small-held}
 use Rattle.step_rules.specs.Ready.{RuleReady, AllReady, RuleAgrees, AllAgree, AllPlain, LocalDone}
 use Rattle.step_rules.proofs.Locals.{all_at}
-use Rattle.step_cells.specs.declared.stop.Stop.{Stop}
-use Rattle.step_cells.specs.declared.stop.Stop.TheVariants.{Nowhere}
+use Rattle.std.specs.Prelude.{Ok}
+use Rattle.step_cells.specs.Stop.{Stop}
 use Rattle.run_loop.specs.Column.{Space}
 use Rattle.run_turn.specs.declared.Progress.{Progress}
 use Rattle.run_turn.specs.declared.Begun.{Begun}
@@ -94,7 +94,7 @@ plain_more {plain} rules k x y h q a e =
 -- The loop's turn for the step of the program p that comes next: the run stands before it, and the budget allows it.
 pub record Turn (m : Machine) (s : Sizes) (codes : List ℕ) (p : R.Program) (budget : ℕ) (file : List ℕ) (run : Progress)
     (out : List ℕ) (values : List ℤ) (marks : List ℕ) (f : Frame) : Type 0 where
-  pub nowhere : run.stop ≡ Nowhere
+  pub nowhere : run.stop ≡ Ok tt
   pub held : f ≡ get_or p.frames run.step no_frame
   pub complete : Complete codes p
   pub passes : ProgramPasses s (program_of codes p)

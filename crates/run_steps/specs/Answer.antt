@@ -10,8 +10,8 @@ use Rattle.program.specs.declared.Program as R
 use Rattle.machine.specs.Run.{Ending, complete, exhausted, offended, Run, direct, run, scratch}
 use Rattle.machine_messages.specs.By.{exchanges_by, messages_by}
 use Rattle.machine_messages.specs.declared.Machine.{Machine}
-use Rattle.step_cells.specs.declared.stop.Stop.{Stop}
-use Rattle.step_cells.specs.declared.stop.Stop.TheVariants.{Nowhere, At}
+use Rattle.std.specs.Prelude.{Ok, Err}
+use Rattle.step_cells.specs.Stop.{Stop}
 use Rattle.gather.specs.declared.counts.Counts.{Counts}
 use Rattle.run_steps.specs.declared.RunAnswer.{RunAnswer}
 
@@ -25,8 +25,8 @@ stopped_at finished counts row column = record { refusal = 21; line = 0; finishe
 
 -- the answer of a run that has come before step `step`: it stops there, or a step is left, or none
 abbrev pub AnswerIs : Stop → ℕ → ℕ → ℕ → Counts → RunAnswer → Type 0
-AnswerIs Nowhere step steps finished counts r = (step < steps → r ≡ ended_with 20 finished counts) × (steps ≤ step → r ≡ ended_with 0 finished counts)
-AnswerIs (At row column) step steps finished counts r = r ≡ stopped_at finished counts row column
+AnswerIs (Ok done) step steps finished counts r = (step < steps → r ≡ ended_with 20 finished counts) × (steps ≤ step → r ≡ ended_with 0 finished counts)
+AnswerIs (Err o) step steps finished counts r = r ≡ stopped_at finished counts o.row o.column
 
 -- the program that these arrays hold
 abbrev pub in_arrays : List Located → List Frame → ℕ → ℕ → R.Program

@@ -18,7 +18,7 @@ use register::Sizes;
 use run_turn;
 use run_turn::Progress;
 use step_cells;
-use step_cells::stop::Stop;
+use step_cells::stop::Offence;
 use step_rules::{local, remote};
 use step_tests::stay_plain;
 
@@ -38,10 +38,9 @@ pub struct RunAnswer {
 fn answer(run: Progress, steps: usize) -> RunAnswer
     ensures { AnswerIs run.stop run.step steps run.finished run.counts result }
 {
-    let stop = run.stop;
     let finished = run.finished;
     let counts = run.counts;
-    if let Stop::At(row, column) = stop {
+    if let Err(Offence { row, column }) = run.stop {
         return RunAnswer {
             refusal: 21,
             line: 0,
@@ -51,12 +50,8 @@ fn answer(run: Progress, steps: usize) -> RunAnswer
             column,
         };
     }
-    let mut refusal = 0;
-    if run.step < steps {
-        refusal = 20;
-    }
     RunAnswer {
-        refusal,
+        refusal: if run.step < steps { 20 } else { 0 },
         line: 0,
         finished,
         counts,
@@ -93,8 +88,8 @@ fn run_steps(
     let mut frame = frames[0];
     let mut plain = true;
     let mut taken = steps;
-    let mut run = run_turn::start(steps);
-    while run_turn::goes_on(run, steps, budget) {
+    let mut run = Progress::start(steps);
+    while run.goes_on(steps, budget) {
         let step = run.step;
         if taken != step {
             frame = frames[step];
@@ -105,26 +100,9 @@ fn run_steps(
             }
             taken = step;
         }
-        let setting = frame.setting;
         let used = frame.rules;
-        let begun = run_turn::begin(
-            out,
-            values,
-            marks,
-            sizes,
-            at,
-            setting,
-            machine,
-            &frame.plan.keys,
-            &frame.plan.rounds,
-            &frame.plan.backs,
-            &frame.plan.reads,
-            &frame.wanted,
-            frame.plan.count,
-            frame.remote,
-            run,
-        );
-        let mut stop = Stop::Nowhere;
+        let begun = run_turn::begin(out, values, marks, sizes, at, machine, &frame, run);
+        let mut stop = Ok(());
         'records: for u in 0..sizes.records {
             for k in 0..used {
                 if plain {
@@ -132,7 +110,7 @@ fn run_steps(
                 } else {
                     stop = local::apply_rule(out, values, marks, sizes, base, u, codes, rules[k]);
                 }
-                if let Stop::At(_, _) = stop {
+                if stop.is_err() {
                     break 'records;
                 }
             }

@@ -5,27 +5,27 @@
 ghost use Rattle.std.specs.Prelude.{◌≡◌, ◌*◌, ◌≤◌, length};
 ghost use Rattle.register.specs.File.{cells_of_file};
 ghost use Rattle.register.specs.Shape.{Register};
-ghost use Rattle.plan_lines.specs.Held.{facts_in, plan_of};
+ghost use Rattle.plan_lines.specs.Held.{facts};
 ghost use Rattle.program.specs.Passed.{SettingPasses};
 ghost use Rattle.gather_exchanges.specs.Lines.{StepPlanned};
 ghost use Rattle.run_loop.specs.Column.{Space};
-ghost use Rattle.run_turn.specs.Turned.{start_of, GoesOn, TurnBegun, sends_by, stopped_as, AtEnd, FinishedBy};
+ghost use Rattle.run_turn.specs.Turned.{start_of, GoesOn, TurnBegun, sends_by, AtEnd, FinishedBy};
 
 use gather;
-use gather::counts;
 use gather::counts::Counts;
 use machine_messages::Machine;
+use program::frame::Frame;
 use program::setting::Setting;
 use register::Sizes;
 use run_loop;
-use step_cells::stop::Stop;
+use step_cells::stop::Offence;
 use step_commit;
 
 // How far a run has come: the steps that are finished, what they count, the step that comes next and the first of the pass; or
 // where that step stops.
-#[derive(Clone, Copy)]
+#[derive(Clone, Copy, Debug, PartialEq, Eq)]
 pub struct Progress {
-    pub stop: Stop,
+    pub stop: Result<(), Offence>,
     pub step: usize,
     pub first: usize,
     pub finished: u16,
@@ -44,60 +44,55 @@ pub struct Begun {
     pub remote: bool,
 }
 
-// A run of a program of so many steps before the first: no pass is entered yet.
-pub fn start(steps: usize) -> Progress
-    ensures { result ≡ start_of steps }
-{
-    Progress {
-        stop: Stop::Nowhere,
-        step: 0,
-        first: steps,
-        finished: 0,
-        counts: counts::NONE,
+impl Progress {
+    // A run of a program of so many steps before the first: no pass is entered yet.
+    pub fn start(steps: usize) -> Progress
+        ensures { result ≡ start_of steps }
+    {
+        Progress {
+            stop: Ok(()),
+            step: 0,
+            first: steps,
+            finished: 0,
+            counts: Counts::NONE,
+        }
+    }
+
+    // Whether a step is left and the budget allows it, where the run has not stopped.
+    pub fn goes_on(&self, steps: usize, budget: u16) -> bool
+        ensures { GoesOn self.now steps budget result }
+    {
+        self.stop.is_ok() && self.finished != budget && self.step < steps
     }
 }
 
-// Whether a step is left and the budget allows it, where the run has not stopped.
-pub fn goes_on(run: Progress, steps: usize, budget: u16) -> bool
-    ensures { GoesOn run steps budget result }
-{
-    let stop = run.stop;
-    if let Stop::At(_, _) = stop {
-        return false;
-    }
-    if run.finished == budget {
-        return false;
-    }
-    run.step < steps
-}
-
-// Before the rules of a step.
-pub fn begin<'a>(
+// Before the rules of a step, with its frame.
+pub fn begin(
     out: &[u8],
     values: &mut [i64],
     marks: &mut [u8],
     sizes: Sizes,
     at: usize,
-    setting: Setting,
     machine: Machine,
-    keys: &'a [u64; 64],
-    rounds: &'a [u8; 64],
-    backs: &'a [u8; 64],
-    reads: &'a [u8; 64],
-    wanted: &'a [bool; 64],
-    count: usize,
-    remote: bool,
+    frame: &Frame,
     run: Progress,
 ) -> Begun
-    requires { Register sizes out.now × SettingPasses sizes setting × Space sizes at values.old marks.old
-        × StepPlanned sizes (plan_of keys.now rounds.now backs.now reads.now count) × (length wanted.now ≡ 64)
-        × (count * sizes.records ≤ length values.old) × (count * sizes.records ≤ length marks.old) }
-    ensures { TurnBegun machine sizes at setting remote (cells_of_file sizes out.now) (facts_in keys.now count) wanted.now
+    requires { Register sizes out.now × SettingPasses sizes frame.now.setting × Space sizes at values.old marks.old
+        × StepPlanned sizes frame.now.plan × (length frame.now.wanted ≡ 64)
+        × (frame.now.plan.count * sizes.records ≤ length values.old) × (frame.now.plan.count * sizes.records ≤ length marks.old) }
+    ensures { TurnBegun machine sizes at frame.now.setting frame.now.remote (cells_of_file sizes out.now) (facts frame.now.plan) frame.now.wanted
         values.old marks.old values.new marks.new run result }
 {
+    let setting = frame.setting;
     let first = run_loop::enter(out, values, marks, sizes, at, setting, run.step, run.first);
     let gathered = gather::gather(
-        out, values, marks, sizes, machine, keys, rounds, backs, reads, wanted, count,
+        out,
+        values,
+        marks,
+        sizes,
+        machine,
+        &frame.plan,
+        &frame.wanted,
     );
     Begun {
         first,
@@ -105,34 +100,19 @@ pub fn begin<'a>(
         at,
         setting,
         machine,
-        remote,
+        remote: frame.remote,
     }
 }
 
 // Whether a step sends its remote writes: it has some, and no local sum is out of range.
-pub fn sends(stop: Stop, remote: bool) -> bool
+pub fn sends(stop: Result<(), Offence>, remote: bool) -> bool
     ensures { result ≡ sends_by stop remote }
 {
-    if let Stop::At(_, _) = stop {
-        return false;
-    }
-    remote
+    stop.is_ok() && remote
 }
 
-// A run whose step stops, with the counts of the steps before it.
-fn stopped(stop: Stop, run: Progress, counts: Counts) -> Progress
-    ensures { result ≡ stopped_as stop run counts }
-{
-    Progress {
-        stop,
-        step: run.step,
-        first: run.first,
-        finished: run.finished,
-        counts,
-    }
-}
-
-// Behind the rules of a step, which may have stopped; its cells stand behind the column of the pass.
+// Behind the rules of a step, which may have stopped; its cells stand behind the column of the pass. A run whose step stops keeps
+// the counts of the steps before it.
 pub fn finish(
     out: &mut [u8],
     values: &[i64],
@@ -141,28 +121,35 @@ pub fn finish(
     begun: Begun,
     fields: [bool; 16],
     sent: usize,
-    stop: Stop,
+    stop: Result<(), Offence>,
     run: Progress,
 ) -> Progress
     requires { AtEnd stop sizes begun sent values.now marks.now out.old run }
     ensures { FinishedBy stop sizes begun fields sent values.now marks.now
         out.old out.new run result }
 {
-    let before = run.counts;
-    let gathered = begun.gathered;
+    if stop.is_err() {
+        return Progress { stop, ..run };
+    }
     let at = begun.at;
-    let setting = begun.setting;
-    let machine = begun.machine;
-    if let Stop::At(_, _) = stop {
-        return stopped(stop, run, before);
-    }
     let total = step_commit::commit(out, values, marks, sizes, at + sizes.records, fields);
-    if let Stop::At(_, _) = total {
-        return stopped(total, run, before);
+    if total.is_err() {
+        return Progress { stop: total, ..run };
     }
-    let counts = counts::count(machine, before, gathered, begun.remote, sent);
+    let counts = run
+        .counts
+        .after(begun.machine, begun.gathered, begun.remote, sent);
     let first = begun.first;
-    let step = run_loop::next(out, values, marks, sizes, at, setting, run.step, first);
+    let step = run_loop::next(
+        out,
+        values,
+        marks,
+        sizes,
+        at,
+        begun.setting,
+        run.step,
+        first,
+    );
     Progress {
         stop,
         step,

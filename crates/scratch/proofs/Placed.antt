@@ -1,4 +1,5 @@
 -- Places of the scratch buffers: what is read, and what a store leaves.
+use Rattle.std.specs.Prelude.{None, Some}
 use Prim.Native.Nat.{ℕ}
 use mathlib.Core.Path.{◌≡◌, refl, sym, ap, ap₂, ◌∙◌}
 use mathlib.Core.Logic.{◌≢◌}
@@ -10,8 +11,7 @@ use lib.ListN.{get_or, set}
 use lib.Seq.{get_or-set_other}
 use Rattle.register.specs.Cells.{cell_of}
 use Rattle.register.specs.declared.cells.Cell.TheVariants.{Missing as Unfilled}
-use Rattle.chain.specs.declared.reading.Reading.{Reading}
-use Rattle.chain.specs.declared.reading.Reading.TheVariants.{Missing, Value}
+use Rattle.chain.specs.Reading.{Reading}
 use Rattle.chain.specs.Word.{read_of, reading_value}
 use Rattle.chain.proofs.ReadOf.{read-filled}
 use Rattle.scratch.specs.Places.{stored_at, place_at, reading_mark, Kept}
@@ -23,19 +23,19 @@ module _ (values : List ℤ) (marks : List ℕ) (j : ℕ) where
   stored_at_missing e = simp (eq-eqb _ _ e)
 
   -- what is read by the mark of a place
-  pub place_at_missing : get_or marks j 0 ≡ 0 → Missing ≡ place_at values marks j
+  pub place_at_missing : get_or marks j 0 ≡ 0 → None ≡ place_at values marks j
   unfolding place_at read_of
   place_at_missing e = ap read_of (stored_at_missing e)
 
-  pub place_at-value : get_or marks j 0 ≢ 0 → Value (get_or values j (pos 0)) ≡ place_at values marks j
+  pub place_at-value : get_or marks j 0 ≢ 0 → Some (get_or values j (pos 0)) ≡ place_at values marks j
   unfolding place_at stored_at
   place_at-value e = sym (read-filled (get_or values j (pos 0)) (get_or marks j 0) e)
 
   -- a reading that is put there
   pub place_at-put : (x : Reading) → get_or values j (pos 0) ≡ reading_value x → get_or marks j 0 ≡ reading_mark x → place_at values marks j ≡ x
   unfolding reading_value reading_mark
-  place_at-put Missing v m = sym (place_at_missing m)
-  place_at-put (Value z) v m = sym (place_at-value (λ e. omega arith)) ∙ ap Value v
+  place_at-put None v m = sym (place_at_missing m)
+  place_at-put (Some z) v m = sym (place_at-value (λ e. omega arith)) ∙ ap Some v
 
 -- places that are kept
 pub kept_same : {j : ℕ} {values : List ℤ} {marks : List ℕ} → Kept j values marks values marks

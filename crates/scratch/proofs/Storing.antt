@@ -10,13 +10,12 @@ use lib.Seq.{get_or-set_same}
 use mir.Syntax.{w32}
 use mir.Val.{SFits}
 use Rattle.integers.specs.Bytes.{value_at}
-use Rattle.integers.proofs.Bytes.{value-fits}
 use Rattle.register.specs.Cells.{cell_of, cell_at, cells_of}
 use Rattle.register.specs.File.{width, cell_index}
 use Rattle.register.specs.Shape.{Parts}
 use Rattle.register.specs.declared.Sizes.{Sizes}
 use Rattle.register.specs.declared.cells.Cell.TheVariants.{Missing}
-use Rattle.chain.specs.declared.reading.Reading.{Reading}
+use Rattle.chain.specs.Reading.{Reading}
 use Rattle.chain.specs.Word.{read_of}
 use Rattle.register.proofs.Arrays.{cells_of-at}
 use Rattle.register.proofs.Bounds.{cell_index-below}
@@ -107,9 +106,9 @@ module _ {s : Sizes} {cells filled : List ℕ} (p : Parts s cells filled) (v k :
       (omega (arith, b, p.values_length), omega (arith, b, p.marks_length))
 
   -- copied to place i
-  pub copied-one : ((b : ℕ) → get_or cells b 0 < 256) → (i : ℕ) (values : List ℤ) (marks : List ℕ) → i < length values → i < length marks
+  pub copied-one : SFits w32 (value_at cells (4 * j)) → (i : ℕ) (values : List ℤ) (marks : List ℕ) → i < length values → i < length marks
       → StoredFrom i 1 (λ _. read_of (get_or (cells_of cells filled) (cell_index s v k) Missing)) values marks (set values i (value_at cells (4 * j))) (set marks i (get_or filled j 0))
   unfolding cell_at
-  copied-one bytes i values marks a b =
+  copied-one fits i values marks a b =
       stored_as (λ u h. ap read_of (sym (cells_of-at cells filled j copied-room.1) ∙ ap (λ (n : ℕ). get_or (cells_of cells filled) n Missing) at))
-      (stored_one i values marks (value_at cells (4 * j)) (get_or filled j 0) a b (value-fits cells bytes (4 * j)))
+      (stored_one i values marks (value_at cells (4 * j)) (get_or filled j 0) a b fits)

@@ -1,11 +1,11 @@
 -- The scratch buffers (document 01's working arrays) as places that hold readings, and working cells.
+use Rattle.std.specs.Prelude.{None, Some}
 use Rattle.std.specs.Prelude.{◌≡◌, List, ℕ, ◌+◌, ◌≤◌, ◌<◌, ℤ, pos, length, get_or}
 use Rattle.std.specs.Int.{w32}
 use Rattle.std.proofs.Common.{SFits}
 use Rattle.register.specs.Cells.{cell_of}
 use Rattle.register.specs.declared.cells.Cell.{Cell}
-use Rattle.chain.specs.declared.reading.Reading.{Reading}
-use Rattle.chain.specs.declared.reading.Reading.TheVariants.{Missing, Value}
+use Rattle.chain.specs.Reading.{Reading}
 use Rattle.chain.specs.Word.{read_of}
 
 -- the working cell at place j of the two buffers
@@ -18,8 +18,8 @@ place_at values marks j = read_of (stored_at values marks j)
 
 -- the mark of a reading: 1 where there is a value
 unfoldable pub reading_mark : Reading → ℕ
-reading_mark Missing = 0
-reading_mark (Value z) = 1
+reading_mark None = 0
+reading_mark (Some z) = 1
 
 -- place j is as it was
 pub record Kept (j : ℕ) (values : List ℤ) (marks : List ℕ) (values' : List ℤ) (marks' : List ℕ) : Type 0 where

@@ -10,17 +10,15 @@ ghost use Rattle.integers.specs.Bytes.{value_at};
 ghost use Rattle.chain.specs.Word.{reading_value};
 ghost use Rattle.scratch.specs.Places.{place_at, reading_mark};
 
-use chain::reading::Reading;
-
 // What is read at place j.
-pub fn read_at(values: &[i64], marks: &[u8], j: usize) -> Reading
+pub fn read_at(values: &[i64], marks: &[u8], j: usize) -> Option<i32>
     requires { (j < length values.now) × (j < length marks.now) × SFits w32 (get_or values.now j (pos 0)) }
     ensures { result ≡ place_at values.now marks.now j }
 {
     if marks[j] == 0 {
-        return Reading::Missing;
+        return None;
     }
-    Reading::Value(integers::narrow(values[j]))
+    Some(integers::narrow(values[j]))
 }
 
 // Stores a value and a mark at place j.
@@ -53,7 +51,7 @@ pub fn copy_cell(
 )
     requires { (4 * j + 4 ≤ length cells.now) × (j < length filled.now) × (k < length values.old) × (k < length marks.old) }
     ensures { (values.new ≡ set values.old k (value_at cells.now (4 * j)))
-        × (marks.new ≡ set marks.old k (get_or filled.now j 0)) }
+        × (marks.new ≡ set marks.old k (get_or filled.now j 0)) × SFits w32 (value_at cells.now (4 * j)) }
 {
     put(
         values,
@@ -65,13 +63,13 @@ pub fn copy_cell(
 }
 
 // A missing reading has value 0 and mark 0.
-pub fn put_reading(values: &mut [i64], marks: &mut [u8], j: usize, reading: Reading)
+pub fn put_reading(values: &mut [i64], marks: &mut [u8], j: usize, reading: Option<i32>)
     requires { (j < length values.old) × (j < length marks.old) }
     ensures { (values.new ≡ set values.old j (reading_value reading))
         × (marks.new ≡ set marks.old j (reading_mark reading)) × SFits w32 (reading_value reading) }
 {
     match reading {
-        Reading::Missing => clear(values, marks, j),
-        Reading::Value(value) => put(values, marks, j, integers::widen(value), 1),
+        None => clear(values, marks, j),
+        Some(value) => put(values, marks, j, integers::widen(value), 1),
     }
 }

@@ -1,4 +1,5 @@
 -- What a remote write makes of a place.
+use Rattle.std.specs.Prelude.{Some}
 use Prim.Native.Nat.{ℕ, ◌+◌, ◌<◌}
 use mathlib.Core.Path.{◌≡◌, sym}
 use mathlib.Core.Logic.{◌≢◌}
@@ -14,7 +15,6 @@ use Rattle.integers.proofs.Complement.{mag_sum}
 use Rattle.register.specs.Cells.{value_of}
 use Rattle.register.specs.declared.cells.Cell.{Cell}
 use Rattle.register.specs.declared.cells.Cell.TheVariants.{Missing, Measured, WorkedOut}
-use Rattle.chain.specs.declared.reading.Reading.TheVariants as R
 use Rattle.chain.specs.Word.{read_of}
 use Rattle.machine.specs.Remote.{is_lowered, smaller, added, increased, merged}
 use Rattle.program.specs.declared.rule.Sort.{Sort}
@@ -38,7 +38,7 @@ module _ (values : List ℤ) (marks : List ℕ) (j : ℕ) (a : ℤ) where
 
   -- a cell that has a value
   module _ (some : get_or marks j 0 ≢ 0) where
-    read-there : read_of (stored_at values marks j) ≡ R.Value (get_or values j (pos 0))
+    read-there : read_of (stored_at values marks j) ≡ Some (get_or values j (pos 0))
     unfolding place_at
     read-there = sym (place_at-value values marks j some)
 

@@ -16,7 +16,8 @@ ghost use Rattle.step_cells.specs.Work.{Room, HoldsCells, Put, Same};
 
 use chain::follow;
 use program::rule::Sort;
-use register::{Sizes, cells};
+use register::Sizes;
+use register::cells::Cells;
 use scratch;
 
 // They begin as the cells of the register in `out`.
@@ -25,10 +26,9 @@ pub fn begin(out: &[u8], values: &mut [i64], marks: &mut [u8], sizes: Sizes, bas
     ensures holds_cells { HoldsCells base (cells_of_file sizes out.now) values.new marks.new }
     ensures same { Same base values.old marks.old values.new marks.new }
 {
-    let cells = cells::values_part(out, sizes);
-    let filled = cells::marks_part(out, sizes);
-    for j in 0..filled.len() {
-        scratch::copy_cell(cells, filled, j, values, marks, base + j);
+    let cells = Cells::of(out, sizes);
+    for j in 0..cells.marks.len() {
+        scratch::copy_cell(cells.values, cells.marks, j, values, marks, base + j);
     }
 }
 
@@ -45,10 +45,8 @@ fn keep_least(values: &mut [i64], marks: &mut [u8], j: usize, amount: i32)
     requires { (j < length values.old) × (j < length marks.old) }
     ensures { Put j (merged Least (stored_at values.old marks.old j) amount) values.old marks.old values.new marks.new }
 {
-    if marks[j] != 0 {
-        if !integers::is_below(amount, values[j]) {
-            return;
-        }
+    if marks[j] != 0 && !integers::is_below(amount, values[j]) {
+        return;
     }
     scratch::put(values, marks, j, integers::widen(amount), 2);
 }

@@ -1,8 +1,8 @@
 // Where a step stops.
 
-// A step goes through, or stops at a record and column where a sum or total is out of range.
-#[derive(Clone, Copy)]
-pub enum Stop {
-    Nowhere,
-    At(usize, usize),
+// The record and column where a sum or total is out of range: a step goes through, or stops there.
+#[derive(Clone, Copy, Debug, PartialEq, Eq)]
+pub struct Offence {
+    pub row: usize,
+    pub column: usize,
 }

@@ -1,4 +1,5 @@
 -- The working cells as they are written to the file, column by column, up to one that is out of range.
+use Rattle.std.specs.Prelude.{None, Some, Ok, Err}
 use Prim.Native.Nat.{ℕ, zero, suc, ◌+◌, ◌/◌, ◌%◌, ◌≤◌, ◌<◌}
 use mathlib.Core.Path.{◌≡◌, refl, sym, ap, subst, ◌∙◌}
 use mathlib.Core.Logic.{◌⊎◌, inl, inr, ⊎_elim}
@@ -12,9 +13,9 @@ use borrow.Author.Count.{below_none, below_more}
 use lib.IntN.{ℤ, pos}
 use lib.ListN.{length, get_or, set, length-set}
 use lib.Seq.{get_or-set_same, get_or-set_other, ext_get_or}
+use Rattle.std.specs.Option.{is_some}
 use Rattle.integers.specs.Range.{in_range, sum_of}
-use Rattle.integers.specs.declared.Sum.{Sum}
-use Rattle.integers.specs.declared.Sum.TheVariants.{InRange, OutOfRange}
+use Rattle.std.specs.Prelude.{Option, ℤ}
 use Rattle.laws.proofs.Bools.{true_false}
 use Rattle.register.specs.File.{width, cell_count, cell_index, file_of, cells_of_file, put_cell}
 use Rattle.register.specs.Cells.{cell_of, Canonical}
@@ -26,8 +27,7 @@ use Rattle.register.proofs.Arrays.{put_cell-file}
 use Rattle.register.proofs.Bounds.{cell_index-below, place_row, place-column, place_is}
 use Rattle.laws.proofs.Cases.{true_or_false, lt_or_le}
 use Rattle.step_cells.specs.Work.{HoldsCells, CanonicalCells}
-use Rattle.step_cells.specs.declared.stop.Stop.{Stop}
-use Rattle.step_cells.specs.declared.stop.Stop.TheVariants.{Nowhere, At}
+use Rattle.step_cells.specs.Stop.{Stop}
 use Rattle.step_cells.proofs.Working.{held_at}
 use Rattle.chain.specs.Word.{read_of}
 use Rattle.chain.proofs.ReadOf.{read-filled}
@@ -40,17 +40,26 @@ use Rattle.step_commit.specs.Committed.{OneCommitted, working, put_column, is_wr
 use Rattle.step_commit.specs.Committed.{value_in_range, offence_of}
 
 -- what the answer for a total tells
-abbrev Told : ℤ → Sum → Type 0
-Told z (InRange v) = (in_range z ≡ true) × (v ≡ z)
-Told z OutOfRange = in_range z ≡ false
+abbrev Told : ℤ → Option ℤ → Type 0
+Told z (Some v) = (in_range z ≡ true) × (v ≡ z)
+Told z None = in_range z ≡ false
 
 pub total-told : (z : ℤ) → Told z (sum_of z)
 unfolding sum_of
 total-told z = go (in_range z) refl
   where
-    go : (t : Bool) → in_range z ≡ t → Told z (cond t (InRange z) OutOfRange)
+    go : (t : Bool) → in_range z ≡ t → Told z (cond t (Some z) None)
     go true h = (h, refl)
     go false h = h
+
+-- and whether there is a value
+pub total_kept : (z : ℤ) (r : Option ℤ) → r ≡ sum_of z → is_some r ≡ true → in_range z ≡ true
+total_kept z None e h = cc
+total_kept z (Some v) e h = (rw (sym e) at (total-told z)).0
+
+pub total_left : (z : ℤ) (r : Option ℤ) → r ≡ sum_of z → is_some r ≡ false → in_range z ≡ false
+total_left z None e h = rw (sym e) at (total-told z)
+total_left z (Some v) e h = cc
 
 -- a working cell is in range where its value is: a missing one has the value 0
 pub cell_in_range_lem : (z : ℤ) (mark : ℕ) → Canonical z mark → cell_in_range (cell_of z mark) ≡ in_range z
@@ -74,7 +83,7 @@ module _ {s : Sizes} {base c : ℕ} {values : List ℤ} {marks file : List ℕ} 
   column-none = record { in_range = below_none _; length_is = refl; file-is = refl }
 
   pub column-next : {n j : ℕ} {file' file'' : List ℕ} → ColumnTo s base c values marks file n file' → j ≡ cell_index s n c → length file'' ≡ length file'
-      → OneCommitted s base j values marks file' file'' true → ColumnTo s base c values marks file (n + 1) file''
+      → {done : Unit} → OneCommitted s base j values marks file' file'' (Some done) → ColumnTo s base c values marks file (n + 1) file''
   unfolding put_column
   column-next {n} p e l h = record {
     in_range = below_more _ n p.in_range (rw e at h.0);
@@ -217,12 +226,11 @@ values_in_range s {base} {values} {marks} k =
 
 -- a column is not in range: the first cell of all that is not, as it is answered
 pub columns_stop : (s : Sizes) (fields : List Bool) (file before file' : List ℕ) {base c : ℕ} {values : List ℤ} {marks : List ℕ}
-    → CanonicalCells base (cell_count s) values marks → c < width s → (done : Bool) → done ≡ false → ColumnCommitted s base c values marks before file' done
+    → CanonicalCells base (cell_count s) values marks → c < width s → ColumnCommitted s base c values marks before file' None
     → (r : Stop) → offence_of r ≡ total_offence s (value_in_range base values) → Committed s base fields values marks file file' r
-columns_stop s fields file before file' k col true d t r e = true_false refl d
-columns_stop s fields file before file' k col false d t Nowhere e =
+columns_stop s fields file before file' k col t (Ok done) e =
     true_false (total_each s _ (sym (e ∙ values_in_range s k)) _ (cell_index-below s t.row _ t.row< col)) t.out_of_range
-columns_stop s fields file before file' k col false d t (At u c) e = sym (e ∙ values_in_range s k)
+columns_stop s fields file before file' k col t (Err o) e = sym (e ∙ values_in_range s k)
 
 -- the working cells hold the cells d of a register
 module _ (s : Sizes) (d : List Cell) (count : length d ≡ cell_count s) (base : ℕ) {values : List ℤ} {marks : List ℕ} (held : HoldsCells base d values marks) where

@@ -9,11 +9,10 @@ ghost use Rattle.step_cells.specs.Work.{Room, CanonicalCells};
 ghost use Rattle.step_commit.specs.Committed.{value_in_range, offence_of, OneCommitted, ColumnCommitted, Committed};
 
 use chain::follow;
-use integers::Sum;
 use register::{Sizes, cells};
-use step_cells::stop::Stop;
+use step_cells::stop::Offence;
 
-// Cell j, its value and mark as they stand; whether it is in range.
+// Cell j, its value and mark as they stand, where it is in range.
 fn commit_cell(
     out: &mut [u8],
     values: &[i64],
@@ -21,21 +20,17 @@ fn commit_cell(
     sizes: Sizes,
     base: usize,
     j: usize,
-) -> bool
+) -> Option<()>
     requires { Limits sizes × (length out.old ≡ 12 + 5 * cell_count sizes)
         × Room base (cell_count sizes) values.now marks.now × (j < cell_count sizes) × CanonicalCells base (cell_count sizes) values.now marks.now }
     ensures { OneCommitted sizes base j values.now marks.now out.old out.new result }
 {
-    match integers::in_range(values[base + j]) {
-        Sum::InRange(value) => {
-            cells::put_cell(out, sizes, j, value, marks[base + j]);
-            true
-        }
-        Sum::OutOfRange => false,
-    }
+    let value = integers::in_range(values[base + j])?;
+    cells::put_cell(out, sizes, j, value, marks[base + j]);
+    Some(())
 }
 
-// The cells of one column; whether all are in range.
+// The cells of one column, up to one that is out of range.
 fn commit_column(
     out: &mut [u8],
     values: &[i64],
@@ -43,46 +38,41 @@ fn commit_column(
     sizes: Sizes,
     base: usize,
     column: usize,
-) -> bool
+) -> Option<()>
     requires { Limits sizes × (length out.old ≡ 12 + 5 * cell_count sizes)
         × Room base (cell_count sizes) values.now marks.now × (column < width sizes) × CanonicalCells base (cell_count sizes) values.now marks.now }
     ensures { ColumnCommitted sizes base column values.now marks.now out.old out.new result }
 {
     for u in 0..sizes.records {
         let j = register::cell_index(sizes, u, column);
-        if !commit_cell(out, values, marks, sizes, base, j) {
-            return false;
-        }
+        commit_cell(out, values, marks, sizes, base, j)?;
     }
-    true
+    Some(())
 }
 
 // The first column of record u whose working cell is out of range.
-fn record_offence(values: &[i64], sizes: Sizes, base: usize, u: usize) -> Stop
+fn record_offence(values: &[i64], sizes: Sizes, base: usize, u: usize) -> Result<(), Offence>
     requires { Limits sizes × (base ≤ 266240) × (base + cell_count sizes ≤ length values.now) × (u < sizes.records) }
     ensures { offence_of result ≡ in_record u (total_column sizes (value_in_range base values.now) u) }
 {
     for column in 0..sizes.references + sizes.measures {
         let j = register::cell_index(sizes, u, column);
-        if let Sum::OutOfRange = integers::in_range(values[base + j]) {
-            return Stop::At(u, column);
+        if integers::in_range(values[base + j]).is_none() {
+            return Err(Offence { row: u, column });
         }
     }
-    Stop::Nowhere
+    Ok(())
 }
 
 // The first record with such a column.
-fn first_offence(values: &[i64], sizes: Sizes, base: usize) -> Stop
+fn first_offence(values: &[i64], sizes: Sizes, base: usize) -> Result<(), Offence>
     requires { Limits sizes × (base ≤ 266240) × (base + cell_count sizes ≤ length values.now) }
     ensures { offence_of result ≡ total_offence sizes (value_in_range base values.now) }
 {
     for row in 0..sizes.records {
-        let stop = record_offence(values, sizes, base, row);
-        if let Stop::At(_, _) = stop {
-            return stop;
-        }
+        record_offence(values, sizes, base, row)?;
     }
-    Stop::Nowhere
+    Ok(())
 }
 
 // The columns of the fields that a step writes: no other has changed. They are written column by column; which place is the first to
@@ -94,17 +84,17 @@ pub fn commit(
     sizes: Sizes,
     base: usize,
     fields: [bool; 16],
-) -> Stop
+) -> Result<(), Offence>
     requires { Limits sizes × (length out.old ≡ 12 + 5 * cell_count sizes)
         × Room base (cell_count sizes) values.now marks.now × CanonicalCells base (cell_count sizes) values.now marks.now }
     ensures { Committed sizes base fields values.now marks.now out.old out.new result }
 {
     for column in 0..sizes.references + sizes.measures {
-        if fields[follow::field_at(sizes, column)] {
-            if !commit_column(out, values, marks, sizes, base, column) {
-                return first_offence(values, sizes, base);
-            }
+        if fields[follow::field_at(sizes, column)]
+            && commit_column(out, values, marks, sizes, base, column).is_none()
+        {
+            return first_offence(values, sizes, base);
         }
     }
-    Stop::Nowhere
+    Ok(())
 }

@@ -1,7 +1,6 @@
 // What a rule sends to another record.
 ghost use Rattle.std.specs.Prelude.{◌≡◌, false, ◌<◌};
-ghost use Rattle.register.specs.Cells.{cells_of};
-ghost use Rattle.register.specs.Shape.{Parts};
+ghost use Rattle.register.specs.View.{cells_in};
 ghost use Rattle.program.specs.Program.{target_field};
 ghost use Rattle.program.specs.Stored.{rule_in, target_in};
 ghost use Rattle.program.specs.Terms.{SlotPlaced};
@@ -11,54 +10,39 @@ ghost use Rattle.step_terms.specs.Found.{Told, SlotReaches, TargetFound, Within,
 ghost use Rattle.step_effects.specs.Answers.{messages_in, GoesTo};
 
 use crate::stored;
-use chain::reading::Reading;
 use machine::message::Message;
 use program::location::Located;
 use program::rule::Rule;
-use register::Sizes;
-use step_operations::operation::Evaluated;
+use register::cells::Cells;
 use step_terms::term;
-
-// A rule sends nothing, or one message.
-#[derive(Clone, Copy)]
-pub enum Sent {
-    Nothing,
-    One(Message),
-}
 
 // What a rule sends from record u where none of its sums leaves the range: "One whose C or X is unfilled does nothing."
 pub fn message_of(
-    cells: &[u8],
-    filled: &[u8],
+    cells: &Cells<'_>,
     values: &[i64],
     marks: &[u8],
-    sizes: Sizes,
     u: usize,
     codes: &[u64],
     located: Located,
-) -> Sent
-    requires { Parts sizes cells.now filled.now × (u < sizes.records) × SlotReaches sizes values.now marks.now u codes.now located
-        × TargetFound Names sizes (cells_of cells.now filled.now) values.now marks.now u located.at.rule located.slot.rule }
+) -> Option<Message>
+    requires { (u < cells.now.sizes.records) × SlotReaches cells.now.sizes values.now marks.now u codes.now located
+        × TargetFound Names cells.now.sizes (cells_in cells.now) values.now marks.now u located.at.rule located.slot.rule }
     ensures { GoesTo (target_field (target_in located.slot.rule))
-        (λ n. TargetFound (Within n) sizes (cells_of cells.now filled.now) values.now marks.now u located.at.rule located.slot.rule) result
-        × Told sizes (cells_of cells.now filled.now) values.now marks.now u (λ P. SlotPlaced P codes.now located)
+        (λ n. TargetFound (Within n) cells.now.sizes (cells_in cells.now) values.now marks.now u located.at.rule located.slot.rule) result
+        × Told cells.now.sizes (cells_in cells.now) values.now marks.now u (λ P. SlotPlaced P codes.now located)
         (λ read. offends read (rule_in codes.now located.slot) ≡ false → messages_in result ≡ rule_messages read (rule_in codes.now located.slot)) }
 {
-    let slot = located.slot;
-    let rule = slot.rule;
-    let Rule::Remote(sort, field, _, _) = rule else {
-        return Sent::Nothing;
+    let Rule::Remote(sort, field, _, _) = located.slot.rule else {
+        return None;
     };
     let at = located.at.rule;
     let first = at.first;
-    let Reading::Value(to) = term::found_at(cells, filled, values, marks, sizes, u, first) else {
-        return Sent::Nothing;
+    let to = term::found_at(cells, values, marks, u, first)?;
+    let value = stored::effect(cells, values, marks, u, codes, located);
+    let Ok(Some(amount)) = value else {
+        return None;
     };
-    let value = stored::effect(cells, filled, values, marks, sizes, u, codes, located);
-    let Evaluated::Value(amount) = value else {
-        return Sent::Nothing;
-    };
-    Sent::One(Message {
+    Some(Message {
         sort,
         target: integers::index(to),
         field,

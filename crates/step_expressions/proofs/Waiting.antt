@@ -16,7 +16,7 @@ use mir.Val.{to_z, of_z}
 use Rattle.laws.proofs.Cases.{lt_or_le}
 use Rattle.register.specs.declared.Sizes.{Sizes}
 use Rattle.register.specs.declared.cells.Cell.{Cell}
-use Rattle.chain.specs.declared.reading.Reading.{Reading}
+use Rattle.chain.specs.Reading.{Reading}
 use Rattle.program.specs.declared.rule.Operator.{Operator}
 use Rattle.program.specs.declared.rule.Operator.TheVariants.{Plus, Minus, Smaller}
 use Rattle.program.specs.Program.{Expression, reading, constant, operation, operators}
@@ -24,9 +24,8 @@ use Rattle.program.specs.Code.{Code, chain, number, operator, unknown, postfix, 
 use Rattle.program.proofs.Codes.{codes-first, codes-none, sign_coded}
 use Rattle.machine.specs.Value.{value, overflows}
 use Rattle.step_terms.specs.Found.{Agrees, Told, TreeReaches}
-use Rattle.step_operations.specs.declared.operation.Evaluated.{Evaluated}
-use Rattle.step_operations.specs.declared.operation.Evaluated.TheVariants.{Value}
-use Rattle.step_operations.specs.Evaluated.{of_reading, answer_of, evaluated, joined, JoinsBy}
+use Rattle.std.specs.Prelude.{Some, Ok}
+use Rattle.step_operations.specs.Evaluated.{Evaluated, answer_of, evaluated, joined, JoinsBy}
 use Rattle.step_operations.proofs.Operating.{read_back, operation_joined}
 use Rattle.step_expressions.specs.Codes.{term_at}
 
@@ -58,13 +57,13 @@ operated op (y ∷ x ∷ vs) = joined op x y ∷ vs
 
 unfoldable pub ran : (List ℕ → Reading) → List Code → List Evaluated → List Evaluated
 ran read [] vs = vs
-ran read (chain w ∷ cs) vs = ran read cs (of_reading (read w) ∷ vs)
-ran read (number z ∷ cs) vs = ran read cs (Value z ∷ vs)
+ran read (chain w ∷ cs) vs = ran read cs (Ok (read w) ∷ vs)
+ran read (number z ∷ cs) vs = ran read cs (Ok (Some z) ∷ vs)
 ran read (operator op ∷ cs) vs = ran read cs (operated op vs)
 ran read (unknown ∷ cs) vs = []
 
 ran-postfix : (read : List ℕ → Reading) (e : Expression) (cs : List Code) (vs : List Evaluated) → ran read (postfix e ++ cs) vs ≡ ran read cs (evaluated read e ∷ vs)
-unfolding postfix ran operated evaluated value overflows of_reading
+unfolding postfix ran operated evaluated value overflows
 ran-postfix read (reading w) cs vs = refl
 ran-postfix read (constant z) cs vs = refl
 ran-postfix read (operation op x y) cs vs =
@@ -139,7 +138,7 @@ module _ (s : Sizes) (cells : List Cell) (values : List ℤ) (marks : List ℕ) 
       (⊎_elim
       (λ (b : kind_in (code i) < 1).
       let z : kind_in (code i) ≡ 0 = omega arith in
-      simp (eq-eqb (kind_in (code i)) 0 z) (ap (λ (x : Reading). ran read (left (i + 1)) (of_reading x ∷ vs)) (sym (agrees i l h z))))
+      simp (eq-eqb (kind_in (code i)) 0 z) (ap (λ (x : Reading). ran read (left (i + 1)) (Ok x ∷ vs)) (sym (agrees i l h z))))
       (λ (b : 1 ≤ kind_in (code i)). let o : kind_in (code i) ≡ 1 = omega arith in simp o)
       (lt_or_le (kind_in (code i)) 1))
 

@@ -1,20 +1,13 @@
-// The comparisons of a test, on values and on answers.
+// The comparisons of a test, on values, on readings and on answers.
 ghost use Rattle.std.specs.Prelude.{◌≡◌};
-ghost use Rattle.machine.specs.Value.{compare as compareOf};
-ghost use Rattle.step_operations.specs.Tests.{answered, compared};
+ghost use Rattle.machine.specs.Value.{compare as compareOf, compare_readings};
+ghost use Rattle.step_operations.specs.Tests.{compared};
 
-use crate::operation::Evaluated;
+use crate::operation::OutOfRange;
 use program::rule::Comparison;
 
-// A test holds or fails; or one of its sums leaves the range.
-#[derive(Clone, Copy)]
-pub enum Tested {
-    Holds,
-    Fails,
-    OutOfRange,
-}
-
-pub fn compare(comparison: Comparison, a: i32, b: i32) -> bool
+#[tactic(auto, unfolding(machine::specs::Value::compare))]
+fn compare(comparison: Comparison, a: i32, b: i32) -> bool
     ensures { result ≡ compareOf comparison a b }
 {
     match comparison {
@@ -24,27 +17,25 @@ pub fn compare(comparison: Comparison, a: i32, b: i32) -> bool
     }
 }
 
-fn answer(holds: bool) -> Tested
-    ensures { result ≡ answered holds }
+// Two sides: an unfilled one never holds.
+#[tactic(auto, unfolding(machine::specs::Value::compare_readings, machine::specs::Value::both))]
+pub fn compare_readings(x: Option<i32>, comparison: Comparison, y: Option<i32>) -> bool
+    ensures { result ≡ compare_readings comparison x y }
 {
-    if holds { Tested::Holds } else { Tested::Fails }
+    let (Some(a), Some(b)) = (x, y) else {
+        return false;
+    };
+    compare(comparison, a, b)
 }
 
-// Two sides: an unfilled one never holds, and a sum out of range is told even where the other side is unfilled.
-pub fn compare_sides(x: Evaluated, comparison: Comparison, y: Evaluated) -> Tested
+// Two answers as sides: a sum out of range is told even where the other side is unfilled.
+#[tactic(auto, unfolding(crate::specs::Tests::compared))]
+pub fn compare_sides(
+    x: Result<Option<i32>, OutOfRange>,
+    comparison: Comparison,
+    y: Result<Option<i32>, OutOfRange>,
+) -> Result<bool, OutOfRange>
     ensures { result ≡ compared comparison x y }
 {
-    match x {
-        Evaluated::OutOfRange => Tested::OutOfRange,
-        Evaluated::Missing => match y {
-            Evaluated::OutOfRange => Tested::OutOfRange,
-            Evaluated::Missing => Tested::Fails,
-            Evaluated::Value(_) => Tested::Fails,
-        },
-        Evaluated::Value(a) => match y {
-            Evaluated::OutOfRange => Tested::OutOfRange,
-            Evaluated::Missing => Tested::Fails,
-            Evaluated::Value(b) => answer(compare(comparison, a, b)),
-        },
-    }
+    Ok(compare_readings(x?, comparison, y?))
 }

@@ -1,45 +1,30 @@
-// Answers of expressions, and operations on them.
+// Answers of expressions, and operations on them. An expression is unfilled, which is `Ok(None)`, or has a value; or one of its sums
+// leaves the range, which is the error.
 ghost use Rattle.std.specs.Prelude.{◌≡◌};
 ghost use Rattle.integers.specs.Range.{sum_of};
-ghost use Rattle.program.specs.Code.{kind_of};
 ghost use Rattle.machine.specs.Value.{operate as operateOn};
-ghost use Rattle.step_operations.specs.Evaluated.{of_reading, of_sum, answer_of, joined, OperatesBy, JoinsBy};
+ghost use Rattle.step_operations.specs.Evaluated.{of_sum, answer_of, joined, OperatesBy, JoinsBy};
 
-use chain::reading::Reading;
-use integers::Sum;
+use program::code;
 use program::rule::Operator;
 
 // From 2 ^ 33 on a number stands for an unfilled answer: no sum of two values reaches it.
 const UNFILLED: i64 = 8589934592;
 
-// An expression is unfilled or has a value; or one of its sums leaves the range.
-#[derive(Clone, Copy)]
-pub enum Evaluated {
-    Missing,
-    Value(i32),
-    OutOfRange,
-}
+// A sum leaves the range of a value.
+#[derive(Clone, Copy, Debug, PartialEq, Eq)]
+pub struct OutOfRange;
 
-pub fn of_reading(reading: Reading) -> Evaluated
-    ensures { result ≡ of_reading reading }
-{
-    match reading {
-        Reading::Missing => Evaluated::Missing,
-        Reading::Value(value) => Evaluated::Value(value),
-    }
-}
-
-fn of_sum(sum: Sum) -> Evaluated
+#[tactic(auto, unfolding(crate::specs::Evaluated::of_sum))]
+fn of_sum(sum: Option<i32>) -> Result<Option<i32>, OutOfRange>
     ensures { result ≡ of_sum sum }
 {
-    match sum {
-        Sum::InRange(value) => Evaluated::Value(value),
-        Sum::OutOfRange => Evaluated::OutOfRange,
-    }
+    Ok(Some(sum.ok_or(OutOfRange)?))
 }
 
 // The exact result of an operation, by the kind of its code: a match on an operator made of the kind is not seen through by the
 // compiler.
+#[tactic(auto, unfolding(program::specs::Code::kind_of, machine::specs::Value::operate))]
 fn operate_by(kind: u8, a: i32, b: i32) -> i64
     ensures { OperatesBy kind a b result }
 {
@@ -49,78 +34,72 @@ fn operate_by(kind: u8, a: i32, b: i32) -> i64
     if kind == 3 {
         return a as i64 - b as i64;
     }
-    if b < a { b as i64 } else { a as i64 }
+    a.min(b) as i64
 }
 
-pub fn operate(operator: Operator, a: i32, b: i32) -> Sum
+#[tactic(auto, unfolding(program::specs::Code::kind_of))]
+pub fn operate(operator: Operator, a: i32, b: i32) -> Option<i32>
     ensures { result ≡ sum_of (operateOn operator a b) }
 {
-    match operator {
-        Operator::Plus => integers::in_range(operate_by(2, a, b)),
-        Operator::Minus => integers::in_range(operate_by(3, a, b)),
-        Operator::Smaller => integers::in_range(operate_by(4, a, b)),
-    }
+    integers::in_range(operate_by(code::of_operator(operator) as u8, a, b))
 }
 
-// A number of 64 bits that stands for an answer, so that operands that wait are copied and tested as one number.
-pub fn number_of(answer: Evaluated) -> i64
+// A number of 64 bits that stands for an answer, so that operands that wait are copied and tested as one number: it is there for
+// speed.
+#[tactic(auto, unfolding(integers::specs::Range::in_range, integers::specs::Range::sum_of, crate::specs::Evaluated::of_sum, crate::specs::Evaluated::answer_of))]
+pub fn number_of(answer: Result<Option<i32>, OutOfRange>) -> i64
     ensures { answer_of result ≡ answer }
 {
     match answer {
-        Evaluated::Missing => UNFILLED,
-        Evaluated::Value(value) => integers::widen(value),
-        Evaluated::OutOfRange => 4294967296,
+        Ok(None) => UNFILLED,
+        Ok(Some(value)) => integers::widen(value),
+        Err(OutOfRange) => 4294967296,
     }
 }
 
 // The answer that a number stands for.
-pub fn answer_of(number: i64) -> Evaluated
+#[tactic(auto, unfolding(crate::specs::Evaluated::answer_of))]
+pub fn answer_of(number: i64) -> Result<Option<i32>, OutOfRange>
     ensures { result ≡ answer_of number }
 {
     if number < UNFILLED {
         return of_sum(integers::in_range(number));
     }
-    Evaluated::Missing
+    Ok(None)
 }
 
 // An operation on two answers as numbers, by the kind of its code: a sum out of range stays so, and an unfilled operand makes
 // the whole unfilled.
+#[tactic(auto, unfolding(integers::specs::Range::sum_of, crate::specs::Evaluated::of_sum, crate::specs::Evaluated::answer_of, crate::specs::Evaluated::joined, machine::specs::Value::both))]
 pub fn join_by(kind: u8, x: i64, y: i64) -> i64
     ensures { JoinsBy kind (answer_of x) (answer_of y) (answer_of result) }
 {
-    match integers::in_range(x) {
-        Sum::InRange(a) => {
-            let Sum::InRange(b) = integers::in_range(y) else {
-                return y;
-            };
-            operate_by(kind, a, b)
+    let Some(a) = integers::in_range(x) else {
+        if x < UNFILLED {
+            return x;
         }
-        Sum::OutOfRange => {
-            if x < UNFILLED {
-                return x;
-            }
-            match integers::in_range(y) {
-                Sum::InRange(_) => x,
-                Sum::OutOfRange => y,
-            }
-        }
-    }
-}
-
-// The kind of an operator's code.
-fn kind_of(operator: Operator) -> u8
-    ensures { result ≡ kind_of operator }
-{
-    match operator {
-        Operator::Plus => 2,
-        Operator::Minus => 3,
-        Operator::Smaller => 4,
-    }
+        return match integers::in_range(y) {
+            Some(_) => x,
+            None => y,
+        };
+    };
+    let Some(b) = integers::in_range(y) else {
+        return y;
+    };
+    operate_by(kind, a, b)
 }
 
 // An operation on two answers.
-pub fn join(operator: Operator, x: Evaluated, y: Evaluated) -> Evaluated
+#[tactic(auto, unfolding(crate::specs::Evaluated::joined, machine::specs::Value::both))]
+pub fn join(
+    operator: Operator,
+    x: Result<Option<i32>, OutOfRange>,
+    y: Result<Option<i32>, OutOfRange>,
+) -> Result<Option<i32>, OutOfRange>
     ensures { result ≡ joined operator x y }
 {
-    answer_of(join_by(kind_of(operator), number_of(x), number_of(y)))
+    let (Some(a), Some(b)) = (x?, y?) else {
+        return Ok(None);
+    };
+    of_sum(operate(operator, a, b))
 }

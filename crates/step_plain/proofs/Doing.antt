@@ -1,4 +1,5 @@
 -- What a plain rule stores and sends, by whether its test holds.
+use Rattle.std.specs.Prelude.{None, Some, Ok, Err}
 use Prim.Native.Nat.{ℕ, ◌<◌}
 use mathlib.Core.Path.{◌≡◌, refl, sym, ap, ap₂, ◌∙◌}
 use mathlib.Core.Bool.{Bool, true, false, cond, ◌&&◌, ◌||◌}
@@ -8,8 +9,7 @@ use lib.Signed.{mag}
 use mir.Syntax.{w32}
 use mir.Val.{to_z, of_z}
 use Rattle.laws.proofs.Bools.{true_false}
-use Rattle.chain.specs.declared.reading.Reading.{Reading}
-use Rattle.chain.specs.declared.reading.Reading.TheVariants.{Missing, Value}
+use Rattle.chain.specs.Reading.{Reading}
 use Rattle.program.specs.declared.term.Term.{Term}
 use Rattle.program.specs.declared.rule.Rule.{Rule}
 use Rattle.program.specs.declared.rule.Rule.TheVariants.{Set, Combine, Remote}
@@ -18,15 +18,12 @@ use Rattle.program.specs.Program.{Target, own, operation, is_remote, target_fiel
 use Rattle.program.specs.Stored.{term_in, test_in, target_in, expression_in, rule_in}
 use Rattle.program.specs.declared.rule.Operator.{Operator}
 use Rattle.integers.specs.Range.{sum_of}
-use Rattle.integers.specs.declared.Sum.{Sum}
-use Rattle.machine.specs.Value.{operate, value, overflows, holds}
+use Rattle.std.specs.Prelude.{Option, ℤ}
+use Rattle.machine.specs.Value.{both, operate, value, overflows, holds}
 use Rattle.machine.specs.Local.{offends}
 use Rattle.machine.specs.Remote.{sent_by, rule_messages}
-use Rattle.step_operations.specs.declared.operation.Evaluated.TheVariants as E
-use Rattle.step_operations.specs.declared.comparison.Tested.{Tested}
-use Rattle.step_operations.specs.declared.comparison.Tested.TheVariants.{Holds, Fails}
-use Rattle.step_operations.specs.Evaluated.{of_reading, of_sum, joined, evaluated}
-use Rattle.step_operations.specs.Tests.{answered, tested}
+use Rattle.step_operations.specs.Evaluated.{out_of_range, of_sum, joined, evaluated}
+use Rattle.step_operations.specs.Tests.{Tested, tested}
 use Rattle.step_tests.specs.Plain.{is_plain, plain_test, plain_rule}
 use Rattle.step_operations.proofs.Operating.{values_joined, operation_joined}
 use Rattle.step_operations.proofs.Testing.{test-tells}
@@ -37,11 +34,10 @@ use Rattle.step_effects.specs.declared.stored.Write.TheVariants as W
 
 -- what is done with an expression
 done-is : (t : Target) (o : Bool) (x : Reading)
-    → done_by t (cond o E.OutOfRange (of_reading x)) ≡ cond o (W.OutOfRange (target_field t)) (target_write t x)
-unfolding done_by of_reading
+    → done_by t (cond o (Err out_of_range) (Ok x)) ≡ cond o (W.OutOfRange (target_field t)) (target_write t x)
+unfolding done_by
 done-is t true x = refl
-done-is t false Missing = refl
-done-is t false (Value z) = refl
+done-is t false x = refl
 
 -- what one record, which reads this, makes of a rule
 module _ (read : List ℕ → Reading) (k : List ℕ) where
@@ -71,11 +67,11 @@ module _ (read : List ℕ → Reading) (k : List ℕ) where
 
     -- a rule, by the answer of its test
     module _ {t : Tested} (ran : t ≡ tested read (test_in k x.test)) where
-      write_fails : t ≡ Fails → W.Nothing ≡ write_of read (rule_in k x)
+      write_fails : t ≡ Ok false → W.Nothing ≡ write_of read (rule_in k x)
       unfolding write_of rule_in offends
       write_fails e = let (o, h) = test-tells read (test_in k x.test) (sym e ∙ ran) in sym (simp (o, h))
 
-      write_done : t ≡ Holds → done_by (target_in x.rule) (evaluated read (expression_in k x.rule)) ≡ write_of read (rule_in k x)
+      write_done : t ≡ Ok true → done_by (target_in x.rule) (evaluated read (expression_in k x.rule)) ≡ write_of read (rule_in k x)
       unfolding write_of rule_in offends evaluated
       write_done e =
           let (o, h) = test-tells read (test_in k x.test) (sym e ∙ ran) in
@@ -93,21 +89,19 @@ module _ (read : List ℕ → Reading) (k : List ℕ) where
 
       -- no sum of a plain test leaves the range
       module _ (plain : plain_test x.test ≡ true) where
-        answer_is : answered b ≡ tested read (test_in k x.test)
+        answer_is : Ok b ≡ tested read (test_in k x.test)
         unfolding tested
-        answer_is = sym (simp (plain-tested read k x.test plain) (ap answered (sym ran)))
+        answer_is = sym (simp (plain-tested read k x.test plain) (ap Ok (sym ran)))
 
         pub write_unheld : b ≡ false → W.Nothing ≡ write_of read (rule_in k x)
-        unfolding answered
-        write_unheld h = write_fails answer_is (ap answered h)
+        write_unheld h = write_fails answer_is (ap Ok h)
 
         pub write_held : b ≡ true → {r : Rule} → x.rule ≡ r → done_by (target_in r) (evaluated read (expression_in k r)) ≡ write_of read (rule_in k x)
-        unfolding answered
         write_held h is =
-            sym (ap (λ (r : Rule). done_by (target_in r) (evaluated read (expression_in k r))) is) ∙ write_done answer_is (ap answered h)
+            sym (ap (λ (r : Rule). done_by (target_in r) (evaluated read (expression_in k r))) is) ∙ write_done answer_is (ap Ok h)
 
   -- a plain term is stored
-  pub plain-stored : (f : ℕ) (x : Term) → is_plain x ≡ true → done_by (own f) (of_reading (value read (term_in k x))) ≡ done_by (own f) (evaluated read (term_in k x))
+  pub plain-stored : (f : ℕ) (x : Term) → is_plain x ≡ true → done_by (own f) (Ok (value read (term_in k x))) ≡ done_by (own f) (evaluated read (term_in k x))
   plain-stored f x h = sym (ap (done_by (own f)) (plain-evaluated read k x h))
 
   -- an operation on two plain terms, one of which may be missing
@@ -118,33 +112,29 @@ module _ (read : List ℕ → Reading) (k : List ℕ) where
     abbrev b : Reading
     b = value read (term_in k y)
 
-    joined_is : done_by (own f) (joined op (of_reading a) (of_reading b)) ≡ done_by (own f) (evaluated read (operation op (term_in k x) (term_in k y)))
+    joined_is : done_by (own f) (joined op (Ok a) (Ok b)) ≡ done_by (own f) (evaluated read (operation op (term_in k x) (term_in k y)))
     joined_is =
         sym (ap (done_by (own f)) (operation_joined op read (term_in k x) (term_in k y) ∙ ap₂ (joined op) (plain-evaluated read k x px) (plain-evaluated read k y py)))
 
-    missing_first : (v : Reading) → W.Nothing ≡ done_by (own f) (joined op E.Missing (of_reading v))
-    unfolding joined of_reading done_by target_write
-    missing_first Missing = refl
-    missing_first (Value z) = refl
+    missing_first : (v : Reading) → W.Nothing ≡ done_by (own f) (joined op (Ok None) (Ok v))
+    unfolding joined both done_by target_write
+    missing_first v = refl
 
-    missing_second : (v : Reading) → W.Nothing ≡ done_by (own f) (joined op (of_reading v) E.Missing)
-    unfolding joined of_reading done_by target_write
-    missing_second Missing = refl
-    missing_second (Value z) = refl
+    missing_second : (v : Reading) → W.Nothing ≡ done_by (own f) (joined op (Ok v) (Ok None))
+    unfolding joined both done_by target_write
+    missing_second None = refl
+    missing_second (Some z) = refl
 
-    pub sum_first : a ≡ Missing → W.Nothing ≡ done_by (own f) (evaluated read (operation op (term_in k x) (term_in k y)))
-    unfolding of_reading
-    sum_first e = missing_first b ∙ sym (ap (λ (v : Reading). done_by (own f) (joined op (of_reading v) (of_reading b))) e) ∙ joined_is
+    pub sum_first : a ≡ None → W.Nothing ≡ done_by (own f) (evaluated read (operation op (term_in k x) (term_in k y)))
+    sum_first e = missing_first b ∙ sym (ap (λ (v : Reading). done_by (own f) (joined op (Ok v) (Ok b))) e) ∙ joined_is
 
-    pub sum_second : b ≡ Missing → W.Nothing ≡ done_by (own f) (evaluated read (operation op (term_in k x) (term_in k y)))
-    unfolding of_reading
-    sum_second e = missing_second a ∙ sym (ap (λ (v : Reading). done_by (own f) (joined op (of_reading a) (of_reading v))) e) ∙ joined_is
+    pub sum_second : b ≡ None → W.Nothing ≡ done_by (own f) (evaluated read (operation op (term_in k x) (term_in k y)))
+    sum_second e = missing_second a ∙ sym (ap (λ (v : Reading). done_by (own f) (joined op (Ok a) (Ok v))) e) ∙ joined_is
 
-    pub sum_written : {v w : ℤ} {s : Sum} → a ≡ Value v → b ≡ Value w → mag v < 2147483648 → mag w < 2147483648
+    pub sum_written : {v w : ℤ} {s : Option ℤ} → a ≡ Some v → b ≡ Some w → mag v < 2147483648 → mag w < 2147483648
         → s ≡ sum_of (operate op (to_z w32 (of_z w32 v)) (to_z w32 (of_z w32 w)))
         → done_by (own f) (of_sum s) ≡ done_by (own f) (evaluated read (operation op (term_in k x) (term_in k y)))
-    unfolding of_reading
-    sum_written p q hv hw e = ap (done_by (own f)) (values_joined op (ap of_reading p) (ap of_reading q) hv hw e) ∙ joined_is
+    sum_written p q hv hw e = ap (done_by (own f)) (values_joined op (ap Ok p) (ap Ok q) hv hw e) ∙ joined_is
 
 -- the term of a plain rule that stores it
 pub set-plain : (r : Rule) (f : ℕ) (x : Term) → r ≡ Set f x → plain_rule r ≡ true → is_plain x ≡ true

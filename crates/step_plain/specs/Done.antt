@@ -1,5 +1,5 @@
 -- What a plain rule stores and sends, whatever the codes are.
-use Rattle.std.specs.Prelude.{◌≡◌, List, ℕ, ℤ}
+use Rattle.std.specs.Prelude.{◌≡◌, List, ℕ, ℤ, Option}
 use Rattle.register.specs.declared.Sizes.{Sizes}
 use Rattle.register.specs.declared.cells.Cell.{Cell}
 use Rattle.chain.specs.Word.{unpack}
@@ -17,7 +17,7 @@ use Rattle.machine.specs.Remote.{sent_to, rule_messages}
 use Rattle.step_terms.specs.Found.{found_at, Told, TargetFound, Within}
 use Rattle.step_operations.specs.Evaluated.{evaluated}
 use Rattle.step_effects.specs.declared.stored.Write.{Write}
-use Rattle.step_effects.specs.declared.sent.Sent.{Sent}
+use Rattle.machine.specs.declared.message.Message.{Message}
 use Rattle.step_effects.specs.Answers.{done_by, write_of, messages_in, DoneFor, GoesTo}
 
 -- what its expression stores, what it stores, and what it sends
@@ -30,11 +30,11 @@ module _ (s : Sizes) (cells : List Cell) (values : List ℤ) (marks : List ℕ) 
   PlainWrite x w = DoneFor (target_in x.slot.rule) w
       × ((codes : List ℕ) → Told s cells values marks u (λ P. SlotPlaced P codes x) (λ read. w ≡ write_of read (rule_in codes x.slot)))
 
-  abbrev pub PlainSent : Places → Sort → ℕ → ℕ → Term → Sent → Type 0
+  abbrev pub PlainSent : Places → Sort → ℕ → ℕ → Term → Option Message → Type 0
   PlainSent at sort f c x m = GoesTo f (λ n. Within n (found_at s cells values marks u at.first)) m
       × ((codes : List ℕ) → Told s cells values marks u (λ P. RulePlaced P codes at (Remote sort f c x))
       (λ read. messages_in m ≡ sent_to sort f (read (unpack c)) (value read (term_in codes x))))
 
-  abbrev pub PlainMessages : Located → Sent → Type 0
+  abbrev pub PlainMessages : Located → Option Message → Type 0
   PlainMessages x m = GoesTo (target_field (target_in x.slot.rule)) (λ n. TargetFound (Within n) s cells values marks u x.at.rule x.slot.rule) m
       × ((codes : List ℕ) → Told s cells values marks u (λ P. SlotPlaced P codes x) (λ read. messages_in m ≡ rule_messages read (rule_in codes x.slot)))

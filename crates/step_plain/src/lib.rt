@@ -1,65 +1,58 @@
 // What a plain rule stores and sends. No sum of its test leaves the range, nor does one of its terms, so that these are readings.
 #![tactic(auto)]
 
-ghost use Rattle.std.specs.Prelude.{◌≡◌, ◌<◌, []};
-ghost use Rattle.register.specs.Cells.{cells_of};
-ghost use Rattle.register.specs.Shape.{Parts};
+ghost use Rattle.std.specs.Prelude.{◌≡◌, ◌<◌, [], Ok};
+ghost use Rattle.register.specs.View.{cells_in};
 ghost use Rattle.program.specs.declared.rule.Rule.TheVariants.{Set, Combine, Remote};
 ghost use Rattle.program.specs.Program.{own, is_remote};
 ghost use Rattle.program.specs.Stored.{target_in};
 ghost use Rattle.step_terms.specs.Found.{found_at, RuleReaches, SlotReaches, TargetFound, Names};
-ghost use Rattle.step_operations.specs.Evaluated.{of_reading, of_sum};
+ghost use Rattle.step_operations.specs.Evaluated.{of_sum};
 ghost use Rattle.step_effects.specs.Answers.{done_by};
 ghost use Rattle.step_plain.specs.Done.{PlainDone, PlainSent, PlainWrite, PlainMessages};
 
-use chain::reading::Reading;
-use integers::Sum;
 use machine::message::Message;
 use program::location::{Located, Places};
 use program::rule::{Operator, Rule, Sort};
 use program::term::Term;
-use register::Sizes;
-use step_effects::sent::Sent;
+use register::cells::Cells;
 use step_effects::stored::Write;
 use step_operations::operation;
 use step_terms::term;
 use step_tests;
 
+#[tactic(auto, unfolding(program::specs::Program::is_remote, program::specs::Stored::target_in))]
 fn is_remote(rule: Rule) -> bool
     ensures { result ≡ is_remote (target_in rule) }
 {
-    match rule {
-        Rule::Set(_, _) => false,
-        Rule::Combine(_, _, _, _) => false,
-        Rule::Remote(_, _, _, _) => true,
-    }
+    matches!(rule, Rule::Remote(_, _, _, _))
 }
 
-fn write_reading(field: u64, reading: Reading) -> Write
-    ensures { result ≡ done_by (own field) (of_reading reading) }
+#[tactic(auto, unfolding(step_effects::specs::Answers::done_by, step_effects::specs::Answers::target_write))]
+fn write_reading(field: u64, reading: Option<i32>) -> Write
+    ensures { result ≡ done_by (own field) (Ok reading) }
 {
     match reading {
-        Reading::Missing => Write::Nothing,
-        Reading::Value(value) => Write::Store(field, value),
+        None => Write::Nothing,
+        Some(value) => Write::Store(field, value),
     }
 }
 
-fn write_sum(field: u64, sum: Sum) -> Write
+#[tactic(auto, unfolding(step_operations::specs::Evaluated::of_sum, step_effects::specs::Answers::done_by, step_effects::specs::Answers::target_write, program::specs::Program::target_field))]
+fn write_sum(field: u64, sum: Option<i32>) -> Write
     ensures { result ≡ done_by (own field) (of_sum sum) }
 {
     match sum {
-        Sum::InRange(value) => Write::Store(field, value),
-        Sum::OutOfRange => Write::OutOfRange(field),
+        Some(value) => Write::Store(field, value),
+        None => Write::OutOfRange(field),
     }
 }
 
 // An operation on two terms at record u, for a field.
 fn combine(
-    cells: &[u8],
-    filled: &[u8],
+    cells: &Cells<'_>,
     values: &[i64],
     marks: &[u8],
-    sizes: Sizes,
     u: usize,
     field: u64,
     operator: Operator,
@@ -67,18 +60,15 @@ fn combine(
     y: Term,
     at: Places,
 ) -> Write
-    requires { Parts sizes cells.now filled.now × (u < sizes.records) × RuleReaches sizes values.now marks.now u [] at (Combine field operator x y) }
-    ensures { PlainDone sizes (cells_of cells.now filled.now) values.now marks.now u at (Combine field operator x y) result }
+    requires { (u < cells.now.sizes.records) × RuleReaches cells.now.sizes values.now marks.now u [] at (Combine field operator x y) }
+    ensures { PlainDone cells.now.sizes (cells_in cells.now) values.now marks.now u at (Combine field operator x y) result }
 {
     let first = at.first;
-    let Reading::Value(a) = step_tests::term_value(cells, filled, values, marks, sizes, u, x, first)
-    else {
+    let Some(a) = step_tests::term_value(cells, values, marks, u, x, first) else {
         return Write::Nothing;
     };
     let second = at.second;
-    let Reading::Value(b) = step_tests::term_value(
-        cells, filled, values, marks, sizes, u, y, second,
-    ) else {
+    let Some(b) = step_tests::term_value(cells, values, marks, u, y, second) else {
         return Write::Nothing;
     };
     write_sum(field, operation::operate(operator, a, b))
@@ -86,16 +76,14 @@ fn combine(
 
 // What a plain rule stores in record u.
 pub fn local_write(
-    cells: &[u8],
-    filled: &[u8],
+    cells: &Cells<'_>,
     values: &[i64],
     marks: &[u8],
-    sizes: Sizes,
     u: usize,
     located: Located,
 ) -> Write
-    requires { Parts sizes cells.now filled.now × (u < sizes.records) × SlotReaches sizes values.now marks.now u [] located }
-    ensures { PlainWrite sizes (cells_of cells.now filled.now) values.now marks.now u located result }
+    requires { (u < cells.now.sizes.records) × SlotReaches cells.now.sizes values.now marks.now u [] located }
+    ensures { PlainWrite cells.now.sizes (cells_in cells.now) values.now marks.now u located result }
 {
     let slot = located.slot;
     let rule = slot.rule;
@@ -104,7 +92,7 @@ pub fn local_write(
     }
     let test = slot.test;
     let places = located.at.test;
-    if !step_tests::holds(cells, filled, values, marks, sizes, u, test, places) {
+    if !step_tests::holds(cells, values, marks, u, test, places) {
         return Write::Nothing;
     }
     let at = located.at.rule;
@@ -113,11 +101,11 @@ pub fn local_write(
             let first = at.first;
             write_reading(
                 field,
-                step_tests::term_value(cells, filled, values, marks, sizes, u, x, first),
+                step_tests::term_value(cells, values, marks, u, x, first),
             )
         }
         Rule::Combine(field, operator, x, y) => combine(
-            cells, filled, values, marks, sizes, u, field, operator, x, y, at,
+            cells, values, marks, u, field, operator, x, y, at,
         ),
         Rule::Remote(_, _, _, _) => Write::Nothing,
     }
@@ -125,33 +113,25 @@ pub fn local_write(
 
 // A write to the record at a chain: "One whose C or X is unfilled does nothing."
 fn send(
-    cells: &[u8],
-    filled: &[u8],
+    cells: &Cells<'_>,
     values: &[i64],
     marks: &[u8],
-    sizes: Sizes,
     u: usize,
     sort: Sort,
     field: u64,
     target: u64,
     x: Term,
     at: Places,
-) -> Sent
-    requires parts { Parts sizes cells.now filled.now × (u < sizes.records) × RuleReaches sizes values.now marks.now u [] at (Remote sort field target x) }
-    requires names { Names (found_at sizes (cells_of cells.now filled.now) values.now marks.now u at.first) }
-    ensures { PlainSent sizes (cells_of cells.now filled.now) values.now marks.now u at sort field target x result }
+) -> Option<Message>
+    requires parts { (u < cells.now.sizes.records) × RuleReaches cells.now.sizes values.now marks.now u [] at (Remote sort field target x) }
+    requires names { Names (found_at cells.now.sizes (cells_in cells.now) values.now marks.now u at.first) }
+    ensures { PlainSent cells.now.sizes (cells_in cells.now) values.now marks.now u at sort field target x result }
 {
     let first = at.first;
-    let Reading::Value(to) = term::found_at(cells, filled, values, marks, sizes, u, first) else {
-        return Sent::Nothing;
-    };
+    let to = term::found_at(cells, values, marks, u, first)?;
     let second = at.second;
-    let Reading::Value(amount) = step_tests::term_value(
-        cells, filled, values, marks, sizes, u, x, second,
-    ) else {
-        return Sent::Nothing;
-    };
-    Sent::One(Message {
+    let amount = step_tests::term_value(cells, values, marks, u, x, second)?;
+    Some(Message {
         sort,
         target: integers::index(to),
         field,
@@ -161,47 +141,23 @@ fn send(
 
 // What a plain rule sends from record u.
 pub fn message_of(
-    cells: &[u8],
-    filled: &[u8],
+    cells: &Cells<'_>,
     values: &[i64],
     marks: &[u8],
-    sizes: Sizes,
     u: usize,
     located: Located,
-) -> Sent
-    requires parts { Parts sizes cells.now filled.now × (u < sizes.records) × SlotReaches sizes values.now marks.now u [] located }
-    requires target_found { TargetFound Names sizes (cells_of cells.now filled.now) values.now marks.now u located.at.rule located.slot.rule }
-    ensures { PlainMessages sizes (cells_of cells.now filled.now) values.now marks.now u located result }
+) -> Option<Message>
+    requires parts { (u < cells.now.sizes.records) × SlotReaches cells.now.sizes values.now marks.now u [] located }
+    requires target_found { TargetFound Names cells.now.sizes (cells_in cells.now) values.now marks.now u located.at.rule located.slot.rule }
+    ensures { PlainMessages cells.now.sizes (cells_in cells.now) values.now marks.now u located result }
 {
     let slot = located.slot;
-    let rule = slot.rule;
-    let Rule::Remote(sort, field, target, x) = rule else {
-        return Sent::Nothing;
+    let Rule::Remote(sort, field, target, x) = slot.rule else {
+        return None;
     };
-    let test = slot.test;
-    if !step_tests::holds(
-        cells,
-        filled,
-        values,
-        marks,
-        sizes,
-        u,
-        test,
-        located.at.test,
-    ) {
-        return Sent::Nothing;
+    let at = located.at;
+    if !step_tests::holds(cells, values, marks, u, slot.test, at.test) {
+        return None;
     }
-    send(
-        cells,
-        filled,
-        values,
-        marks,
-        sizes,
-        u,
-        sort,
-        field,
-        target,
-        x,
-        located.at.rule,
-    )
+    send(cells, values, marks, u, sort, field, target, x, at.rule)
 }

@@ -18,7 +18,7 @@ use Rattle.register.specs.declared.Sizes.{Sizes}
 use Rattle.register.specs.declared.cells.Cell.{Cell}
 use Rattle.register.specs.declared.cells.Cell.TheVariants.{WorkedOut}
 use Rattle.register.proofs.Bounds.{cell_index-below}
-use Rattle.chain.specs.declared.reading.Reading.{Reading}
+use Rattle.chain.specs.Reading.{Reading}
 use Rattle.chain.specs.Word.{has_field, column}
 use Rattle.chain.proofs.Following.{column-below}
 use Rattle.program.specs.declared.location.Located.{Located}
@@ -32,13 +32,12 @@ use Rattle.machine.proofs.Stops.{sum-at}
 use Rattle.step_effects.specs.Answers.{target_write, done_by, write_of, DoneFor}
 use Rattle.step_tests.specs.Plain.{plain_slot}
 use Rattle.step_tests.proofs.Plainly.{plain-reaches}
-use Rattle.step_operations.specs.declared.operation.Evaluated.{Evaluated}
-use Rattle.step_operations.specs.declared.operation.Evaluated.TheVariants as E
+use Rattle.step_operations.specs.Evaluated.{Evaluated}
 use Rattle.step_effects.specs.declared.stored.Write.{Write}
 use Rattle.step_effects.specs.declared.stored.Write.TheVariants.{Nothing, Store, OutOfRange}
 use Rattle.step_cells.specs.Work.{Room, HoldsCells, Same, Put, Small}
 use Rattle.step_rules.specs.Ready.{RuleReady, AllPlain, WritesField, LocalRule, RuleStops, LocalDone}
-use Rattle.step_cells.specs.declared.stop.Stop.TheVariants.{Nowhere, At}
+use Rattle.std.specs.Prelude.{None, Some, Ok, Err}
 use Rattle.step_cells.proofs.Working.{same_refl, same_then, same-put, holds-put, small_put}
 use Rattle.step_rules.proofs.Writing.{told}
 
@@ -54,23 +53,22 @@ unfolding done_by target_write target_field
 writes-field s t h w d = subst (WritesField s) (sym d.is) (go t h d.value)
   where
     go : (t : Target) → has_field s (target_field t) ≡ true → (v : Evaluated) → WritesField s (done_by t v)
-    go (own f) h E.Missing = tt
-    go (own f) h (E.Value z) = h
-    go (own f) h E.OutOfRange = h
-    go (remote k f w) h E.Missing = tt
-    go (remote k f w) h (E.Value z) = tt
-    go (remote k f w) h E.OutOfRange = h
+    go (own f) h (Ok None) = tt
+    go (own f) h (Ok (Some z)) = h
+    go (own f) h (Err e) = h
+    go (remote k f w) h (Ok x) = tt
+    go (remote k f w) h (Err e) = h
 
 -- one rule at record u
 module _ (s : Sizes) (read : List ℕ → Reading) (u : ℕ) (r : Rule) where
   -- and what it leaves
   module _ (base : ℕ) (values : List ℤ) (marks : List ℕ) where
-    pub rule_idles : write_of read r ≡ Nothing → LocalRule s read base u r values marks values marks Nowhere
+    pub rule_idles : write_of read r ≡ Nothing → LocalRule s read base u r values marks values marks (Ok tt)
     rule_idles e =
         let t = told read r e in
         (same_refl, record { in_range = t.in_range; holds = λ d l h. rw (t.cells_are s u d) h; small = λ h. h })
 
-    pub rule-offends : {f : ℕ} → write_of read r ≡ OutOfRange f → LocalRule s read base u r values marks values marks (At u (column s f))
+    pub rule-offends : {f : ℕ} → write_of read r ≡ OutOfRange f → LocalRule s read base u r values marks values marks (Err (record { row = u; column = column s f }))
     rule-offends e =
         let t = told read r e in
         (same_refl, record { row = refl; column_is = ap (column s) t.field_is; out_of_range = t.out_of_range })
@@ -78,7 +76,7 @@ module _ (s : Sizes) (read : List ℕ → Reading) (u : ℕ) (r : Rule) where
     pub rule-stores : (f : ℕ) (z : ℤ) {values' : List ℤ} {marks' : List ℕ} → write_of read r ≡ Store f z → Limits s → u < s.records
         → has_field s (target_field r.target) ≡ true → Room base (cell_count s) values marks
         → Put (base + cell_index s u (column s f)) (WorkedOut z) values marks values' marks' → SFits w32 z
-        → LocalRule s read base u r values marks values' marks' Nowhere
+        → LocalRule s read base u r values marks values' marks' (Ok tt)
     unfolding value_of
     rule-stores f z e limits row field room p fits =
         let t = told read r e in
@@ -154,7 +152,7 @@ records-start = record { in_range = λ u l. absurd (omega arith); holds = λ d l
 -- one rule more at a record
 pub record-more : {s : Sizes} {read : ℕ → List ℕ → Reading} {base : ℕ} {codes : List ℕ} {places : List Located} {u k : ℕ}
     {values values' values'' : List ℤ} {marks marks' marks'' : List ℕ} → RecordDone s read base codes places u k values marks values' marks'
-    → (x : Located) → k < length places → LocalRule s (read u) base u (rule_at codes (get_or places k x)) values' marks' values'' marks'' Nowhere
+    → (x : Located) → k < length places → LocalRule s (read u) base u (rule_at codes (get_or places k x)) values' marks' values'' marks'' (Ok tt)
     → {k' : ℕ} → k' ≡ suc k → RecordDone s read base codes places u k' values marks values'' marks''
 record-more {s} {read} {base} {codes} {places} {u} {k} {values'' = values''} {marks'' = marks''} t x h (same, done) q =
     let rs = rules_in codes k places in

@@ -1,4 +1,5 @@
 -- The remote writes of a step, record by record and rule by rule: what the working cells hold so far.
+use Rattle.std.specs.Prelude.{Option, None, Some}
 use Prim.Native.Nat.{ℕ, suc, ◌+◌, ◌≤◌, ◌<◌}
 use mathlib.Core.Path.{◌≡◌, sym, ap, ap₂, subst, ◌∙◌}
 use mathlib.Core.Bool.{true, false}
@@ -13,12 +14,13 @@ use lib.Signed.{non_neg}
 use Rattle.integers.proofs.Complement.{index_is}
 use Rattle.register.specs.Cells.{cells_of}
 use Rattle.register.specs.File.{cell_count, cell_index, values_part, marks_part, cells_of_file}
-use Rattle.register.specs.Shape.{Limits, Parts}
+use Rattle.register.specs.Shape.{Limits}
+use Rattle.register.specs.View.{cells_in}
+use Rattle.register.specs.declared.cells.Cells.{Cells}
 use Rattle.register.specs.declared.Sizes.{Sizes}
 use Rattle.register.specs.declared.cells.Cell.{Cell}
 use Rattle.register.proofs.Bounds.{cell_index-below}
-use Rattle.chain.specs.declared.reading.Reading.{Reading}
-use Rattle.chain.specs.declared.reading.Reading.TheVariants.{Missing, Value}
+use Rattle.chain.specs.Reading.{Reading}
 use Rattle.chain.specs.Word.{has_field, column, refers_to}
 use Rattle.chain.proofs.Following.{column-below}
 use Rattle.program.specs.declared.location.Located.{Located}
@@ -33,8 +35,6 @@ use Rattle.machine.proofs.Folding.{record_messages-local, messages-more, deliver
 use Rattle.scratch.specs.Places.{stored_at}
 use Rattle.step_terms.specs.Found.{TargetFound, Within, Names}
 use Rattle.step_effects.specs.Answers.{messages_in, GoesTo}
-use Rattle.step_effects.specs.declared.sent.Sent.{Sent}
-use Rattle.step_effects.specs.declared.sent.Sent.TheVariants as S
 use Rattle.step_cells.specs.Work.{Room, HoldsCells, Put, Small}
 use Rattle.step_rules.specs.Ready.{RuleAgrees}
 use Rattle.step_rules.specs.Delivered.{Addresses, Delivers, Delivered, RuleSends, AllSend}
@@ -42,20 +42,16 @@ use Rattle.step_cells.proofs.Working.{same_refl, same_then, same-put, holds-put,
 use Rattle.step_rules.proofs.Locals.{rule_at, rules-more, all_at, in_range-at}
 use Rattle.step_cells.proofs.Merging.{merged-below}
 
--- the parts of a register, by other names
-pub parts_as : {s : Sizes} {b b' f f' : List ℕ} → b ≡ b' → f ≡ f' → Parts s b' f' → Parts s b f
-parts_as e q p = rw (e, q) p
-
--- the cells of a file, by its parts
-pub cells_as : (s : Sizes) (file : List ℕ) {b f : List ℕ} → b ≡ values_part s file → f ≡ marks_part s file → cells_of b f ≡ cells_of_file s file
-unfolding cells_of_file
-cells_as s file e q = ap₂ cells_of e q
+-- the cells of a file that are lent are its cells
+pub cells_as : (s : Sizes) (file : List ℕ) (c : Cells) → c.values.now ≡ values_part s file → c.marks.now ≡ marks_part s file → cells_in c ≡ cells_of_file s file
+unfolding cells_of_file cells_in
+cells_as s file c e q = ap₂ cells_of e q
 
 -- a target within the register names a record
 within-names : (n : ℕ) (x : Reading) → Within n x → Names x
 unfolding refers_to
-within-names n Missing h = tt
-within-names n (Value z) h = go z (index_is n z h).0
+within-names n None h = tt
+within-names n (Some z) h = go z (index_is n z h).0
   where
     go : (z : ℤ) → z ≡ pos (nat_abs z) → T (non_neg z)
     go (pos k) e = tt
@@ -68,17 +64,17 @@ target-names n s cells values marks u p (Combine f op x y) h = tt
 target-names n s cells values marks u p (Remote sort f c x) h = within-names n _ h
 
 -- a message goes to a cell of the register
-pub goes_addresses : (s : Sizes) (f : ℕ) → has_field s f ≡ true → (W : ℕ → Type 0) → W s.records → (x : Sent) → GoesTo f W x → Addresses s x
-goes_addresses s f h W w S.Nothing e = tt
-goes_addresses s f h W w (S.One m) e = (e.1 s.records w, ap (has_field s) e.0 ∙ h)
+pub goes_addresses : (s : Sizes) (f : ℕ) → has_field s f ≡ true → (W : ℕ → Type 0) → W s.records → (x : Option Message) → GoesTo f W x → Addresses s x
+goes_addresses s f h W w None e = tt
+goes_addresses s f h W w (Some m) e = (e.1 s.records w, ap (has_field s) e.0 ∙ h)
 
-pub message-below : (s : Sizes) (m : Message) → Limits s → Addresses s (S.One m) → cell_index s m.target (column s m.field) < cell_count s
+pub message-below : (s : Sizes) (m : Message) → Limits s → Addresses s (Some m) → cell_index s m.target (column s m.field) < cell_count s
 message-below s m limits (target, field) = cell_index-below s m.target (column s m.field) target (column-below s limits m.field field)
 
-pub at_most_one : (x : Sent) → length (messages_in x) ≤ 1
+pub at_most_one : (x : Option Message) → length (messages_in x) ≤ 1
 unfolding messages_in
-at_most_one S.Nothing = omega arith
-at_most_one (S.One m) = omega arith
+at_most_one None = omega arith
+at_most_one (Some m) = omega arith
 
 -- a larger bound
 pub small-within : {b b' base k : ℕ} {values : List ℤ} {marks : List ℕ} → b ≤ b' → Small b base k values marks → Small b' base k values marks

@@ -1,4 +1,5 @@
 -- What a rule's answer at a record tells of the rule: whether its sum offends, and what it leaves of the cells.
+use Rattle.std.specs.Prelude.{None, Some}
 use Prim.Native.Nat.{ℕ}
 use mathlib.Core.Path.{◌≡◌, refl, sym, ap, subst, ◌∙◌}
 use mathlib.Core.Bool.{Bool, true, false, cond}
@@ -10,8 +11,7 @@ use Rattle.register.specs.File.{cell_index}
 use Rattle.register.specs.declared.Sizes.{Sizes}
 use Rattle.register.specs.declared.cells.Cell.{Cell}
 use Rattle.register.specs.declared.cells.Cell.TheVariants.{Missing, WorkedOut}
-use Rattle.chain.specs.declared.reading.Reading.{Reading}
-use Rattle.chain.specs.declared.reading.Reading.TheVariants as R
+use Rattle.chain.specs.Reading.{Reading}
 use Rattle.chain.specs.Word.{column}
 use Rattle.program.specs.Program.{Target, own, remote, Rule, target_field}
 use Rattle.machine.specs.Value.{value, holds}
@@ -57,8 +57,8 @@ module _ (read : List ℕ → Reading) (r : Rule) where
   unfolding target_write assign stored_over target_field
   tells true h t x p q k l = record { out_of_range = p; field_is = ap target_field (sym k) }
   tells false false t x p q k l = record { in_range = p; cells_are = idle q }
-  tells false true (own f) R.Missing p q k l = record { in_range = p; cells_are = λ s u d. done q k l s u d ∙ set-get_or d _ Missing }
-  tells false true (own f) (R.Value z) p q k l = record { in_range = p; field_is = ap target_field (sym k); cells_are = done q k l }
+  tells false true (own f) None p q k l = record { in_range = p; cells_are = λ s u d. done q k l s u d ∙ set-get_or d _ Missing }
+  tells false true (own f) (Some z) p q k l = record { in_range = p; field_is = ap target_field (sym k); cells_are = done q k l }
   tells false true (remote j f w) x p q k l = record { in_range = p; cells_are = done q k l }
 
   pub write_tells : Tells read r (write_of read r)

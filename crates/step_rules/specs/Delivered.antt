@@ -1,9 +1,9 @@
 -- What the remote writes of a step leave.
-use Rattle.std.specs.Prelude.{◌≡◌, List, true, false, ℕ, ◌+◌, ◌*◌, ◌≤◌, ◌<◌, ℤ, length, take}
+use Rattle.std.specs.Prelude.{◌≡◌, List, true, false, ℕ, ◌+◌, ◌*◌, ◌≤◌, ◌<◌, ℤ, length, take, Option, None, Some}
 use Rattle.register.specs.File.{cell_count}
 use Rattle.register.specs.declared.Sizes.{Sizes}
 use Rattle.register.specs.declared.cells.Cell.{Cell}
-use Rattle.chain.specs.declared.reading.Reading.{Reading}
+use Rattle.chain.specs.Reading.{Reading}
 use Rattle.chain.specs.Word.{has_field}
 use Rattle.program.specs.declared.location.Located.{Located}
 use Rattle.program.specs.Stored.{rule_in, rules_in}
@@ -12,15 +12,13 @@ use Rattle.machine.specs.declared.message.Message.{Message}
 use Rattle.machine.specs.Local.{offends}
 use Rattle.machine.specs.Remote.{rule_messages, deliver_all}
 use Rattle.step_terms.specs.Found.{Told}
-use Rattle.step_effects.specs.declared.sent.Sent.{Sent}
-use Rattle.step_effects.specs.declared.sent.Sent.TheVariants.{Nothing, One}
 use Rattle.step_cells.specs.Work.{HoldsCells, Same, Small}
 use Rattle.step_rules.specs.Ready.{AllAgree, AllInRange}
 
 -- a message goes to a record and a field of the register
-abbrev pub Addresses : Sizes → Sent → Type 0
-Addresses s Nothing = Unit {0}
-Addresses s (One m) = (m.target < s.records) × (has_field s m.field ≡ true)
+abbrev pub Addresses : Sizes → Option Message → Type 0
+Addresses s None = Unit {0}
+Addresses s (Some m) = (m.target < s.records) × (has_field s m.field ≡ true)
 
 -- by these messages, which are counted behind the n before; a value grows by one amount for each
 pub record Delivers (s : Sizes) (base : ℕ) (ms : List Message) (values : List ℤ) (marks : List ℕ) (values' : List ℤ) (marks' : List ℕ) (n n' : ℕ) : Type 0 where

@@ -1,10 +1,10 @@
 -- Rules that a step can run, and what the local ones leave.
-use Rattle.std.specs.Prelude.{◌≡◌, Bool, true, false, List, ℕ, ◌<◌, ℤ, length, take}
+use Rattle.std.specs.Prelude.{◌≡◌, Bool, true, false, List, ℕ, ◌<◌, ℤ, length, take, Ok, Err}
 use Rattle.std.proofs.Math.Option.{none}
 use Rattle.register.specs.File.{cell_count}
 use Rattle.register.specs.declared.Sizes.{Sizes}
 use Rattle.register.specs.declared.cells.Cell.{Cell}
-use Rattle.chain.specs.declared.reading.Reading.{Reading}
+use Rattle.chain.specs.Reading.{Reading}
 use Rattle.chain.specs.Word.{has_field, column}
 use Rattle.program.specs.declared.location.Located.{Located}
 use Rattle.program.specs.Program.{Rule, target_field}
@@ -18,8 +18,7 @@ use Rattle.step_effects.specs.Answers.{write_of}
 use Rattle.step_effects.specs.declared.stored.Write.{Write}
 use Rattle.step_effects.specs.declared.stored.Write.TheVariants as W
 use Rattle.step_cells.specs.Work.{HoldsCells, Same, Small}
-use Rattle.step_cells.specs.declared.stop.Stop.{Stop}
-use Rattle.step_cells.specs.declared.stop.Stop.TheVariants.{Nowhere, At}
+use Rattle.step_cells.specs.Stop.{Stop}
 
 -- a rule that every record can run: over these cells, these places of lines, and these codes; with no codes, a plain rule
 pub record RuleReady (s : Sizes) (cells : List Cell) (values : List ℤ) (marks : List ℕ) (codes : List ℕ) (x : Located) : Type 0 where
@@ -59,8 +58,8 @@ pub record RuleStops (s : Sizes) (read : List ℕ → Reading) (u : ℕ) (r : Ru
   pub out_of_range : offends read r ≡ true
 
 abbrev pub LocalRule : Sizes → (List ℕ → Reading) → ℕ → ℕ → Rule → List ℤ → List ℕ → List ℤ → List ℕ → Stop → Type 0
-LocalRule s read base u r values marks values' marks' Nowhere = Same base values marks values' marks' × RuleDone s read base u r values marks values' marks'
-LocalRule s read base u r values marks values' marks' (At v c) = Same base values marks values' marks' × RuleStops s read u r v c
+LocalRule s read base u r values marks values' marks' (Ok done) = Same base values marks values' marks' × RuleDone s read base u r values marks values' marks'
+LocalRule s read base u r values marks values' marks' (Err o) = Same base values marks values' marks' × RuleStops s read u r o.row o.column
 
 -- the field that is written is one of the register
 abbrev pub WritesField : Sizes → Write → Type 0

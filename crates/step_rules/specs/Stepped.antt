@@ -3,7 +3,7 @@ use Rattle.std.specs.Prelude.{◌≡◌, List, ℕ, ℤ, length}
 use Rattle.std.proofs.Math.Option.{none}
 use Rattle.register.specs.File.{file_of, cells_of_file}
 use Rattle.register.specs.declared.Sizes.{Sizes}
-use Rattle.chain.specs.declared.reading.Reading.{Reading}
+use Rattle.chain.specs.Reading.{Reading}
 use Rattle.program.specs.Program.{Rule}
 use Rattle.machine.specs.Remote.{record_messages}
 use Rattle.machine.specs.Step.{step_cells, offence}

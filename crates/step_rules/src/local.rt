@@ -9,10 +9,11 @@ ghost use Rattle.step_rules.specs.Ready.{RuleReady, WritesField, Performed, Rule
 
 use chain::follow;
 use program::location::Located;
-use register::{Sizes, cells};
+use register::Sizes;
+use register::cells::Cells;
 use scratch;
 use step_cells;
-use step_cells::stop::Stop;
+use step_cells::stop::Offence;
 use step_effects::stored;
 use step_effects::stored::Write;
 use step_plain;
@@ -42,17 +43,20 @@ fn perform(
     base: usize,
     u: usize,
     write: Write,
-) -> Stop
+) -> Result<(), Offence>
     requires { Limits sizes × (u < sizes.records) × WritesField sizes write × Room base (cell_count sizes) values.old marks.old }
     ensures { Performed sizes base u write values.old marks.old values.new marks.new result }
 {
     match write {
-        Write::Nothing => Stop::Nowhere,
+        Write::Nothing => Ok(()),
         Write::Store(field, value) => {
             store(values, marks, sizes, base, u, field, value);
-            Stop::Nowhere
+            Ok(())
         }
-        Write::OutOfRange(field) => Stop::At(u, follow::column(sizes, field as usize)),
+        Write::OutOfRange(field) => Err(Offence {
+            row: u,
+            column: follow::column(sizes, field as usize),
+        }),
     }
 }
 
@@ -66,22 +70,14 @@ pub fn apply_rule(
     u: usize,
     codes: &[u64],
     rule: Located,
-) -> Stop
+) -> Result<(), Offence>
     requires limits { Limits sizes × (length out.now ≡ 12 + 5 * cell_count sizes) × (u < sizes.records) × Room base (cell_count sizes) values.old marks.old }
     requires rule_ready { RuleReady sizes (cells_of_file sizes out.now) (take base values.old) (take base marks.old) codes.now rule }
     ensures { RuleLeaves sizes (cells_of_file sizes out.now) base u codes.now rule
         values.old marks.old values.new marks.new result }
 {
-    let write = stored::local_write(
-        cells::values_part(out, sizes),
-        cells::marks_part(out, sizes),
-        &values[..base],
-        &marks[..base],
-        sizes,
-        u,
-        codes,
-        rule,
-    );
+    let cells = Cells::of(out, sizes);
+    let write = stored::local_write(&cells, &values[..base], &marks[..base], u, codes, rule);
     perform(values, marks, sizes, base, u, write)
 }
 
@@ -94,20 +90,13 @@ pub fn apply_plain(
     base: usize,
     u: usize,
     rule: Located,
-) -> Stop
+) -> Result<(), Offence>
     requires limits { Limits sizes × (length out.now ≡ 12 + 5 * cell_count sizes) × (u < sizes.records) × Room base (cell_count sizes) values.old marks.old }
     requires rule_ready { RuleReady sizes (cells_of_file sizes out.now) (take base values.old) (take base marks.old) [] rule }
     ensures { PlainLeaves sizes (cells_of_file sizes out.now) base u rule
         values.old marks.old values.new marks.new result }
 {
-    let write = step_plain::local_write(
-        cells::values_part(out, sizes),
-        cells::marks_part(out, sizes),
-        &values[..base],
-        &marks[..base],
-        sizes,
-        u,
-        rule,
-    );
+    let cells = Cells::of(out, sizes);
+    let write = step_plain::local_write(&cells, &values[..base], &marks[..base], u, rule);
     perform(values, marks, sizes, base, u, write)
 }

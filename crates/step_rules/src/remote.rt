@@ -1,8 +1,8 @@
 // The remote writes of a step, delivered to the working cells.
 ghost use Rattle.std.specs.Prelude.{◌≡◌, [], ◌+◌, ◌*◌, ◌≤◌, ◌<◌, length, take};
-ghost use Rattle.register.specs.Cells.{cells_of};
+ghost use Rattle.register.specs.View.{cells_in};
 ghost use Rattle.register.specs.File.{cell_count, cells_of_file};
-ghost use Rattle.register.specs.Shape.{Limits, Parts};
+ghost use Rattle.register.specs.Shape.{Limits};
 ghost use Rattle.program.specs.Stored.{rules_in};
 ghost use Rattle.machine.specs.Remote.{record_messages};
 ghost use Rattle.step_effects.specs.Answers.{messages_in};
@@ -10,11 +10,12 @@ ghost use Rattle.step_cells.specs.Work.{Room, Small};
 ghost use Rattle.step_rules.specs.Ready.{RuleReady, AllReady, AllPlain};
 ghost use Rattle.step_rules.specs.Delivered.{Addresses, Delivers, Delivered, RuleSends, PlainSends, AllSend};
 
+use machine::message::Message;
 use program::location::Located;
-use register::{Sizes, cells};
+use register::Sizes;
+use register::cells::Cells;
 use step_cells;
 use step_effects::sent;
-use step_effects::sent::Sent;
 use step_plain;
 
 // The message of a rule, where it sends one. The number of messages, with those sent before: a number of its own would be made 0
@@ -24,84 +25,60 @@ fn post(
     marks: &mut [u8],
     sizes: Sizes,
     base: usize,
-    message: Sent,
+    message: Option<Message>,
     sent: usize,
 ) -> usize
     requires limits { Limits sizes × Addresses sizes message × Room base (cell_count sizes) values.old marks.old }
     requires small { Small 4611686018427387904 base (cell_count sizes) values.old marks.old × (sent < 131072) }
     ensures { Delivers sizes base (messages_in message) values.old marks.old values.new marks.new sent result }
 {
-    match message {
-        Sent::Nothing => sent,
-        Sent::One(message) => {
-            let place = step_cells::place(sizes, base, message.target, message.field);
-            let sort = message.sort;
-            step_cells::deliver(values, marks, place, sort, message.amount);
-            sent + 1
-        }
-    }
+    let Some(message) = message else {
+        return sent;
+    };
+    let place = step_cells::place(sizes, base, message.target, message.field);
+    step_cells::deliver(values, marks, place, message.sort, message.amount);
+    sent + 1
 }
 
 // One rule at record u.
 fn apply_rule(
-    cells: &[u8],
-    filled: &[u8],
+    cells: &Cells<'_>,
     values: &mut [i64],
     marks: &mut [u8],
-    sizes: Sizes,
     base: usize,
     u: usize,
     codes: &[u64],
     rule: Located,
     sent: usize,
 ) -> usize
-    requires parts { Parts sizes cells.now filled.now × (u < sizes.records) × Room base (length filled.now) values.old marks.old }
-    requires rule_ready { RuleReady sizes (cells_of cells.now filled.now) (take base values.old) (take base marks.old) codes.now rule }
-    requires small { Small 4611686018427387904 base (length filled.now) values.old marks.old × (sent < 131072) }
-    ensures { Delivered sizes base (RuleSends sizes (cells_of cells.now filled.now) values.old marks.old base u codes.now rule)
+    requires parts { (u < cells.now.sizes.records) × Room base (cell_count cells.now.sizes) values.old marks.old }
+    requires rule_ready { RuleReady cells.now.sizes (cells_in cells.now) (take base values.old) (take base marks.old) codes.now rule }
+    requires small { Small 4611686018427387904 base (cell_count cells.now.sizes) values.old marks.old × (sent < 131072) }
+    ensures { Delivered cells.now.sizes base (RuleSends cells.now.sizes (cells_in cells.now) values.old marks.old base u codes.now rule)
         values.old marks.old values.new marks.new sent result }
 {
-    let message = sent::message_of(
-        cells,
-        filled,
-        &values[..base],
-        &marks[..base],
-        sizes,
-        u,
-        codes,
-        rule,
-    );
-    post(values, marks, sizes, base, message, sent)
+    let message = sent::message_of(cells, &values[..base], &marks[..base], u, codes, rule);
+    post(values, marks, cells.sizes, base, message, sent)
 }
 
 // The same for a plain rule, which needs no codes.
 fn apply_plain(
-    cells: &[u8],
-    filled: &[u8],
+    cells: &Cells<'_>,
     values: &mut [i64],
     marks: &mut [u8],
-    sizes: Sizes,
     base: usize,
     u: usize,
     rule: Located,
     sent: usize,
 ) -> usize
-    requires parts { Parts sizes cells.now filled.now × (u < sizes.records) × Room base (length filled.now) values.old marks.old }
-    requires rule_ready { RuleReady sizes (cells_of cells.now filled.now) (take base values.old) (take base marks.old) [] rule }
-    requires small { Small 4611686018427387904 base (length filled.now) values.old marks.old × (sent < 131072) }
-    ensures { Delivered sizes base (PlainSends sizes (cells_of cells.now filled.now) values.old marks.old base u rule)
+    requires parts { (u < cells.now.sizes.records) × Room base (cell_count cells.now.sizes) values.old marks.old }
+    requires rule_ready { RuleReady cells.now.sizes (cells_in cells.now) (take base values.old) (take base marks.old) [] rule }
+    requires small { Small 4611686018427387904 base (cell_count cells.now.sizes) values.old marks.old × (sent < 131072) }
+    ensures { Delivered cells.now.sizes base (PlainSends cells.now.sizes (cells_in cells.now) values.old marks.old base u rule)
         values.old marks.old values.new marks.new sent result }
 {
-    let message = step_plain::message_of(
-        cells,
-        filled,
-        &values[..base],
-        &marks[..base],
-        sizes,
-        u,
-        rule,
-    );
-    post(values, marks, sizes, base, message, sent)
+    let message = step_plain::message_of(cells, &values[..base], &marks[..base], u, rule);
+    post(values, marks, cells.sizes, base, message, sent)
 }
 
 // The messages of all rules at all records of the register in `out`, which may all be plain. Their number.
@@ -124,17 +101,14 @@ pub fn apply(
         (λ read. record_messages read (rules_in codes.now count rules) sizes.records))
         values.old marks.old values.new marks.new 0 result }
 {
-    let cells = cells::values_part(out, sizes);
-    let filled = cells::marks_part(out, sizes);
+    let cells = Cells::of(out, sizes);
     let mut sent = 0;
     for u in 0..sizes.records {
         for k in 0..count {
             if plain {
-                sent = apply_plain(cells, filled, values, marks, sizes, base, u, rules[k], sent);
+                sent = apply_plain(&cells, values, marks, base, u, rules[k], sent);
             } else {
-                sent = apply_rule(
-                    cells, filled, values, marks, sizes, base, u, codes, rules[k], sent,
-                );
+                sent = apply_rule(&cells, values, marks, base, u, codes, rules[k], sent);
             }
         }
     }

@@ -1,12 +1,12 @@
 -- What a record finds where its readings are located: over the cells before the step and the places of the plan's lines.
+use Rattle.std.specs.Prelude.{None, Some}
 use Rattle.std.specs.Prelude.{◌≡◌, true, List, ℕ, ◌+◌, ◌*◌, ◌≤◌, ◌<◌, T, ℤ, pos, length, get_or}
 use Rattle.std.specs.Int.Signed.{non_neg}
 use Rattle.std.specs.Int.{w32}
 use Rattle.std.proofs.Common.{SFits}
 use Rattle.register.specs.declared.Sizes.{Sizes}
 use Rattle.register.specs.declared.cells.Cell as C
-use Rattle.chain.specs.declared.reading.Reading.{Reading}
-use Rattle.chain.specs.declared.reading.Reading.TheVariants.{Missing, Value}
+use Rattle.chain.specs.Reading.{Reading}
 use Rattle.chain.specs.Word.{has_field, read_cell, refers_to}
 use Rattle.program.specs.declared.term.Term.{Term}
 use Rattle.program.specs.declared.term.Term.TheVariants.{Chain, Number, Tree}
@@ -28,7 +28,7 @@ line_place s u i = i * s.records + u
 
 -- what record u finds at a location: its own number, its own cell, or what a line holds for it
 unfoldable pub found_at : Sizes → List C.Cell → List ℤ → List ℕ → ℕ → Location → Reading
-found_at s cells values marks u Own = Value (pos u)
+found_at s cells values marks u Own = Some (pos u)
 found_at s cells values marks u (Cell f) = read_cell s cells u f
 found_at s cells values marks u (Line i) = place_at values marks (line_place s u i)
 
@@ -92,5 +92,5 @@ abbrev pub Within : ℕ → Reading → Type 0
 Within n x = refers_to n x ≡ true
 
 abbrev pub Names : Reading → Type 0
-Names Missing = Unit {0}
-Names (Value z) = T (non_neg z)
+Names None = Unit {0}
+Names (Some z) = T (non_neg z)

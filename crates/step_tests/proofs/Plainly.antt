@@ -1,4 +1,5 @@
 -- Plain terms: where they are found, and what they come to.
+use Rattle.std.specs.Prelude.{Ok}
 use Prim.Native.Nat.{ℕ}
 use mathlib.Core.Path.{◌≡◌, refl}
 use mathlib.Core.Bool.{true, false}
@@ -8,7 +9,7 @@ use lib.IntN.{ℤ}
 use Rattle.laws.proofs.Bools.{true_false, and_both}
 use Rattle.register.specs.declared.Sizes.{Sizes}
 use Rattle.register.specs.declared.cells.Cell.{Cell}
-use Rattle.chain.specs.declared.reading.Reading.{Reading}
+use Rattle.chain.specs.Reading.{Reading}
 use Rattle.program.specs.declared.term.Term.{Term}
 use Rattle.program.specs.declared.term.Term.TheVariants.{Chain, Number, Tree}
 use Rattle.program.specs.declared.rule.Test.{Test}
@@ -23,7 +24,7 @@ use Rattle.program.specs.Terms.{TermPlaced}
 use Rattle.machine.specs.Value.{value, overflows}
 use Rattle.machine.specs.Local.{test_overflows}
 use Rattle.step_terms.specs.Found.{found_at, Reaches, Told, TermReaches, TestReaches, RuleReaches, SlotReaches}
-use Rattle.step_operations.specs.Evaluated.{of_reading, evaluated}
+use Rattle.step_operations.specs.Evaluated.{evaluated}
 use Rattle.step_tests.specs.Plain.{is_plain, plain_test, plain_rule, plain_slot}
 
 -- a plain term forms no sum
@@ -40,7 +41,7 @@ module _ (read : List ℕ → Reading) (k : List ℕ) where
   plain-tested (When x c y) h = let (a, b) = and_both (is_plain x) (is_plain y) h in simp (plain-formed x a, plain-formed y b)
 
   -- it comes to its value
-  pub plain-evaluated : (x : Term) → is_plain x ≡ true → evaluated read (term_in k x) ≡ of_reading (value read (term_in k x))
+  pub plain-evaluated : (x : Term) → is_plain x ≡ true → evaluated read (term_in k x) ≡ Ok (value read (term_in k x))
   unfolding evaluated
   plain-evaluated x h = simp (plain-formed x h)
 

@@ -10,7 +10,6 @@ use Rattle.chain_text.specs.Text.{names, letter_field}
 use Rattle.program.specs.declared.rule.Rule.{Rule}
 use Rattle.program.specs.declared.rule.Rule.TheVariants.{Remote}
 use Rattle.program.specs.declared.rule.Sort.{Sort}
-use Rattle.program.specs.declared.term.Term.{Term}
 use Rattle.program.specs.Code.{chain_in}
 use Rattle.text_syntax.specs.Token.{letter, write}
 use Rattle.text_syntax.specs.Form.{Form}
@@ -18,7 +17,9 @@ use Rattle.text_syntax.specs.Written.{Action, chain, set, remote}
 use Rattle.text_syntax.specs.Grammar.{local_form, sent_form}
 use Rattle.text_rules.specs.declared.line.Checks.{Checks}
 use Rattle.text_rules.specs.LineRead.{all_pass}
-use Rattle.text_codes.specs.declared.summary.Summary.{Summary}
+use Rattle.std.specs.Prelude.{Option, Some, None}
+use Rattle.text_joins.specs.declared.Gathered.{Gathered}
+use Rattle.text_sides.specs.declared.side.Side.{Side}
 use Rattle.text_codes.specs.declared.code.TermParts.{TermParts}
 use Rattle.text_places.specs.Place.{tokens_from, Behind, Passing}
 use Rattle.text_codes.specs.Coded.{parts_of}
@@ -28,8 +29,7 @@ use Rattle.text_checks.specs.Checks.{summary_checks, term_checks, both_checks}
 use Rattle.text_demands.specs.Demands.{local_checks, remote_checks}
 use Rattle.text_sides.specs.Side.{rule_held, codes_left, SideFormed}
 use Rattle.text_actions.specs.Action.{ActionFormed, ActionAt}
-use Rattle.text_actions.specs.declared.action.ActionRead.{ActionRead}
-use Rattle.text_actions.specs.declared.action.ActionRead.TheVariants.{Action as ActionParts, NoForm}
+use Rattle.text_actions.specs.declared.action.ActionParts.{ActionParts}
 use Rattle.text_checks.proofs.Passing.{both_pass, kinds_pass, set_checks, remote_checks_lem}
 use Rattle.text_sides.proofs.Sides.{left_least, left-most}
 use Rattle.text_sides.proofs.Expressions.{passed-codes, passed-kept}
@@ -38,12 +38,13 @@ use Rattle.text_actions.proofs.Forms.{whole-end, local-formed, sent-formed}
 
 module _ {s : Sizes} {line : List ℕ} {a b : List ℕ} {count : ℕ} (lim : Limits s) where
   -- `F[u] := X`
-  pub local-read : {at start end to : ℕ} {g : Summary} (f : ℕ) {x : ℕ} {r : Rule} {named : Bool} {k : Checks} {n : ℕ} → Assigned line at start
-      → ExpressionFormed s line start a b count g end to → is_empty (tokens_from false line end) ≡ true → x ≡ letter_field f → r ≡ rule_held b x count to
-      → named ≡ names s f → k ≡ local_checks f named g → n ≡ codes_left count (codes_left count to 1) 3
-      → ActionFormed s line at (local_form (letter f ∷ tokens_from false line at)) a b count r k n
-  local-read {to = to} {g = g} f v w h i p o e c =
-      let q = e ∙ ap (λ (x : Bool). local_checks f x g) o in
+  pub local-read : {at start : ℕ} {g : Gathered} (f : ℕ) {x : ℕ} {r : Rule} {named : Bool} {k : Checks} {n : ℕ} → Assigned line at start
+      → ExpressionFormed s line start a b count g → is_empty (tokens_from false line g.end) ≡ true → x ≡ letter_field f
+      → r ≡ rule_held b x count g.used → named ≡ names s f → k ≡ local_checks f named g.seen → n ≡ codes_left count (codes_left count g.used 1) 3
+      → ActionFormed s line at (local_form (letter f ∷ tokens_from false line at)) a b count (record { rule = r; checks = k; used = n })
+  local-read {g = g} f v w h i p o e c =
+      let to = g.used in
+      let q = e ∙ ap (λ (x : Bool). local_checks f x g.seen) o in
       let l = w.more_codes in
       let one = left_least count to 1 l in
       let least = left_least count (codes_left count to 1) 3 one in
@@ -53,20 +54,22 @@ module _ {s : Sizes} {line : List ℕ} {a b : List ℕ} {count : ℕ} (lim : Lim
         form_is = whole-end _ (local-formed f v w.form_is) h;
         checks_are = q ∙ set_checks s f w.written w.summary_is;
         held = λ pass.
-            let ok = kinds_pass (summary_checks g) _ _ (sym (ap all_pass q) ∙ pass) in
+            let ok = kinds_pass (summary_checks g.seen) _ _ (sym (ap all_pass q) ∙ pass) in
             rw (p, i, c) (rule-held f l (passed-codes w lim ok) (passed-kept w ok));
         more_codes = omega (arith, c, least);
         few_codes = omega (arith, c, most, left-most count to 1 l, w.few_codes, w.inside, v.behind.onward);
       }
 
   -- `remote F[C] <?= X`, `remote F[C] += X`
-  pub sent-read : {at start end to : ℕ} {g : Summary} {x : Term} (f : ℕ) {y z : ℕ} (c : List ℕ) {p : TermParts} (k : Sort) {named : Bool} {m : Checks}
+  pub sent-read : {at start : ℕ} {x : Side} (f : ℕ) {y z : ℕ} (c : List ℕ) {p : TermParts} (k : Sort) {named : Bool} {m : Checks}
       → p ≡ parts_of s (chain c)
-      → Passing false true (write k) line at start → SideFormed s line start a b count g x end to → is_empty (tokens_from false line end) ≡ true
-      → y ≡ letter_field f → z ≡ chain_in p.code → named ≡ names s f → m ≡ remote_checks k f named p g
-      → ActionFormed s line at (sent_form (f ∷ c) (tokens_from false line at)) a b count (Remote k y z x) m to
-  sent-read {g = g} f c {p} k e v w h i j o d =
-      let q = d ∙ ap (λ (x : Bool). remote_checks k f x p g) o in
+      → Passing false true (write k) line at start → SideFormed s line start a b count x → is_empty (tokens_from false line x.end) ≡ true
+      → y ≡ letter_field f → z ≡ chain_in p.code → named ≡ names s f → m ≡ remote_checks k f named p x.seen
+      → ActionFormed s line at (sent_form (f ∷ c) (tokens_from false line at)) a b count
+      (record { rule = Remote k y z x.term; checks = m; used = x.used })
+  sent-read {x = x} f c {p} k e v w h i j o d =
+      let g = x.seen in
+      let q = d ∙ ap (λ (n : Bool). remote_checks k f n p g) o in
       record {
         written = remote k f c w.written;
         form_is = whole-end _ (sent-formed f c v w.form_is) h;
@@ -79,9 +82,9 @@ module _ {s : Sizes} {line : List ℕ} {a b : List ℕ} {count : ℕ} (lim : Lim
       }
 
 -- what was read behind the first token, from before it
-pub action_from : (s : Sizes) (line : List ℕ) {at i : ℕ} {f g : Form Action} (a b : List ℕ) (count : ℕ) → Behind line at i → g ≡ f → (r : ActionRead)
-    → ActionAt s line i f a b count r → ActionAt s line at g a b count r
-action_from s line a b count v e (ActionParts x k to) w = rw e (record {
+pub action_from : (s : Sizes) (line : List ℕ) {at i : ℕ} {f g : Form Action} (a b : List ℕ) (count : ℕ) → Behind line at i → g ≡ f
+    → (r : Option ActionParts) → ActionAt s line i f a b count r → ActionAt s line at g a b count r
+action_from s line a b count v e (Some x) w = rw e (record {
   written = w.written;
   form_is = w.form_is;
   checks_are = w.checks_are;
@@ -89,4 +92,4 @@ action_from s line a b count v e (ActionParts x k to) w = rw e (record {
   more_codes = w.more_codes;
   few_codes = omega (arith, v.onward, w.few_codes);
 })
-action_from s line a b count v e NoForm w = rw e w
+action_from s line a b count v e None w = rw e w

@@ -15,24 +15,22 @@ use register::Sizes;
 use text_codes::code::TermParts;
 use text_demands::rule;
 use text_lexer::lexer;
-use text_places::word::{LetterRead, WriteRead};
+use text_places::mark::Mark;
 use text_places::{place, word};
 use text_rules::line::Checks;
-use text_sides::expression::ExpressionRead;
-use text_sides::side::SideRead;
 use text_sides::{expression, side};
 use text_terms::term;
-use text_terms::term::TermRead;
-use text_words::token::{Place, Token};
+use text_words::token::Token;
 
-// A rule, what is asked of it and the number of codes then; or no rule stands there to the end of the line.
+// A rule, what is asked of it and the number of codes then.
 #[derive(Clone, Copy)]
-pub enum ActionRead {
-    Action(Rule, Checks, usize),
-    NoForm,
+pub struct ActionParts {
+    pub rule: Rule,
+    pub checks: Checks,
+    pub used: usize,
 }
 
-// `[u] := X` behind F.
+// `[u] := X` behind F, to the end of the line.
 fn read_local(
     line: &[u8],
     at: usize,
@@ -40,104 +38,91 @@ fn read_local(
     sizes: Sizes,
     codes: &mut [u64],
     count: usize,
-) -> ActionRead
+) -> Option<ActionParts>
     requires { Limits sizes × (at ≤ length line.now) × (is_capital letter ≡ true)
         × Roomy codes.old line.now at count × (length codes.old ≤ 65536) }
     ensures { ActionAt sizes line.now at (local_form (T.letter letter ∷ tokens_from false line.now at))
         codes.old codes.new count result }
 {
-    let Place::At(start) = word::assigned(line, at) else {
-        return ActionRead::NoForm;
-    };
-    let ExpressionRead::Parts(seen, end, to) = expression::read(line, start, sizes, codes, count)
-    else {
-        return ActionRead::NoForm;
-    };
-    if !word::ends(line, end) {
-        return ActionRead::NoForm;
+    let start = word::assigned(line, at)?;
+    let read = expression::read(line, start, sizes, codes, count)?;
+    if !word::ends(line, read.end) {
+        return None;
     }
     let field = letters::field_of(letter);
-    let held = side::set_in(codes, field, count, to);
-    let asked = rule::local(letter, letters::names_field(sizes, letter), seen);
-    ActionRead::Action(held, asked, side::codes_behind_set(count, to))
+    Some(ActionParts {
+        rule: side::set_in(codes, field, count, read.used),
+        checks: rule::local(letter, letters::names_field(sizes, letter), read.seen),
+        used: side::codes_behind_set(count, read.used),
+    })
 }
 
-// F and C of a remote target `F[C]`, and the place behind it; or none stands there.
+// F and C of a remote target `F[C]`, and the place behind it.
 #[derive(Clone, Copy)]
-pub enum TargetRead {
-    Target(u8, TermParts, usize),
-    NoForm,
+pub struct Target {
+    pub letter: u8,
+    pub parts: TermParts,
+    pub end: usize,
 }
 
 // `F[C]` at `at`.
-fn read_target(line: &[u8], at: usize, sizes: Sizes) -> TargetRead
+fn read_target(line: &[u8], at: usize, sizes: Sizes) -> Option<Target>
     requires { Limits sizes × (at ≤ length line.now) }
     ensures { TargetAt sizes line.now at result }
 {
-    let LetterRead::Letter(letter, open) = word::letter(line, at) else {
-        return TargetRead::NoForm;
-    };
-    let Place::At(inner) = place::mark(line, open, false, place::OPEN_SQUARE) else {
-        return TargetRead::NoForm;
-    };
-    let TermRead::Parts(parts, close) = term::read_chain(line, inner, false, sizes) else {
-        return TargetRead::NoForm;
-    };
-    let Place::At(end) = place::mark(line, close, false, place::CLOSE_SQUARE) else {
-        return TargetRead::NoForm;
-    };
-    TargetRead::Target(letter, parts, end)
+    let (letter, open) = word::letter(line, at)?;
+    let inner = place::mark(line, open, false, Mark::OpenSquare)?;
+    let (parts, close) = term::read_chain(line, inner, false, sizes)?;
+    let end = place::mark(line, close, false, Mark::CloseSquare)?;
+    Some(Target { letter, parts, end })
 }
 
-// `<?= X` or `+= X` behind `remote F[C]`.
+// `<?= X` or `+= X` behind `remote F[C]`, to the end of the line.
 fn read_sent(
     line: &[u8],
-    at: usize,
-    letter: u8,
-    parts: TermParts,
+    target: Target,
     sizes: Sizes,
     codes: &mut [u64],
     count: usize,
-) -> ActionRead
-    requires { Limits sizes × (at ≤ length line.now) × (is_capital letter ≡ true)
-        × Roomy codes.old line.now at count × (length codes.old ≤ 65536) }
-    ensures { SentBehind sizes line.now at letter parts codes.old codes.new count result }
+) -> Option<ActionParts>
+    requires { Limits sizes × (target.end ≤ length line.now) × (is_capital target.letter ≡ true)
+        × Roomy codes.old line.now target.end count × (length codes.old ≤ 65536) }
+    ensures { SentBehind sizes line.now target codes.old codes.new count result }
 {
-    let WriteRead::Write(sort, start) = word::write(line, at) else {
-        return ActionRead::NoForm;
-    };
-    let SideRead::Side(seen, term, end, used) = side::read(line, start, sizes, codes, count) else {
-        return ActionRead::NoForm;
-    };
-    if !word::ends(line, end) {
-        return ActionRead::NoForm;
+    let (sort, start) = word::write(line, target.end)?;
+    let sent = side::read(line, start, sizes, codes, count)?;
+    if !word::ends(line, sent.end) {
+        return None;
     }
-    let held = Rule::Remote(
-        sort,
-        letters::field_of(letter),
-        code::chain(parts.code),
-        term,
-    );
+    let letter = target.letter;
+    let field = letters::field_of(letter);
     let named = letters::names_field(sizes, letter);
-    ActionRead::Action(held, rule::remote(sort, letter, named, parts, seen), used)
+    Some(ActionParts {
+        rule: Rule::Remote(sort, field, code::chain(target.parts.code), sent.term),
+        checks: rule::remote(sort, letter, named, target.parts, sent.seen),
+        used: sent.used,
+    })
 }
 
-// The rule at `at`, by its first token.
-pub fn read(line: &[u8], at: usize, sizes: Sizes, codes: &mut [u64], count: usize) -> ActionRead
+// The rule at `at`, by its first token, to the end of the line.
+pub fn read(
+    line: &[u8],
+    at: usize,
+    sizes: Sizes,
+    codes: &mut [u64],
+    count: usize,
+) -> Option<ActionParts>
     requires { Limits sizes × (at ≤ length line.now) × Roomy codes.old line.now at count × (length codes.old ≤ 65536) }
     ensures { ActionAt sizes line.now at (action_form (tokens_from false line.now at))
         codes.old codes.new count result }
 {
     let first = lexer::next_token(line, at, false);
-    let token = first.token;
-    match token {
+    match first.token {
         Token::Letter(letter) => read_local(line, first.end, letter, sizes, codes, count),
-        Token::Remote => match read_target(line, first.end, sizes) {
-            TargetRead::Target(letter, parts, end) => read_sent(
-                line, end, letter, parts, sizes, codes, count,
-            ),
-            TargetRead::NoForm => ActionRead::NoForm,
-        },
-        _ => ActionRead::NoForm,
+        Token::Remote => {
+            let target = read_target(line, first.end, sizes)?;
+            read_sent(line, target, sizes, codes, count)
+        }
+        _ => None,
     }
 }

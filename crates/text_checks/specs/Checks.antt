@@ -9,10 +9,7 @@ use Rattle.text_syntax.specs.Parts.{every_term, term_named, term_kinded, term_sh
 use Rattle.text_codes.specs.declared.summary.Summary.{Summary}
 use Rattle.text_codes.specs.declared.code.TermParts.{TermParts}
 use Rattle.text_rules.specs.declared.line.Checks.{Checks}
-
--- of nothing
-abbrev pub all_true : Checks
-all_true = record { named = true; kinded = true; short = true; ranged = true; shallow = true; few = true }
+pub use Rattle.text_rules.specs.LineRead.{all_true, both_checks, with_kinds}
 
 -- by the summary of an expression, and by a term
 abbrev pub summary_checks : Summary → Checks
@@ -27,27 +24,6 @@ summary_checks g = record {
 
 abbrev pub term_checks : TermParts → Checks
 term_checks p = record { named = p.named; kinded = p.kinded; short = p.short; ranged = p.ranged; shallow = true; few = true }
-
--- of two parts; and whether a field is named and kinds agree
-abbrev pub both_checks : Checks → Checks → Checks
-both_checks a b = record {
-  named = a.named && b.named;
-  kinded = a.kinded && b.kinded;
-  short = a.short && b.short;
-  ranged = a.ranged && b.ranged;
-  shallow = a.shallow && b.shallow;
-  few = a.few && b.few;
-}
-
-abbrev pub with_kinds : Checks → Bool → Bool → Checks
-with_kinds k named kinded = record {
-  named = k.named && named;
-  kinded = k.kinded && kinded;
-  short = k.short;
-  ranged = k.ranged;
-  shallow = k.shallow;
-  few = k.few;
-}
 
 -- the kinds that a sort of remote write takes: of the field, of X
 unfoldable pub sent_kinds : Sort → Bool → Bool → Bool

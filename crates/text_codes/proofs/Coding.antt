@@ -1,14 +1,14 @@
 -- Codes that are written behind each other.
+use Rattle.std.specs.Prelude.{Some}
 use Prim.Native.Nat.{ℕ, zero, suc, ◌+◌, ◌-◌, ◌≤◌, ◌<◌}
-use mathlib.Core.Path.{◌≡◌, refl, sym, ap, ap₂, ◌∙◌}
-use mathlib.Core.Logic.{◌≢◌}
+use mathlib.Core.Path.{◌≡◌, refl, sym, ap, ap₂, subst, ◌∙◌}
 use mathlib.Core.List.{List, [], ◌∷◌, ◌++◌}
 use native.Mathlib.Omega.{arith}
-use borrow.Author.Tests.{ne_eqb}
 use lib.ListN.{length, set, length-set, length-append}
 use lib.Seq.{get_or-set_same, get_or-set_other}
-use Rattle.program.specs.Code.{Code, code_of, code_at, codes_from, codes_in}
-use Rattle.program.proofs.Codes.{codes-first, codes-none, codes_agree}
+use Rattle.program.specs.declared.rule.Operator.{Operator}
+use Rattle.program.specs.Code.{Code, code_of, code_at, codes_from, codes_in, kind_of}
+use Rattle.program.proofs.Codes.{codes-first, codes-none, codes_agree, operator_coded}
 use Rattle.text_codes.specs.Codes.{sign_codes, Wrote}
 
 -- codes in two parts
@@ -62,11 +62,7 @@ wrote_code a n c h = record {
   same_length = length-set a n c;
 }
 
--- one operator, or none
-pub sign-none : (a : List ℕ) (n : ℕ) {sign : ℕ} → sign ≡ 0 → Wrote a a n n (sign_codes sign)
+-- one operator
+pub wrote_sign : (a : List ℕ) (n : ℕ) (o : Operator) → n < length a → Wrote a (set a n (kind_of o)) n (n + 1) (sign_codes (Some o))
 unfolding sign_codes
-sign-none a n e = rw e (wrote_none a n)
-
-pub sign-some : (a : List ℕ) (n sign : ℕ) → n < length a → sign ≢ 0 → Wrote a (set a n sign) n (n + 1) (sign_codes sign)
-unfolding sign_codes
-sign-some a n sign h z = rw (ne_eqb sign 0 z) (wrote_code a n sign h)
+wrote_sign a n o h = subst (λ (c : Code). Wrote a (set a n (kind_of o)) n (n + 1) (c ∷ [])) (operator_coded o) (wrote_code a n (kind_of o) h)

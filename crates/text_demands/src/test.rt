@@ -22,29 +22,27 @@ pub struct FirstSide {
     pub comparison: Comparison,
 }
 
-pub fn when(first: FirstSide, seen: Summary, second: Term) -> TestParts
-    ensures { result ≡ when_parts first seen second }
-{
-    let other = first.seen;
-    let x = first.term;
-    let comparison = first.comparison;
-    let sides = text_checks::both(
-        text_checks::of_expression(other),
-        text_checks::of_expression(seen),
-    );
-    let kinded = text_checks::same(other.reference, seen.reference);
-    TestParts {
-        test: Test::When(x, comparison, second),
-        checks: text_checks::with_kinds(sides, true, kinded),
+impl TestParts {
+    // Of two sides.
+    #[tactic(auto, unfolding(text_syntax::specs::Parts::same_kind))]
+    pub fn when(first: FirstSide, seen: Summary, second: Term) -> TestParts
+        ensures { result ≡ when_parts first seen second }
+    {
+        let other = first.seen;
+        let sides = text_checks::of_expression(other).and(text_checks::of_expression(seen));
+        TestParts {
+            test: Test::When(first.term, first.comparison, second),
+            checks: sides.with_kinds(true, other.reference == seen.reference),
+        }
     }
-}
 
-// No test.
-pub fn always() -> TestParts
-    ensures { result ≡ always_parts }
-{
-    TestParts {
-        test: Test::Always,
-        checks: text_checks::nothing(),
+    // No test.
+    pub fn always() -> TestParts
+        ensures { result ≡ always_parts }
+    {
+        TestParts {
+            test: Test::Always,
+            checks: Checks::nothing(),
+        }
     }
 }

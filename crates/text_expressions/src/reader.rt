@@ -1,129 +1,124 @@
-// Expressions, operands and groups, which read each other, with a remaining depth.
-ghost use Rattle.std.specs.Prelude.{◌≤◌, length};
+// Expressions, operands and groups, which read each other, with a remaining depth. Each begins with what had been gathered
+// before, at the place and with the number of codes then.
+ghost use Rattle.std.specs.Prelude.{◌≤◌, true, length};
 ghost use Rattle.register.specs.Shape.{Limits};
-ghost use Rattle.text_syntax.specs.Grammar.{expression, minimum, operand};
+ghost use Rattle.text_syntax.specs.Grammar.{expression, operand};
 ghost use Rattle.text_terms.specs.Term.{NoTerm};
 ghost use Rattle.text_codes.specs.Codes.{Roomy};
-ghost use Rattle.text_expressions.specs.Reading.{ReadingAt};
+ghost use Rattle.text_expressions.specs.Reading.{joined_form, element_form, ReadingAt};
 
 use register::Sizes;
-use text_codes::summary;
-use text_codes::summary::Summary;
-use text_joins::{Joining, Pending, Reading};
+use text_joins::{Gathered, Joining, Pending, Unread};
+use text_places::mark::Mark;
 use text_places::place;
 use text_terms::term;
-use text_terms::term::TermRead;
-use text_words::token::Place;
 
-// The expression at `at`: what `<?` joins, joined by `+` and `-`.
-#[cycle(read_expression_read_group_read_minimum_read_operand)]
+// An expression: what `<?` joins, joined by `+` and `-`.
 pub fn read_expression(
     line: &[u8],
-    at: usize,
     sizes: Sizes,
     room: usize,
-    before: Summary,
+    before: Gathered,
     codes: &mut [u64],
-    count: usize,
-) -> Reading
-    requires limits { Limits sizes × (room ≤ 8) × (at ≤ length line.now) × (before.operators ≤ at) }
-    requires roomy { Roomy codes.old line.now at count }
-    ensures { ReadingAt expression sizes room before line.now at codes.old codes.new count result }
+) -> Result<Gathered, Unread>
+    requires limits { Limits sizes × (room ≤ 8) × (before.end ≤ length line.now) × (before.seen.operators ≤ before.end) }
+    requires roomy { Roomy codes.old line.now before.end before.used }
+    ensures { ReadingAt expression sizes room before line.now codes.old codes.new result }
+{
+    read_joined(line, sizes, room, before, codes, true)
+}
+
+// Elements joined by the operators of a rank: by `+` and `-`, or by `<?`.
+#[cycle(read_element_read_group_read_joined_read_operand)]
+fn read_joined(
+    line: &[u8],
+    sizes: Sizes,
+    room: usize,
+    before: Gathered,
+    codes: &mut [u64],
+    sums: bool,
+) -> Result<Gathered, Unread>
+    requires limits { Limits sizes × (room ≤ 8) × (before.end ≤ length line.now) × (before.seen.operators ≤ before.end) }
+    requires roomy { Roomy codes.old line.now before.end before.used }
+    ensures { ReadingAt (joined_form sums) sizes room before line.now codes.old codes.new result }
 {
     let mut next = Pending {
-        at,
-        seen: before,
-        used: count,
-        sign: 0,
+        gathered: before,
+        sign: None,
     };
     loop {
-        let seen = next.seen;
-        let i = next.at;
-        let used = next.used;
-        let read = read_minimum(line, i, sizes, room, seen, codes, used);
-        match text_joins::joined(line, codes, read, next.sign, true) {
+        let read = read_element(line, sizes, room, next.gathered, codes, sums)?;
+        match text_joins::joined(line, codes, read, next.sign, sums) {
             Joining::Next(more) => next = more,
-            Joining::Done(done) => return done,
+            Joining::Done(done) => return Ok(done),
         }
     }
 }
 
-// Operands joined by `<?`.
-#[cycle(read_expression_read_group_read_minimum_read_operand)]
-fn read_minimum(
+// What the operators of a rank join: `+` and `-` what `<?` joins, and that operands.
+#[cycle(read_element_read_group_read_joined_read_operand)]
+fn read_element(
     line: &[u8],
-    at: usize,
     sizes: Sizes,
     room: usize,
-    before: Summary,
+    before: Gathered,
     codes: &mut [u64],
-    count: usize,
-) -> Reading
-    requires limits { Limits sizes × (room ≤ 8) × (at ≤ length line.now) × (before.operators ≤ at) }
-    requires roomy { Roomy codes.old line.now at count }
-    ensures { ReadingAt minimum sizes room before line.now at codes.old codes.new count result }
+    sums: bool,
+) -> Result<Gathered, Unread>
+    requires limits { Limits sizes × (room ≤ 8) × (before.end ≤ length line.now) × (before.seen.operators ≤ before.end) }
+    requires roomy { Roomy codes.old line.now before.end before.used }
+    ensures { ReadingAt (element_form sums) sizes room before line.now codes.old codes.new result }
 {
-    let mut next = Pending {
-        at,
-        seen: before,
-        used: count,
-        sign: 0,
-    };
-    loop {
-        let seen = next.seen;
-        let i = next.at;
-        let used = next.used;
-        let read = read_operand(line, i, sizes, room, seen, codes, used);
-        match text_joins::joined(line, codes, read, next.sign, false) {
-            Joining::Next(more) => next = more,
-            Joining::Done(done) => return done,
-        }
+    if sums {
+        return read_joined(line, sizes, room, before, codes, false);
     }
+    read_operand(line, sizes, room, before, codes)
 }
 
 // A term or a group.
-#[cycle(read_expression_read_group_read_minimum_read_operand)]
+#[cycle(read_element_read_group_read_joined_read_operand)]
 fn read_operand(
     line: &[u8],
-    at: usize,
     sizes: Sizes,
     room: usize,
-    before: Summary,
+    before: Gathered,
     codes: &mut [u64],
-    count: usize,
-) -> Reading
-    requires limits { Limits sizes × (room ≤ 8) × (at ≤ length line.now) × (before.operators ≤ at) }
-    requires roomy { Roomy codes.old line.now at count }
-    ensures { ReadingAt operand sizes room before line.now at codes.old codes.new count result }
+) -> Result<Gathered, Unread>
+    requires limits { Limits sizes × (room ≤ 8) × (before.end ≤ length line.now) × (before.seen.operators ≤ before.end) }
+    requires roomy { Roomy codes.old line.now before.end before.used }
+    ensures { ReadingAt operand sizes room before line.now codes.old codes.new result }
 {
-    let TermRead::Parts(parts, end) = term::read_term(line, at, sizes) else {
-        return read_group(line, at, sizes, room, before, codes, count);
+    let Some((parts, end)) = term::read_term(line, before.end, sizes) else {
+        return read_group(line, sizes, room, before, codes);
     };
-    codes[count] = parts.code;
-    Reading::Read(summary::with_term(8 - room, before, parts), end, count + 1)
+    codes[before.used] = parts.code;
+    Ok(Gathered {
+        seen: before.seen.with_term(8 - room, parts),
+        end,
+        used: before.used + 1,
+    })
 }
 
 // A group, where no term stands: an expression in brackets, of which one less remains.
-#[cycle(read_expression_read_group_read_minimum_read_operand)]
+#[cycle(read_element_read_group_read_joined_read_operand)]
 fn read_group(
     line: &[u8],
-    at: usize,
     sizes: Sizes,
     room: usize,
-    before: Summary,
+    before: Gathered,
     codes: &mut [u64],
-    count: usize,
-) -> Reading
-    requires limits { Limits sizes × (room ≤ 8) × (at ≤ length line.now) × (before.operators ≤ at) }
-    requires roomy { Roomy codes.old line.now at count × NoTerm line.now at }
-    ensures { ReadingAt operand sizes room before line.now at codes.old codes.new count result }
+) -> Result<Gathered, Unread>
+    requires limits { Limits sizes × (room ≤ 8) × (before.end ≤ length line.now) × (before.seen.operators ≤ before.end) }
+    requires roomy { Roomy codes.old line.now before.end before.used × NoTerm line.now before.end }
+    ensures { ReadingAt operand sizes room before line.now codes.old codes.new result }
 {
-    let Place::At(inner) = place::mark(line, at, true, place::OPEN_ROUND) else {
-        return Reading::NoForm;
+    let Some(end) = place::mark(line, before.end, true, Mark::OpenRound) else {
+        return Err(Unread::NoForm);
     };
     if room == 0 {
-        return Reading::Deep;
+        return Err(Unread::Deep);
     }
-    let read = read_expression(line, inner, sizes, room - 1, before, codes, count);
+    let inner = Gathered { end, ..before };
+    let read = read_joined(line, sizes, room - 1, inner, codes, true);
     text_joins::close_group(line, read)
 }

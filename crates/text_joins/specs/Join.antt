@@ -1,12 +1,11 @@
 -- What is answered behind an element that operators of a rank join.
-use Rattle.std.specs.Prelude.{ℕ, ◌≤◌, ◌<◌, ◌≡◌, Bool, true, false, List, length}
+use Rattle.std.specs.Prelude.{ℕ, ◌≤◌, ◌≡◌, Bool, true, false, List, length, Option, Some, None, Result, Ok, Err}
 use Rattle.program.specs.declared.rule.Operator.{Operator}
-use Rattle.program.specs.Code.{kind_of}
 use Rattle.text_syntax.specs.Grammar.{is_sum, is_smaller, operator_form}
 use Rattle.text_syntax.specs.Flat.{with_operator}
-use Rattle.text_codes.specs.declared.summary.Summary.{Summary}
-use Rattle.text_joins.specs.declared.Reading.{Reading}
-use Rattle.text_joins.specs.declared.Reading.TheVariants.{Read, NoForm, Deep}
+use Rattle.text_joins.specs.declared.Gathered.{Gathered}
+use Rattle.text_joins.specs.declared.Unread.{Unread}
+use Rattle.text_joins.specs.declared.Unread.TheVariants.{NoForm, Deep}
 use Rattle.text_joins.specs.declared.Pending.{Pending}
 use Rattle.text_joins.specs.declared.Joining.{Joining}
 use Rattle.text_joins.specs.declared.Joining.TheVariants.{Next, Done}
@@ -14,8 +13,6 @@ use Rattle.text_codes.specs.Summary.{summary_of}
 use Rattle.text_codes.specs.Codes.{sign_codes, Wrote}
 use Rattle.text_syntax.specs.Token.{operator, closeRound}
 use Rattle.text_syntax.specs.Form.{unformed}
-use Rattle.text_places.specs.declared.place.OperatorRead.{OperatorRead}
-use Rattle.text_places.specs.declared.place.OperatorRead.TheVariants as O
 use Rattle.text_places.specs.Place.{tokens_from, Passing, Absent}
 
 -- an operator of a rank stands at a place, or none
@@ -26,9 +23,9 @@ pub record Ranked (rank : Operator → Bool) (o : Operator) (line : List ℕ) (a
 pub record Unranked (rank : Operator → Bool) (line : List ℕ) (at : ℕ) : Type 0 where
   pub none : operator_form rank (tokens_from false line at) ≡ unformed
 
-abbrev pub RankedAt : (Operator → Bool) → List ℕ → ℕ → OperatorRead → Type 0
-RankedAt rank line at (O.Operator o end) = Ranked rank o line at end
-RankedAt rank line at O.Nothing = Unranked rank line at
+abbrev pub RankedAt : (Operator → Bool) → List ℕ → ℕ → Option (Operator × ℕ) → Type 0
+RankedAt rank line at (Some (o, end)) = Ranked rank o line at end
+RankedAt rank line at None = Unranked rank line at
 
 -- the two ranks
 abbrev pub rank_of : Bool → Operator → Bool
@@ -36,57 +33,45 @@ rank_of true = is_sum
 rank_of false = is_smaller
 
 -- another operator follows
-pub record Continues (rank : Operator → Bool) (line : List ℕ) (g : Summary) (end used : ℕ) (x : Pending) : Type 0 where
+pub record Continues (rank : Operator → Bool) (line : List ℕ) (g : Gathered) (x : Pending) : Type 0 where
   pub sign : Operator
-  pub ranked : Ranked rank sign line end x.at
-  pub gathered : summary_of x.seen ≡ with_operator sign (summary_of g)
-  pub used_is : x.used ≡ used
-  pub sign_is : x.sign ≡ kind_of sign
+  pub ranked : Ranked rank sign line g.end x.gathered.end
+  pub seen_is : summary_of x.gathered.seen ≡ with_operator sign (summary_of g.seen)
+  pub used_is : x.gathered.used ≡ g.used
+  pub sign_is : x.sign ≡ Some sign
 
 -- none does
-pub record Finishes (rank : Operator → Bool) (line : List ℕ) (g : Summary) (end used : ℕ) (h : Summary) (last n : ℕ) : Type 0 where
-  pub none : Unranked rank line end
-  pub gathered : h ≡ g
-  pub end_is : last ≡ end
-  pub used_is : n ≡ used
+pub record Finishes (rank : Operator → Bool) (line : List ℕ) (g h : Gathered) : Type 0 where
+  pub none : Unranked rank line g.end
+  pub all : h ≡ g
 
--- behind an element that ends at a place
-abbrev pub NextAt : (Operator → Bool) → List ℕ → Summary → ℕ → ℕ → Joining → Type 0
-NextAt rank line g end used (Next x) = Continues rank line g end used x
-NextAt rank line g end used (Done (Read h last n)) = Finishes rank line g end used h last n
-NextAt rank line g end used (Done NoForm) = ⊥
-NextAt rank line g end used (Done Deep) = ⊥
-
--- there is room for an operator's code behind what was read
-abbrev pub ReadyFor : List ℕ → List ℕ → Reading → Type 0
-ReadyFor line codes (Read g end to) = (end ≤ length line) × (g.operators ≤ end) × (to < length codes)
-ReadyFor line codes NoForm = Unit {0}
-ReadyFor line codes Deep = Unit {0}
+-- behind an element
+abbrev pub NextAt : (Operator → Bool) → List ℕ → Gathered → Joining → Type 0
+NextAt rank line g (Next x) = Continues rank line g x
+NextAt rank line g (Done h) = Finishes rank line g h
 
 -- the operator's code was written, and then one of these
-pub record PutNext (rank : Operator → Bool) (line codes codes' : List ℕ) (sign : ℕ) (g : Summary) (end to : ℕ) (x : Joining) : Type 0 where
+pub record PutNext (rank : Operator → Bool) (line codes codes' : List ℕ) (sign : Option Operator) (g : Gathered) (x : Joining) : Type 0 where
   pub used : ℕ
-  pub put : Wrote codes codes' to used (sign_codes sign)
-  pub next : NextAt rank line g end used x
-
-abbrev pub JoinedBy : (Operator → Bool) → List ℕ → List ℕ → List ℕ → ℕ → Reading → Joining → Type 0
-JoinedBy rank line codes codes' sign (Read g end to) x = PutNext rank line codes codes' sign g end to x
-JoinedBy rank line codes codes' sign NoForm x = x ≡ Done NoForm
-JoinedBy rank line codes codes' sign Deep x = x ≡ Done Deep
-
--- the end of what was read is inside the line
-abbrev pub EndInside : List ℕ → Reading → Type 0
-EndInside line (Read g end to) = end ≤ length line
-EndInside line NoForm = Unit {0}
-EndInside line Deep = Unit {0}
+  pub put : Wrote codes codes' g.used used (sign_codes sign)
+  pub next : NextAt rank line (record g { used = used }) x
 
 -- an expression with `)` behind it
-abbrev pub GroupedAt : List ℕ → Summary → ℕ → ℕ → Reading → Type 0
-GroupedAt line g at n (Read h end to) = (h ≡ g) × (to ≡ n) × Passing false false closeRound line at end
-GroupedAt line g at n NoForm = Absent false closeRound line at
-GroupedAt line g at n Deep = ⊥
+pub record Closed (line : List ℕ) (g h : Gathered) : Type 0 where
+  pub seen_is : h.seen ≡ g.seen
+  pub used_is : h.used ≡ g.used
+  pub closes : Passing false false closeRound line g.end h.end
 
-abbrev pub GroupedBy : List ℕ → Reading → Reading → Type 0
-GroupedBy line (Read g at n) r = GroupedAt line g at n r
-GroupedBy line NoForm r = r ≡ NoForm
-GroupedBy line Deep r = r ≡ Deep
+abbrev pub GroupedAt : List ℕ → Gathered → Result Gathered Unread → Type 0
+GroupedAt line g (Ok h) = Closed line g h
+GroupedAt line g (Err NoForm) = Absent false closeRound line g.end
+GroupedAt line g (Err Deep) = ⊥
+
+abbrev pub GroupedBy : List ℕ → Result Gathered Unread → Result Gathered Unread → Type 0
+GroupedBy line (Ok g) r = GroupedAt line g r
+GroupedBy line (Err e) r = r ≡ Err e
+
+-- the end of what was gathered is inside the line
+abbrev pub EndInside : List ℕ → Result Gathered Unread → Type 0
+EndInside line (Ok g) = g.end ≤ length line
+EndInside line (Err e) = Unit {0}

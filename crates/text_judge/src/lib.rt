@@ -6,14 +6,14 @@ ghost use Rattle.register.specs.Shape.{Limits};
 ghost use Rattle.text_next.specs.Front.{CodeRoom};
 ghost use Rattle.text_judge.specs.Judged.{Judged};
 
+use text_refusals::Refusal;
 use text_rules::line::LineRead;
 use text_rules::scope::Scope;
 use text_state::state::State;
 
-// The refusal of a line, 0 where it passes; where it ends, how many codes there are behind it, and its reading.
+// A line that passes: where it ends, how many codes there are behind it, and its reading.
 #[derive(Clone, Copy)]
 pub struct Next {
-    pub refusal: u32,
     pub end: usize,
     pub used: usize,
     pub line: LineRead,
@@ -28,17 +28,16 @@ pub fn next_line(
     codes: &mut [u64],
     used: usize,
     full: bool,
-) -> Next
+) -> Result<Next, Refusal>
     requires { Limits scope.sizes × (at < length text.now) × (used ≤ at) × CodeRoom (length text.now) codes.old }
     ensures { Judged scope text.now at state full codes.old codes.new used result }
 {
     let end = text_next::line_end(text, at);
     let first = text_next::read_first(text, at, end, scope.sizes, codes, used);
-    let line = first.line;
-    Next {
-        refusal: text_refusals::refusal(state, full, line),
+    text_refusals::line_refusal(state, full, first.line)?;
+    Ok(Next {
         end,
         used: first.used,
-        line,
-    }
+        line: first.line,
+    })
 }

@@ -1,4 +1,6 @@
 -- The first token of a text, by the tests of its first byte.
+use Rattle.std.specs.Prelude.{Some, None}
+use Rattle.std.proofs.lemmas.Option.{none-some, some_pair_parts}
 use Prim.Native.Nat.{ℕ, ◌+◌, ◌-◌, ◌≤◌, ◌<◌}
 use mathlib.Core.Path.{◌≡◌, refl, sym, ap, ap₂, ◌∙◌}
 use mathlib.Core.Bool.{Bool, true, false, ◌&&◌, ◌||◌}
@@ -15,10 +17,9 @@ use Rattle.text_numerals.specs.Numeral as N
 use Rattle.text_numerals.specs.Numeral.{is_digit, NumberForm, number_form, printed_number, capped_value}
 use Rattle.text_numerals.proofs.Digits.{digit_low}
 use Rattle.text_numbers.specs.Numbers.{number_read}
-use Rattle.text_numbers.specs.declared.NumberRead.TheVariants.{Number, NoForm}
 use Rattle.text_syntax.specs.Lexing.{spelled, words, signs, First, fixed_token, number_token, first_token}
 use Rattle.text_syntax.proofs.Spellings.{letter-read}
-use Rattle.text_words.specs.Tokens.{token_code, sized_token, no_token, sized_first}
+use Rattle.text_words.specs.Tokens.{token_code, sized_first}
 use Rattle.text_words.specs.declared.token.Token.TheVariants as Token
 use Rattle.text_words.specs.declared.token.Token.TheVariants.{Letter}
 use Rattle.text_words.proofs.Tables.{first_byte}
@@ -31,7 +32,7 @@ module _ (operand : Bool) (t : List ℕ) (at : ℕ) (inside : at < length t) whe
   same_first : {f : First} → first_token operand (b ∷ drop (at + 1) t) ≡ f → first_token operand (drop at t) ≡ f
   same_first e = ap (first_token operand) (first_byte t at b inside refl) ∙ e
 
-  pub letter-first : is_capital b ≡ true → sized_token (Letter b) 1 ≡ sized_first (first_token operand (drop at t))
+  pub letter-first : is_capital b ≡ true → Some (Letter b, 1) ≡ sized_first (first_token operand (drop at t))
   unfolding sized_first token_code spelled
   letter-first h = sym (ap sized_first (same_first (letter-read operand b (drop (at + 1) t) h)))
 
@@ -55,21 +56,20 @@ module _ (operand : Bool) (t : List ℕ) (at : ℕ) (inside : at < length t) whe
       ∙ sym (same_first (let none = or-neither (is_digit b) (eqb b 45 && operand) h in rw (none.1, none.0, c)))
 
 -- a number's answer
-pub number-none : (at : ℕ) (f : NumberForm) → number_read at f ≡ NoForm → no_token ≡ sized_first (number_token f)
+pub number-none : (at : ℕ) (f : NumberForm) → number_read at f ≡ None → None ≡ sized_first (number_token f)
 unfolding number_read number_token sized_first
-number-none at (N.number negative x r) e = absurd (let z : ◌≡◌ {A = ℕ} 0 1 = cc in omega arith)
+number-none at (N.number negative x r) e = absurd (none-some _ (sym e))
 number-none at N.unformed e = refl
 
 module _ (at : ℕ) {v : ℤ} {end : ℕ} where
-  pub number-some : (f : NumberForm) → number_read at f ≡ Number v end → sized_token (Token.Number v) (end - at) ≡ sized_first (number_token f)
+  pub number-some : (f : NumberForm) → number_read at f ≡ Some (v, end) → Some (Token.Number v, end - at) ≡ sized_first (number_token f)
   unfolding number_read number_token sized_first token_code spelled
   number-some (N.number negative x r) e =
-      let value : capped_value negative x ≡ v = cc in
-      let place : at + length (printed_number negative x) ≡ end = cc in
-      ap₂ (λ (z : ℤ) (n : ℕ). sized_token (Token.Number z) n) (sym value) (omega arith)
-  number-some N.unformed e = absurd (let z : ◌≡◌ {A = ℕ} 0 1 = cc in omega arith)
+      let both = some_pair_parts _ _ _ _ e in
+      ap₂ (λ (z : ℤ) (n : ℕ). Some (Token.Number z, n)) (sym both.0) (omega (arith, both.1))
+  number-some N.unformed e = absurd (none-some _ e)
 
-  pub number_onward : (f : NumberForm) → number_read at f ≡ Number v end → at ≤ end
+  pub number_onward : (f : NumberForm) → number_read at f ≡ Some (v, end) → at ≤ end
   unfolding number_read
-  number_onward (N.number negative x r) e = let place : at + length (printed_number negative x) ≡ end = cc in omega arith
-  number_onward N.unformed e = absurd (let z : ◌≡◌ {A = ℕ} 0 1 = cc in omega arith)
+  number_onward (N.number negative x r) e = omega (arith, (some_pair_parts _ _ _ _ e).1)
+  number_onward N.unformed e = absurd (none-some _ e)

@@ -1,7 +1,8 @@
 -- What the lexer's answer says of the tokens of the line: the token read, and the tokens from the next place on.
+use Rattle.std.specs.Prelude.{Some, None}
+use Rattle.std.proofs.lemmas.Option.{none-some, some_pair_parts}
 use Prim.Native.Nat.{ℕ, ◌+◌, ◌-◌, ◌≤◌, ◌<◌}
 use mathlib.Core.Path.{◌≡◌, refl, sym, ap, ap₂, subst, ◌∙◌}
-use mathlib.Core.Logic.{◌≢◌}
 use mathlib.Core.Bool.{Bool}
 use mathlib.Core.List.{List, [], ◌∷◌}
 use native.Mathlib.Omega.{arith}
@@ -18,7 +19,6 @@ use Rattle.text_words.specs.Tokens.{token_code, sized_first}
 use Rattle.text_lexer.specs.Lexeme.{next_place, placed, lexeme, first_code, Reads, Lexed}
 use Rattle.text_words.specs.declared.token.Token.{Token}
 use Rattle.text_words.specs.declared.token.Token.TheVariants.{Unknown, LineEnd}
-use Rattle.text_words.specs.declared.token.SizedToken.{SizedToken}
 use Rattle.text_lexer.specs.declared.lexer.Lexeme.{Lexeme}
 
 -- a text that is not at its end
@@ -46,41 +46,41 @@ module _ (operand : Bool) (t : List ℕ) (at : ℕ) {k : S.Token} {r : List ℕ}
       omega (arith, ap length (first_began operand (drop at t) read).text, length-append (spelled k) r, length-drop at t)
 
 -- the answer, by the token at `at` and its size
-module _ (operand : Bool) (t : List ℕ) (at : ℕ) (inside : at < length t) {x : SizedToken} (read : x ≡ sized_first (first_token operand (drop at t))) where
+module _ (operand : Bool) (t : List ℕ) (at : ℕ) (inside : at < length t) where
   answer : lexeme operand at (drop at t) ≡ placed at (drop at t) (first_token operand (drop at t))
   answer = lexeme-some operand at (drop at t) (omega (arith, length-drop at t))
 
-  pub lexeme_unknown : x.size ≡ 0 → record { token = Unknown; end = length t } ≡ lexeme operand at (drop at t)
+  pub lexeme_unknown : sized_first (first_token operand (drop at t)) ≡ None → record { token = Unknown; end = length t } ≡ lexeme operand at (drop at t)
   unfolding placed sized_first
   lexeme_unknown z = go (first_token operand (drop at t)) refl
     where
       go : (f : First) → first_token operand (drop at t) ≡ f → record { token = Unknown; end = length t } ≡ lexeme operand at (drop at t)
       go none e = ap (λ (n : ℕ). record { token = Unknown; end = n }) (omega (arith, length-drop at t)) ∙ sym (answer ∙ ap (placed at (drop at t)) e)
-      go (first k r) e = absurd (omega (arith, first-size operand t at e, ap (λ (y : SizedToken). y.size) (read ∙ ap sized_first e)))
+      go (first k r) e = absurd (none-some _ (sym z ∙ ap sized_first e))
 
-  pub sized_inside : at + x.size ≤ length t
-  unfolding sized_first
-  sized_inside = go (first_token operand (drop at t)) refl
-    where
-      go : (f : First) → first_token operand (drop at t) ≡ f → at + x.size ≤ length t
-      go none e = omega (arith, ap (λ (y : SizedToken). y.size) (read ∙ ap sized_first e))
-      go (first k r) e = omega (arith, first-inside operand t at e (omega arith), ap (λ (y : SizedToken). y.size) (read ∙ ap sized_first e))
+  module _ {c : Token} {size : ℕ} (read : sized_first (first_token operand (drop at t)) ≡ Some (c, size)) where
+    pub sized_inside : at + size ≤ length t
+    unfolding sized_first
+    sized_inside = go (first_token operand (drop at t)) refl
+      where
+        go : (f : First) → first_token operand (drop at t) ≡ f → at + size ≤ length t
+        go none e = absurd (none-some _ (sym (ap sized_first e) ∙ read))
+        go (first k r) e =
+            omega (arith, first-inside operand t at e (omega arith), (some_pair_parts _ _ _ _ (sym (ap sized_first e) ∙ read)).1)
 
-  pub lexeme-known : {end : ℕ} → x.size ≢ 0 → end ≡ next_place (at + x.size) (drop (at + x.size) t)
-      → record { token = x.token; end = end } ≡ lexeme operand at (drop at t)
-  unfolding placed sized_first
-  lexeme-known {end} z q = go (first_token operand (drop at t)) refl
-    where
-      go : (f : First) → first_token operand (drop at t) ≡ f → record { token = x.token; end = end } ≡ lexeme operand at (drop at t)
-      go none e = absurd (z (ap (λ (y : SizedToken). y.size) (read ∙ ap sized_first e)))
-      go (first k r) e =
-          let same = read ∙ ap sized_first e in
-          let place : end ≡ next_place (at + length (spelled k)) r =
-          q
-          ∙ ap (λ (n : ℕ). next_place (at + n) (drop (at + n) t)) (ap (λ (y : SizedToken). y.size) same)
-          ∙ ap (next_place (at + length (spelled k))) (sym (first_rest operand t at e)) in
-          ap₂ (λ (c : Token) (n : ℕ). record { token = c; end = n }) (ap (λ (y : SizedToken). y.token) same) place
-          ∙ sym (answer ∙ ap (placed at (drop at t)) e)
+    pub lexeme-known : {end : ℕ} → end ≡ next_place (at + size) (drop (at + size) t) → record { token = c; end = end } ≡ lexeme operand at (drop at t)
+    unfolding placed sized_first
+    lexeme-known {end} q = go (first_token operand (drop at t)) refl
+      where
+        go : (f : First) → first_token operand (drop at t) ≡ f → record { token = c; end = end } ≡ lexeme operand at (drop at t)
+        go none e = absurd (none-some _ (sym (ap sized_first e) ∙ read))
+        go (first k r) e =
+            let same = some_pair_parts _ _ _ _ (sym (ap sized_first e) ∙ read) in
+            let place : end ≡ next_place (at + length (spelled k)) r =
+            q
+            ∙ ap (λ (n : ℕ). next_place (at + n) (drop (at + n) t)) (sym same.1)
+            ∙ ap (next_place (at + length (spelled k))) (sym (first_rest operand t at e)) in
+            ap₂ (λ (d : Token) (n : ℕ). record { token = d; end = n }) (sym same.0) place ∙ sym (answer ∙ ap (placed at (drop at t)) e)
 
 -- the next place stands inside the text, and is not before
 place_inside : (t : List ℕ) (at : ℕ) (r : List ℕ) → at ≤ length t → length r ≡ length t - at → next_place at r ≤ length t

@@ -5,40 +5,36 @@ ghost use Rattle.text_syntax.specs.Lexing.{first_token, number_token};
 ghost use Rattle.text_words.specs.Tokens.{sized_first};
 ghost use Rattle.text_lexer.specs.Lexeme.{next_place, lexeme};
 
-use chain_text::{letters, text};
-use text_numbers::NumberRead;
-use text_words::token::{SizedToken, Token};
-use text_words::word;
+use chain_text::letters;
+use text_words::token::Token;
 
-// A token and the place of the next one.
+// A token and the place of the next one. The end of the line and what is no token are tokens here, and no `None`, since the
+// readers tell the two apart in one `match`.
 #[derive(Clone, Copy)]
 pub struct Lexeme {
     pub token: Token,
     pub end: usize,
 }
 
-// The number at `at`, if one stands there.
-fn number_at(line: &[u8], at: usize) -> SizedToken
+// The number at `at`, if one stands there, and the number of its bytes.
+fn number_at(line: &[u8], at: usize) -> Option<(Token, usize)>
     requires { at ≤ length line.now }
     ensures { result ≡ sized_first (number_token (number_form (drop at line.now))) }
 {
-    let NumberRead::Number(value, end) = text_numbers::read_number(line, at) else {
-        return word::sized(Token::Unknown, 0);
-    };
-    word::sized(Token::Number(value), end - at)
+    let (value, end) = text_numbers::read_number(line, at)?;
+    Some((Token::Number(value), end - at))
 }
 
-// The token at `at`, if one stands there: where an operand must begin, a minus belongs to a number.
-fn first_token(line: &[u8], at: usize, operand: bool) -> SizedToken
+// The token at `at`, if one stands there, and the number of its bytes: where an operand must begin, a minus belongs to a number.
+fn first_token(line: &[u8], at: usize, operand: bool) -> Option<(Token, usize)>
     requires { at < length line.now }
     ensures { result ≡ sized_first (first_token operand (drop at line.now)) }
 {
     let b = line[at];
     if letters::is_capital(b) {
-        return word::sized(Token::Letter(b), 1);
+        return Some((Token::Letter(b), 1));
     }
-    let digit = (b'0' <= b) & (b <= b'9');
-    if digit | ((b == b'-') & operand) {
+    if b.is_ascii_digit() | ((b == b'-') & operand) {
         return number_at(line, at);
     }
     text_signs::sign_at(line, at)
@@ -49,14 +45,10 @@ pub fn skip_spaces(line: &[u8], at: usize) -> usize
     requires { at ≤ length line.now }
     ensures { result ≡ next_place at (drop at line.now) }
 {
-    let mut i = at;
-    while text::starts_with(line, i, b' ') {
-        i += 1;
+    match line[at..].iter().position(|b| *b != b' ') {
+        Some(spaces) => at + spaces,
+        None => at,
     }
-    if i == line.len() {
-        return at;
-    }
-    i
 }
 
 // The token at `at`, where an operand must begin or not, and the place of the next one. Behind what is no token the line
@@ -72,15 +64,12 @@ pub fn next_token(line: &[u8], at: usize, operand: bool) -> Lexeme
             end: at,
         };
     }
-    let read = first_token(line, at, operand);
-    let token = read.token;
-    let size = read.size;
-    if size == 0 {
+    let Some((token, size)) = first_token(line, at, operand) else {
         return Lexeme {
             token: Token::Unknown,
             end: length,
         };
-    }
+    };
     Lexeme {
         token,
         end: skip_spaces(line, at + size),

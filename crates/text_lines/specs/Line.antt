@@ -1,5 +1,6 @@
 -- What the line reader answers.
-use Rattle.std.specs.Prelude.{ℕ, ◌+◌, ◌≤◌, ◌≡◌, true, false, cond, List, length}
+use Rattle.std.specs.Prelude.{ℕ, ◌+◌, ◌≤◌, ◌≡◌, true, false, cond, List, length, Option, Some, None}
+use Rattle.std.proofs.Math.Option.{none}
 use Rattle.register.specs.declared.Sizes.{Sizes}
 use Rattle.chain_text.specs.Text.{names, letter_field}
 use Rattle.program.specs.declared.rule.Test.{Test}
@@ -30,15 +31,15 @@ abbrev pub no_parts : ℕ → LineParts
 no_parts count = record { line = NoForm; used = count }
 
 -- a line that is one word, and a loop's field, by the tokens behind the first
-unfoldable pub word_read : LineRead → List Token → LineRead
-word_read word ts = cond (is_empty ts) word NoForm
+unfoldable pub word_read : LineRead → ℕ → List Token → Option LineParts
+word_read word count ts = cond (is_empty ts) (Some (record { line = word; used = count })) None
 
-unfoldable pub loop_field : Sizes → Form ℕ → LineRead
-loop_field s unformed = NoForm
-loop_field s (formed f r) = word_read (Loop (letter_field f) (names s f)) r
+unfoldable pub loop_field : Sizes → ℕ → Form ℕ → Option LineParts
+loop_field s count unformed = None
+loop_field s count (formed f r) = word_read (Loop (letter_field f) (names s f)) count r
 
-unfoldable pub loop_read : Sizes → List Token → LineRead
-loop_read s ts = loop_field s (one_of letter_in ts)
+unfoldable pub loop_read : Sizes → ℕ → List Token → Option LineParts
+loop_read s count ts = loop_field s count (one_of letter_in ts)
 
 -- a test in the array is the written one; the codes of its terms stand from..to
 pub record TestHeld (b : List ℕ) (from to : ℕ) (c : Condition) (t : Test) : Type 0 where
@@ -64,19 +65,28 @@ pub record LineAt (s : Sizes) (line : List ℕ) (at : ℕ) (form : Form Line) (a
   pub more_codes : from ≤ r.used
   pub few_codes : r.used + at ≤ count + length line
 
+-- no line of that form, which uses up the tokens
+pub record NoLine (form : Form Line) : Type 0 where
+  pub none : whole form ≡ none
+
+-- the same of a line whose form may fail
+abbrev pub FormAt : Sizes → List ℕ → ℕ → Form Line → List ℕ → List ℕ → ℕ → ℕ → Option LineParts → Type 0
+FormAt s line at form a b from count (Some r) = LineAt s line at form a b from count r
+FormAt s line at form a b from count None = NoLine form
+
 -- behind a test, for every written test that it is: its codes stand from..count, of arrays whose codes before `from` were those of o
-abbrev pub RuledBehind : Sizes → List ℕ → ℕ → TestParts → List ℕ → List ℕ → ℕ → LineParts → Type 0
+abbrev pub RuledBehind : Sizes → List ℕ → ℕ → TestParts → List ℕ → List ℕ → ℕ → Option LineParts → Type 0
 RuledBehind s line at t a b count r =
     (c : Condition) (o : List ℕ) (from : ℕ) → from ≤ count → t.checks ≡ condition_checks s c
     → (all_pass t.checks ≡ true → TestHeld a from count c t.test × SameBelow o a from)
-    → LineAt s line at (rule_form c (tokens_from false line at)) o b from count r
+    → FormAt s line at (rule_form c (tokens_from false line at)) o b from count r
 
 -- behind a first side and its comparison, the same way
-abbrev pub ComparedBehind : Sizes → List ℕ → ℕ → FirstSide → List ℕ → List ℕ → ℕ → LineParts → Type 0
+abbrev pub ComparedBehind : Sizes → List ℕ → ℕ → FirstSide → List ℕ → List ℕ → ℕ → Option LineParts → Type 0
 ComparedBehind s line at x a b count r =
     (e : Expression) (o : List ℕ) (from : ℕ) → from ≤ count → summary_of x.seen ≡ F.summary s e
     → (all_pass (summary_checks x.seen) ≡ true → Holds a from count e x.term × SameBelow o a from)
-    → LineAt s line at (compared_form e x.comparison (tokens_from true line at)) o b from count r
+    → FormAt s line at (compared_form e x.comparison (tokens_from true line at)) o b from count r
 
 -- behind `if`
 unfoldable pub tested_behind : List Token → Form Line

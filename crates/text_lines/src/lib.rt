@@ -1,4 +1,4 @@
-// The line reader: it takes the next token by `let .. else` and refuses the line otherwise (7).
+// The line reader: each part answers an Option of what it reads, and `?` refuses the line (7).
 #![tactic(auto)]
 
 pub mod line;

@@ -5,22 +5,19 @@ ghost use Rattle.text_syntax.specs.Lexing.{tokens};
 ghost use Rattle.text_syntax.specs.Grammar.{any_form};
 ghost use Rattle.text_places.specs.Place.{tokens_from};
 ghost use Rattle.text_codes.specs.Codes.{Roomy};
-ghost use Rattle.text_lines.specs.Line.{no_parts, word_read, loop_read, RuledBehind, ComparedBehind, tested_behind, LineAt};
+ghost use Rattle.text_lines.specs.Line.{no_parts, word_read, loop_read, RuledBehind, ComparedBehind, tested_behind, LineAt, FormAt};
 
 use chain_text::letters;
 use program::rule::Slot;
 use register::Sizes;
 use text_actions::action;
-use text_actions::action::ActionRead;
-use text_demands::test;
 use text_demands::test::{FirstSide, TestParts};
 use text_lexer::lexer;
-use text_places::word::{ComparisonRead, LetterRead};
+use text_places::mark::Mark;
 use text_places::{place, word};
 use text_rules::line::LineRead;
 use text_sides::side;
-use text_sides::side::SideRead;
-use text_words::token::{Place, Token};
+use text_words::token::Token;
 
 // A line and the number of codes behind it.
 #[derive(Clone, Copy)]
@@ -29,40 +26,42 @@ pub struct LineParts {
     pub used: usize,
 }
 
-fn no_form(count: usize) -> LineParts
-    ensures { result ≡ no_parts count }
-{
-    LineParts {
-        line: LineRead::NoForm,
-        used: count,
+impl LineParts {
+    // No line of document 01, behind `count` codes.
+    pub fn no_form(count: usize) -> LineParts
+        ensures { result ≡ no_parts count }
+    {
+        LineParts {
+            line: LineRead::NoForm,
+            used: count,
+        }
     }
 }
 
-// A line that is one word.
-fn word_line(line: &[u8], at: usize, word: LineRead) -> LineRead
+// A line that is one word, behind which it ends.
+#[tactic(auto, unfolding(crate::specs::Line::word_read))]
+fn word_line(line: &[u8], at: usize, word: LineRead, count: usize) -> Option<LineParts>
     requires { at ≤ length line.now }
-    ensures { result ≡ word_read word (tokens_from false line.now at) }
+    ensures { result ≡ word_read word count (tokens_from false line.now at) }
 {
-    if word::ends(line, at) {
-        return word;
+    if !word::ends(line, at) {
+        return None;
     }
-    LineRead::NoForm
+    Some(LineParts {
+        line: word,
+        used: count,
+    })
 }
 
 // The field of a loop, behind `loop`.
-fn read_loop(line: &[u8], at: usize, sizes: Sizes) -> LineRead
+fn read_loop(line: &[u8], at: usize, sizes: Sizes, count: usize) -> Option<LineParts>
     requires { Limits sizes × (at ≤ length line.now) }
-    ensures { result ≡ loop_read sizes (tokens_from false line.now at) }
+    ensures { result ≡ loop_read sizes count (tokens_from false line.now at) }
 {
-    let LetterRead::Letter(letter, end) = word::letter(line, at) else {
-        return LineRead::NoForm;
-    };
+    let (letter, end) = word::letter(line, at)?;
     let field = letters::field_of(letter);
-    word_line(
-        line,
-        end,
-        LineRead::Loop(field, letters::names_field(sizes, letter)),
-    )
+    let named = letters::names_field(sizes, letter);
+    word_line(line, end, LineRead::Loop(field, named), count)
 }
 
 // The rule at `at`, behind its test.
@@ -73,20 +72,19 @@ fn read_ruled(
     sizes: Sizes,
     codes: &mut [u64],
     count: usize,
-) -> LineParts
+) -> Option<LineParts>
     requires { Limits sizes × (at ≤ length line.now) × Roomy codes.old line.now at count × (length codes.old ≤ 65536) }
     ensures { RuledBehind sizes line.now at test codes.old codes.new count result }
 {
-    let ActionRead::Action(rule, asked, used) = action::read(line, at, sizes, codes, count) else {
-        return no_form(count);
+    let action = action::read(line, at, sizes, codes, count)?;
+    let slot = Slot {
+        test: test.test,
+        rule: action.rule,
     };
-    let own = test.test;
-    let slot = Slot { test: own, rule };
-    let before = test.checks;
-    LineParts {
-        line: LineRead::Rule(slot, text_checks::both(before, asked)),
-        used,
-    }
+    Some(LineParts {
+        line: LineRead::Rule(slot, test.checks.and(action.checks)),
+        used: action.used,
+    })
 }
 
 // `Y:` and a rule, behind `if X <`.
@@ -97,38 +95,53 @@ fn read_compared(
     sizes: Sizes,
     codes: &mut [u64],
     count: usize,
-) -> LineParts
+) -> Option<LineParts>
     requires { Limits sizes × (at ≤ length line.now) × Roomy codes.old line.now at count × (length codes.old ≤ 65536) }
     ensures { ComparedBehind sizes line.now at first codes.old codes.new count result }
 {
-    let SideRead::Side(seen, term, end, used) = side::read(line, at, sizes, codes, count) else {
-        return no_form(count);
-    };
-    let Place::At(start) = place::mark(line, end, false, place::COLON) else {
-        return no_form(count);
-    };
-    let test = test::when(first, seen, term);
-    read_ruled(line, start, test, sizes, codes, used)
+    let second = side::read(line, at, sizes, codes, count)?;
+    let start = place::mark(line, second.end, false, Mark::Colon)?;
+    let test = TestParts::when(first, second.seen, second.term);
+    read_ruled(line, start, test, sizes, codes, second.used)
 }
 
 // A test and a rule, behind `if`.
-fn read_tested(line: &[u8], at: usize, sizes: Sizes, codes: &mut [u64], count: usize) -> LineParts
+fn read_tested(
+    line: &[u8],
+    at: usize,
+    sizes: Sizes,
+    codes: &mut [u64],
+    count: usize,
+) -> Option<LineParts>
     requires { Limits sizes × (at ≤ length line.now) × Roomy codes.old line.now at count × (length codes.old ≤ 65536) }
-    ensures { LineAt sizes line.now at (tested_behind (tokens_from true line.now at))
+    ensures { FormAt sizes line.now at (tested_behind (tokens_from true line.now at))
         codes.old codes.new count count result }
 {
-    let SideRead::Side(seen, term, end, used) = side::read(line, at, sizes, codes, count) else {
-        return no_form(count);
-    };
-    let ComparisonRead::Compared(comparison, start) = word::comparison(line, end) else {
-        return no_form(count);
-    };
+    let side = side::read(line, at, sizes, codes, count)?;
+    let (comparison, start) = word::comparison(line, side.end)?;
     let first = FirstSide {
-        seen,
-        term,
+        seen: side.seen,
+        term: side.term,
         comparison,
     };
-    read_compared(line, start, first, sizes, codes, used)
+    read_compared(line, start, first, sizes, codes, side.used)
+}
+
+// A line by its first token, where it has a form.
+fn read_form(line: &[u8], sizes: Sizes, codes: &mut [u64], count: usize) -> Option<LineParts>
+    requires { Limits sizes × Roomy codes.old line.now 0 count × (length codes.old ≤ 65536) }
+    ensures { FormAt sizes line.now 0 (any_form (tokens line.now)) codes.old codes.new count count result }
+{
+    let first = lexer::next_token(line, 0, false);
+    let end = first.end;
+    match first.token {
+        Token::Step => word_line(line, end, LineRead::Step, count),
+        Token::End => word_line(line, end, LineRead::End, count),
+        Token::Done => word_line(line, end, LineRead::Done, count),
+        Token::Loop => read_loop(line, end, sizes, count),
+        Token::If => read_tested(line, end, sizes, codes, count),
+        _ => read_ruled(line, 0, TestParts::always(), sizes, codes, count),
+    }
 }
 
 // A line without its byte 10, the codes of its expressions written from `count` on.
@@ -136,23 +149,8 @@ pub fn read_line(line: &[u8], sizes: Sizes, codes: &mut [u64], count: usize) -> 
     requires { Limits sizes × Roomy codes.old line.now 0 count × (length codes.old ≤ 65536) }
     ensures { LineAt sizes line.now 0 (any_form (tokens line.now)) codes.old codes.new count count result }
 {
-    let first = lexer::next_token(line, 0, false);
-    let token = first.token;
-    let end = first.end;
-    let read = match token {
-        Token::Step => word_line(line, end, LineRead::Step),
-        Token::End => word_line(line, end, LineRead::End),
-        Token::Done => word_line(line, end, LineRead::Done),
-        Token::Loop => read_loop(line, end, sizes),
-        Token::If => {
-            return read_tested(line, end, sizes, codes, count);
-        }
-        _ => {
-            return read_ruled(line, 0, test::always(), sizes, codes, count);
-        }
-    };
-    LineParts {
-        line: read,
-        used: count,
+    match read_form(line, sizes, codes, count) {
+        Some(read) => read,
+        None => LineParts::no_form(count),
     }
 }

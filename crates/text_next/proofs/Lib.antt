@@ -1,2 +1,3 @@
 -- Laws of the definitions of `specs/`, for the proofs here and in the crates above.
+pub mod Ends
 pub mod Fronts

@@ -1,8 +1,8 @@
 -- The first line of a text: what stands before its first byte 10, its form, and what is read of it.
-use Rattle.std.specs.Prelude.{ℕ, ◌≤◌, Bool, cond, List, ltb, length}
+use Rattle.std.specs.Prelude.{ℕ, ◌≤◌, cond, List, ltb, length}
 use Rattle.std.proofs.Math.Option.{Option, none}
 use Rattle.register.specs.declared.Sizes.{Sizes}
-use Rattle.text_numerals.specs.Span.{starts, span}
+use Rattle.text_numerals.specs.Span.{span}
 use Rattle.text_syntax.specs.Lexing.{tokens}
 use Rattle.text_syntax.specs.Written.{Line}
 use Rattle.text_syntax.specs.Grammar.{line_form}
@@ -11,10 +11,7 @@ use Rattle.text_rules.specs.LineRead.{Reads}
 use Rattle.text_lines.specs.Line.{Leaves}
 use Rattle.text_lines.specs.declared.line.LineParts.{LineParts}
 
--- whether a line goes on: the text begins with a byte other than 10
-abbrev pub line_goes_on : List ℕ → Bool
-line_goes_on t = starts is_within t
-
+-- the bytes before the first byte 10
 abbrev pub line_bytes : List ℕ → List ℕ
 line_bytes t = span is_within t
 

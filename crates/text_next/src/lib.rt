@@ -3,33 +3,21 @@
 
 ghost use Rattle.std.specs.Prelude.{◌≡◌, ◌+◌, ◌≤◌, ◌<◌, length, drop};
 ghost use Rattle.register.specs.Shape.{Limits};
-ghost use Rattle.text_next.specs.Front.{line_goes_on, line_bytes, first_form, CodeRoom, LineNext};
+ghost use Rattle.text_next.specs.Front.{line_bytes, first_form, CodeRoom, LineNext};
 
 use register::Sizes;
 use text_lines::line;
 use text_lines::line::LineParts;
-use text_rules::line::LineRead;
-
-// Whether the line goes on at `at`: neither byte 10 nor the end of the text stands there.
-fn goes_on(text: &[u8], at: usize) -> bool
-    ensures { result ≡ line_goes_on (drop at text.now) }
-{
-    if text.len() <= at {
-        return false;
-    }
-    text[at] != b'\n'
-}
 
 // Where the line that begins at `at` ends: at its byte 10, or at the end of the text.
 pub fn line_end(text: &[u8], at: usize) -> usize
     requires { at ≤ length text.now }
     ensures { result ≡ at + length (line_bytes (drop at text.now)) }
 {
-    let mut i = at;
-    while goes_on(text, i) {
-        i += 1;
+    match text[at..].iter().position(|b| *b == b'\n') {
+        Some(bytes) => at + bytes,
+        None => text.len(),
     }
-    i
 }
 
 // The line from `at` to `end`, the codes of its expressions written from `count` on; "a last line without byte 10" has no
@@ -47,10 +35,7 @@ pub fn read_first(
     ensures { LineNext sizes (first_form (drop at text.now)) end codes.old codes.new count result }
 {
     if text.len() <= end {
-        return LineParts {
-            line: LineRead::NoForm,
-            used: count,
-        };
+        return LineParts::no_form(count);
     }
     line::read_line(&text[at..end], sizes, codes, count)
 }

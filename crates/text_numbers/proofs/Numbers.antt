@@ -1,5 +1,6 @@
 -- What the reader of numbers answers.
-use Prim.Native.Nat.{ℕ, ◌+◌, ◌-◌, ◌≤◌}
+use Rattle.std.specs.Prelude.{Some, None}
+use Prim.Native.Nat.{ℕ, ◌+◌, ◌-◌, ◌≤◌, ◌<◌}
 use mathlib.Core.Path.{◌≡◌, refl, sym, ap, ap₂, ◌∙◌}
 use mathlib.Core.Logic.{◌≢◌}
 use mathlib.Core.Bool.{and-true, Bool, true, false, cond, not, ◌&&◌, ◌||◌}
@@ -9,22 +10,30 @@ use native.Mathlib.Decide.{dec_le}
 use borrow.Author.Tests.{eqb-true, eqb-false, eq-eqb, ne_eqb, lt-ltb, lt-leb}
 use lib.Dec.{ltb, eqb}
 use lib.IntN.{ℤ, pos, neg_ℤ, ◌-ℤ◌, +ℤ_idl}
-use lib.ListN.{length, get_or, drop, length-append}
+use lib.ListN.{length, get_or, take, drop, length-append}
+use Rattle.std.proofs.lemmas.Grind.{common_steps}
 use lib.Seq.{drop-drop}
 use mir.Syntax.{w64}
 use mir.Val.{SFits, to_z}
 use mir.Facts.{to_z_pos}
 use Rattle.integers.specs.Range.{in_range, sum_of}
-use Rattle.integers.specs.declared.Sum.TheVariants.{OutOfRange}
 use Rattle.chain_text.specs.Scan.{starts_with}
 use Rattle.chain_text.proofs.Scanning.{first-at}
-use Rattle.text_numerals.specs.Numeral.{is_digit, digits, decimal, Numeral, whole, metres, printed_numeral, all_digits, whole_digits, centimetres, no_leading_zero, two_decimals, is_numeral, with_decimals, numeral, NumberForm, number, unformed, signed_form, number_form, signed_text, printed_number, signed_value, number_value, capped, capped_value}
+use Rattle.text_numerals.specs.Numeral.{is_digit, starts_digit, digits, decimal, Numeral, whole, metres, printed_numeral, all_digits, whole_digits, centimetres, no_leading_zero, two_decimals, is_numeral, with_decimals, numeral, NumberForm, number, unformed, signed_form, number_form, signed_text, printed_number, signed_value, number_value, capped, capped_value}
 use Rattle.text_numbers.specs.Numbers.{ReadsDigits, ReadsNumeral, digits_read, number_read}
 use Rattle.text_numbers.specs.declared.Digits.{Digits}
 use Rattle.text_numbers.specs.declared.Figures.{Figures}
-use Rattle.text_numbers.specs.declared.NumberRead.TheVariants.{Number, NoForm}
+use Rattle.text_numerals.proofs.Spans.{starts-within}
 use Rattle.text_numerals.proofs.Digits.{capped_small, capped_large, capped-decimal, decimal-append}
 use Rattle.text_numerals.proofs.Numerals.{numeral-whole, whole-bound}
+
+-- a byte of the line from `at` on, and whether it is a digit
+module _ (t : List ℕ) (at i : ℕ) (inside : at + i < length t) where
+  pub slice-byte : get_or (take (length t - at) (drop at t)) i 0 ≡ get_or t (at + i) 0
+  slice-byte = grind (arith, common_steps)
+
+  pub slice-digit : is_digit (get_or (take (length t - at) (drop at t)) i 0) ≡ starts_digit (drop (at + i) t)
+  slice-digit = ap is_digit slice-byte ∙ sym (starts-within is_digit t (at + i) inside)
 
 -- the two cases of `numeral`
 module _ (t : List ℕ) where
@@ -166,12 +175,12 @@ numeral-empty negative t h = rw (numeral-whole t, go (digits t) h)
 
 -- the reader's answers
 module _ (at : ℕ) (negative : Bool) (t : List ℕ) where
-  pub read_unformed : is_numeral negative (numeral t) ≡ false → digits_read at (signed_form negative t) ≡ NoForm
+  pub read_unformed : is_numeral negative (numeral t) ≡ false → digits_read at (signed_form negative t) ≡ None
   unfolding digits_read
   read_unformed h = ap (digits_read at) (signed_unformed negative t h)
 
   pub read-formed : is_numeral negative (numeral t) ≡ true
-      → digits_read at (signed_form negative t) ≡ Number (signed_value negative (capped (centimetres (numeral t)))) (at + length (printed_numeral (numeral t)))
+      → digits_read at (signed_form negative t) ≡ Some (signed_value negative (capped (centimetres (numeral t))), at + length (printed_numeral (numeral t)))
   unfolding digits_read capped_value
   read-formed h = ap (digits_read at) (signed_formed negative t h)
 
@@ -183,7 +192,7 @@ read-minus at t h = go (is_numeral true (numeral (drop 1 t))) ∙ sym (ap (numbe
     formed = number true (numeral (drop 1 t)) (drop (length (printed_numeral (numeral (drop 1 t)))) (drop 1 t))
 
     go : (x : Bool) → digits_read (at + 1) (cond x formed unformed) ≡ number_read at (cond x formed unformed)
-    go true = ap (Number (capped_value true (numeral (drop 1 t)))) (omega arith)
+    go true = ap (λ (n : ℕ). Some (capped_value true (numeral (drop 1 t)), n)) (omega arith)
     go false = refl
 
 pub read_plain : (at : ℕ) (t : List ℕ) → starts_with 45 t ≡ false → digits_read at (signed_form false t) ≡ number_read at (number_form t)
@@ -213,7 +222,7 @@ unfolding signed_value
 plain_value n h = to_z_pos w64 (omega arith)
 
 -- capping changes neither whether a number is in range nor the value of one that is
-out_of_range : (negative : Bool) (n : ℕ) → 2147483649 ≤ n → sum_of (signed_value negative n) ≡ OutOfRange
+out_of_range : (negative : Bool) (n : ℕ) → 2147483649 ≤ n → sum_of (signed_value negative n) ≡ None
 unfolding signed_value sum_of in_range
 out_of_range true ℕ.zero h = absurd (omega arith)
 out_of_range true (ℕ.suc n) h = simp (lt-leb n 2147483647 (omega arith))

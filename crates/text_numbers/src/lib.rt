@@ -2,26 +2,10 @@
 #![tactic(auto)]
 
 ghost use Rattle.std.specs.Prelude.{◌≡◌, true, ◌+◌, ◌-◌, ◌*◌, ◌≤◌, length, drop};
-ghost use Rattle.text_numerals.specs.Numeral.{is_digit, starts_digit, is_numeral, numeral, capped, signed_value, number_form, signed_form};
+ghost use Rattle.text_numerals.specs.Numeral.{is_digit, is_numeral, numeral, capped, signed_value, number_form, signed_form};
 ghost use Rattle.text_numbers.specs.Numbers.{ReadsDigits, ReadsNumeral, digits_read, number_read};
 
 use chain_text::text;
-
-fn is_digit(b: u8) -> bool
-    ensures { result ≡ is_digit b }
-{
-    (b'0' <= b) & (b <= b'9')
-}
-
-// Whether a digit stands at `at`.
-fn digit_at(line: &[u8], at: usize) -> bool
-    ensures { result ≡ starts_digit (drop at line.now) }
-{
-    if line.len() <= at {
-        return false;
-    }
-    is_digit(line[at])
-}
 
 // One more digit behind a number.
 fn with_digit(n: u64, b: u8) -> u64
@@ -29,7 +13,7 @@ fn with_digit(n: u64, b: u8) -> u64
     ensures { result ≡ capped (10 * n + (b - 48)) }
 {
     let next = 10 * n + (b - b'0') as u64;
-    if next < 2147483649 { next } else { 2147483649 }
+    next.min(2147483649)
 }
 
 // What digits write, and the place behind them. Any value from 2,147,483,649 on counts as that one, out of range all the same.
@@ -45,12 +29,16 @@ fn digits_at(line: &[u8], at: usize, n: u64) -> Digits
     ensures { ReadsDigits at n (drop at line.now) result }
 {
     let mut value = n;
-    let mut i = at;
-    while digit_at(line, i) {
-        value = with_digit(value, line[i]);
-        i += 1;
+    for (i, b) in line[at..].iter().enumerate() {
+        if !b.is_ascii_digit() {
+            return Digits { value, end: at + i };
+        }
+        value = with_digit(value, *b);
     }
-    Digits { value, end: i }
+    Digits {
+        value,
+        end: line.len(),
+    }
 }
 
 // What a numeral writes, in centimetres and capped as its digits are; the place behind its digits before a point; and the
@@ -105,33 +93,24 @@ fn signed_value(negative: bool, n: u64) -> i64
     requires { n ≤ 2147483649 }
     ensures { result ≡ signed_value negative n }
 {
-    if negative {
-        return 0 - n as i64;
-    }
-    n as i64
+    let value = n as i64;
+    if negative { -value } else { value }
 }
 
-// A number, capped as its digits are, and the place behind it; or no number stands there.
-#[derive(Clone, Copy)]
-pub enum NumberRead {
-    Number(i64, usize),
-    NoForm,
-}
-
-// The number whose digits stand from `at` on, behind a minus or not.
-fn signed_digits(line: &[u8], at: usize, negative: bool) -> NumberRead
+// The number whose digits stand from `at` on, behind a minus or not: capped as its digits are, and the place behind it.
+fn signed_digits(line: &[u8], at: usize, negative: bool) -> Option<(i64, usize)>
     requires { at ≤ length line.now }
     ensures { result ≡ digits_read at (signed_form negative (drop at line.now)) }
 {
     let figures = numeral_at(line, at);
     if !is_numeral(line, at, figures, negative) {
-        return NumberRead::NoForm;
+        return None;
     }
-    NumberRead::Number(signed_value(negative, figures.value), figures.end)
+    Some((signed_value(negative, figures.value), figures.end))
 }
 
-// The number at `at`.
-pub fn read_number(line: &[u8], at: usize) -> NumberRead
+// The number at `at`, capped as its digits are, and the place behind it.
+pub fn read_number(line: &[u8], at: usize) -> Option<(i64, usize)>
     requires { at ≤ length line.now }
     ensures { result ≡ number_read at (number_form (drop at line.now)) }
 {

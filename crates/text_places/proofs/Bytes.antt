@@ -1,5 +1,7 @@
 -- Tokens of one byte: they are read by that byte, and stand nowhere else.
-use Prim.Native.Nat.{ℕ, zero, suc, ◌+◌, ◌-◌, ◌≤◌, ◌<◌}
+use Rattle.std.specs.Prelude.{Some, Option as StdOption}
+use Rattle.std.proofs.lemmas.Option.{none-some, same_Some}
+use Prim.Native.Nat.{ℕ, ◌+◌, ◌≤◌, ◌<◌}
 use mathlib.Core.Path.{◌≡◌, refl, sym, ap, subst, ◌∙◌}
 use mathlib.Core.Logic.{◌≢◌}
 use mathlib.Core.Bool.{Bool, true, false}
@@ -25,6 +27,8 @@ use Rattle.text_syntax.proofs.Lexing.{first_began, tokens-first, tokens_none, to
 use Rattle.text_words.proofs.Tables.{first_byte}
 use Rattle.text_lexer.specs.Lexeme.{next_place}
 use Rattle.text_lexer.proofs.Lexemes.{byte_tokens, byte_onward}
+use Rattle.text_places.specs.declared.mark.Mark.{Mark}
+use Rattle.text_places.specs.declared.mark.Mark.TheVariants as M
 use Rattle.text_places.specs.Place.{begins, mark_token, mark_byte, Passing, Absent}
 use Rattle.text_places.specs.Word.{Lettered, NoLetter}
 use Rattle.text_places.proofs.Places.{letter-capital}
@@ -42,56 +46,18 @@ record OneByte (b : ℕ) (k : S.Token) : Type 0 where
   read : (due : Bool) (r : List ℕ) → first_token due (b ∷ r) ≡ first k r
   bytes_are : spelled k ≡ b ∷ []
 
-mark_byte_lem : (n : ℕ) → 7 ≤ n → n ≤ 13 → mark_byte n ≢ 0 → OneByte (mark_byte n) (mark_token n)
+one_byte : {a b : ℕ} {k : S.Token} → OneByte a k → ◌≡◌ {A = StdOption ℕ} (Some a) (Some b) → OneByte b k
+one_byte {k = k} w e = subst (λ (c : ℕ). OneByte c k) (same_Some _ _ e) w
+
+mark_byte_lem : (m : Mark) {b : ℕ} → mark_byte m ≡ Some b → OneByte b (mark_token m)
 unfolding first_token is_digit is_capital fixed_token words signs spelled opens_with
-mark_byte_lem n l h =
-    let e : n - 7 + 7 ≡ n = omega (arith, l) in
-    subst (λ (k : ℕ). mark_byte k ≢ 0 → OneByte (mark_byte k) (mark_token k)) e (go (n - 7) (omega (arith, h)))
-  where
-    go : (m : ℕ) → m ≤ 6 → mark_byte (m + 7) ≢ 0 → OneByte (mark_byte (m + 7)) (mark_token (m + 7))
-    go zero h b = record { read = λ due r. refl; bytes_are = refl }
-    go (suc zero) h b = absurd (b refl)
-    go (suc (suc zero)) h b = absurd (b refl)
-    go (suc (suc (suc zero))) h b = record { read = λ due r. refl; bytes_are = refl }
-    go (suc (suc (suc (suc zero)))) h b = record { read = λ due r. refl; bytes_are = refl }
-    go (suc (suc (suc (suc (suc zero))))) h b = record { read = λ due r. refl; bytes_are = refl }
-    go (suc (suc (suc (suc (suc (suc zero)))))) h b = record { read = λ due r. refl; bytes_are = refl }
-    go (suc (suc (suc (suc (suc (suc (suc m))))))) h b = absurd (omega (arith, h))
-
--- the numbers of the others
-abbrev pub NoByte : ℕ → Type 0
-NoByte n = ((((Unit {0} × (n ≢ 7)) × (n ≢ 10)) × (n ≢ 11)) × (n ≢ 12)) × (n ≢ 13)
-
-pub no_byte : (n : ℕ) → 7 ≤ n → n ≤ 13 → NoByte n → 0 ≡ mark_byte n
-no_byte n l h other =
-    let e : n - 7 + 7 ≡ n = omega (arith, l) in
-    subst (λ (k : ℕ). NoByte k → 0 ≡ mark_byte k) e (go (n - 7) (omega (arith, h))) other
-  where
-    go : (m : ℕ) → m ≤ 6 → NoByte (m + 7) → 0 ≡ mark_byte (m + 7)
-    go zero h o = absurd (o.0.0.0.0.1 refl)
-    go (suc zero) h o = refl
-    go (suc (suc zero)) h o = refl
-    go (suc (suc (suc zero))) h o = absurd (o.0.0.0.1 refl)
-    go (suc (suc (suc (suc zero)))) h o = absurd (o.0.0.1 refl)
-    go (suc (suc (suc (suc (suc zero))))) h o = absurd (o.0.1 refl)
-    go (suc (suc (suc (suc (suc (suc zero)))))) h o = absurd (o.1 refl)
-    go (suc (suc (suc (suc (suc (suc (suc m))))))) h o = absurd (omega (arith, h))
-
--- `:=` and `:` have none
-pub byte_none : (n : ℕ) → 7 ≤ n → n ≤ 13 → mark_byte n ≡ 0 → (8 ≤ n) × (n ≤ 9)
-byte_none n l h =
-    let e : n - 7 + 7 ≡ n = omega (arith, l) in
-    subst (λ (k : ℕ). mark_byte k ≡ 0 → (8 ≤ k) × (k ≤ 9)) e (go (n - 7) (omega (arith, h)))
-  where
-    go : (m : ℕ) → m ≤ 6 → mark_byte (m + 7) ≡ 0 → (8 ≤ m + 7) × (m + 7 ≤ 9)
-    go zero h b = absurd (omega (arith, b))
-    go (suc zero) h b = (omega arith, omega arith)
-    go (suc (suc zero)) h b = (omega arith, omega arith)
-    go (suc (suc (suc zero))) h b = absurd (omega (arith, b))
-    go (suc (suc (suc (suc zero)))) h b = absurd (omega (arith, b))
-    go (suc (suc (suc (suc (suc zero))))) h b = absurd (omega (arith, b))
-    go (suc (suc (suc (suc (suc (suc zero)))))) h b = absurd (omega (arith, b))
-    go (suc (suc (suc (suc (suc (suc (suc m))))))) h b = absurd (omega (arith, h))
+mark_byte_lem M.Own e = one_byte (record { read = λ due r. refl; bytes_are = refl }) e
+mark_byte_lem M.Becomes e = absurd (none-some _ e)
+mark_byte_lem M.Colon e = absurd (none-some _ e)
+mark_byte_lem M.OpenSquare e = one_byte (record { read = λ due r. refl; bytes_are = refl }) e
+mark_byte_lem M.CloseSquare e = one_byte (record { read = λ due r. refl; bytes_are = refl }) e
+mark_byte_lem M.OpenRound e = one_byte (record { read = λ due r. refl; bytes_are = refl }) e
+mark_byte_lem M.CloseRound e = one_byte (record { read = λ due r. refl; bytes_are = refl }) e
 
 -- a text of which a token is the first begins with its bytes
 pub token_text : {A : Type 0} (due : Bool) (s : List ℕ) (k : S.Token) (ks : List S.Token) → tokens_at due s ≡ k ∷ ks → k ≢ S.unknown
@@ -111,31 +77,28 @@ unfolding spelled
 known w e = absurd (omega (arith, ap length (sym w.bytes_are ∙ ap spelled e)))
 
 -- a mark at a place, by its byte b
-one_byte_lem : (n : ℕ) → 7 ≤ n → n ≤ 13 → {b : ℕ} → b ≡ mark_byte n → b ≢ 0 → OneByte b (mark_token n)
-one_byte_lem n l h byte full = subst (λ (a : ℕ). OneByte a (mark_token n)) (sym byte) (mark_byte_lem n l h (λ e. full (byte ∙ e)))
-
-module _ {due : Bool} {line : List ℕ} {at : ℕ} (n : ℕ) (l : 7 ≤ n) (h : n ≤ 13) {b : ℕ} (byte : b ≡ mark_byte n) (full : b ≢ 0) where
+module _ {due : Bool} {line : List ℕ} {at : ℕ} (m : Mark) {b : ℕ} (byte : mark_byte m ≡ Some b) where
   pub byte_passed : starts_with b (drop at line) ≡ true → {end : ℕ} → end ≡ next_place (at + 1) (drop (at + 1) line)
-      → Passing due (operand_behind (mark_token n)) (mark_token n) line at end
+      → Passing due (operand_behind (mark_token m)) (mark_token m) line at end
   byte_passed starts place =
       let inside = starts-inside line at b starts in
       let text = first_byte line at b inside (eqb-true _ b (sym (starts-within line at b inside) ∙ starts)) in
-      byte_passing due line at inside place text ((one_byte_lem n l h byte full).read due _)
+      byte_passing due line at inside place text ((mark_byte_lem m byte).read due _)
 
-  pub byte_absent : starts_with b (drop at line) ≡ false → Absent due (mark_token n) line at
+  pub byte_absent : starts_with b (drop at line) ≡ false → Absent due (mark_token m) line at
   unfolding begins starts_with
   byte_absent starts = record { absent = go (tokens_at due (drop at line)) refl }
     where
-      found : (k : S.Token) (ks : List S.Token) → tokens_at due (drop at line) ≡ k ∷ ks → (y : Bool) → is (mark_token n) k ≡ y → y ≡ false
+      found : (k : S.Token) (ks : List S.Token) → tokens_at due (drop at line) ≡ k ∷ ks → (y : Bool) → is (mark_token m) k ≡ y → y ≡ false
       found k ks e true q =
-          let same = is_true (mark_token n) k q in
-          token_text due (drop at line) (mark_token n) ks (e ∙ ap (λ (j : S.Token). j ∷ ks) same) (known (one_byte_lem n l h byte full))
-          (λ r text. true_false (rw (text, (one_byte_lem n l h byte full).bytes_are) (eq-eqb b b refl)) starts)
+          let same = is_true (mark_token m) k q in
+          token_text due (drop at line) (mark_token m) ks (e ∙ ap (λ (j : S.Token). j ∷ ks) same) (known (mark_byte_lem m byte))
+          (λ r text. true_false (rw (text, (mark_byte_lem m byte).bytes_are) (eq-eqb b b refl)) starts)
       found k ks e false q = refl
 
-      go : (ts : List S.Token) → tokens_at due (drop at line) ≡ ts → begins (mark_token n) ts ≡ false
+      go : (ts : List S.Token) → tokens_at due (drop at line) ≡ ts → begins (mark_token m) ts ≡ false
       go [] e = refl
-      go (k ∷ ks) e = found k ks e (is (mark_token n) k) refl
+      go (k ∷ ks) e = found k ks e (is (mark_token m) k) refl
 
 -- a capital at a place
 module _ (due : Bool) (line : List ℕ) (at : ℕ) where

@@ -1,5 +1,7 @@
 -- What one token of a line says of the tokens from its place on.
-use Prim.Native.Nat.{ℕ, zero, suc, ◌+◌, ◌-◌, ◌≤◌}
+use Rattle.std.specs.Prelude.{Some}
+use Rattle.std.proofs.lemmas.Option.{none-some, same_Some}
+use Prim.Native.Nat.{ℕ}
 use mathlib.Core.Path.{◌≡◌, refl, sym, ap, subst, ◌∙◌}
 use mathlib.Core.Logic.{◌≢◌}
 use mathlib.Core.Bool.{Bool, true, false, cond, not, ◌&&◌}
@@ -27,7 +29,9 @@ use Rattle.text_words.specs.declared.token.Token.{Token}
 use Rattle.text_words.specs.declared.token.Token.TheVariants.{Step, End, Done, Loop, If, Remote, Own, Letter, Number, Becomes, Colon, Write, Operator, Compared, OpenSquare, CloseSquare, OpenRound, CloseRound, Unknown, LineEnd}
 use Rattle.text_lexer.specs.declared.lexer.Lexeme.{Lexeme}
 use Rattle.text_words.specs.contracts.token.Token.{the_type}
-use Rattle.text_places.specs.Place.{tokens_from, Behind, begins, mark_token, colon_number, Passing, Absent}
+use Rattle.text_places.specs.Place.{tokens_from, Behind, begins, mark_token, code_mark, Passing, Absent}
+use Rattle.text_places.specs.declared.mark.Mark.{Mark}
+use Rattle.text_places.specs.declared.mark.Mark.TheVariants as M
 
 pub behind-behind : {line : List ℕ} {at i end : ℕ} → Behind line at i → Behind line i end → Behind line at end
 behind-behind v w = record { onward = omega (arith, v.onward, w.onward); inside = w.inside }
@@ -72,79 +76,60 @@ module _ {due : Bool} {line : List ℕ} {at : ℕ} {x : Lexeme} (w : Lexed due l
       go [] e = refl
       go (k ∷ r) e = found k r e (f (kind k)) refl
 
--- `:=` or `:`, by its number
-colon_read : (k : Token) {n : ℕ} (ts : List S.Token) (rest : Bool → List S.Token) → 8 ≤ n → colon_number k ≡ n → Reads k ts rest
-    → ts ≡ mark_token n ∷ rest (operand_behind (mark_token n))
-unfolding colon_number operand_behind
-colon_read Becomes ts rest l e h = rw (sym e) h
-colon_read Colon ts rest l e h = rw (sym e) h
-colon_read Step ts rest l e h = absurd (omega (arith, l, e))
-colon_read End ts rest l e h = absurd (omega (arith, l, e))
-colon_read Done ts rest l e h = absurd (omega (arith, l, e))
-colon_read Loop ts rest l e h = absurd (omega (arith, l, e))
-colon_read If ts rest l e h = absurd (omega (arith, l, e))
-colon_read Remote ts rest l e h = absurd (omega (arith, l, e))
-colon_read Own ts rest l e h = absurd (omega (arith, l, e))
-colon_read (Letter v) ts rest l e h = absurd (omega (arith, l, e))
-colon_read (Number v) ts rest l e h = absurd (omega (arith, l, e))
-colon_read (Write k) ts rest l e h = absurd (omega (arith, l, e))
-colon_read (Operator o) ts rest l e h = absurd (omega (arith, l, e))
-colon_read (Compared c) ts rest l e h = absurd (omega (arith, l, e))
-colon_read OpenSquare ts rest l e h = absurd (omega (arith, l, e))
-colon_read CloseSquare ts rest l e h = absurd (omega (arith, l, e))
-colon_read OpenRound ts rest l e h = absurd (omega (arith, l, e))
-colon_read CloseRound ts rest l e h = absurd (omega (arith, l, e))
-colon_read Unknown ts rest l e h = absurd (omega (arith, l, e))
-colon_read LineEnd ts rest l e h = absurd (omega (arith, l, e))
+-- a token that is a mark
+marked : (k : Token) {m : Mark} → code_mark k ≡ Some m → k ≡ token_code (mark_token m)
+unfolding token_code
+marked Own e = ap (λ (m : Mark). token_code (mark_token m)) (same_Some _ _ e)
+marked Becomes e = ap (λ (m : Mark). token_code (mark_token m)) (same_Some _ _ e)
+marked Colon e = ap (λ (m : Mark). token_code (mark_token m)) (same_Some _ _ e)
+marked OpenSquare e = ap (λ (m : Mark). token_code (mark_token m)) (same_Some _ _ e)
+marked CloseSquare e = ap (λ (m : Mark). token_code (mark_token m)) (same_Some _ _ e)
+marked OpenRound e = ap (λ (m : Mark). token_code (mark_token m)) (same_Some _ _ e)
+marked CloseRound e = ap (λ (m : Mark). token_code (mark_token m)) (same_Some _ _ e)
+marked Step e = absurd (none-some _ e)
+marked End e = absurd (none-some _ e)
+marked Done e = absurd (none-some _ e)
+marked Loop e = absurd (none-some _ e)
+marked If e = absurd (none-some _ e)
+marked Remote e = absurd (none-some _ e)
+marked (Letter v) e = absurd (none-some _ e)
+marked (Number v) e = absurd (none-some _ e)
+marked (Write k) e = absurd (none-some _ e)
+marked (Operator o) e = absurd (none-some _ e)
+marked (Compared c) e = absurd (none-some _ e)
+marked Unknown e = absurd (none-some _ e)
+marked LineEnd e = absurd (none-some _ e)
 
--- the numbers of the other variants
-abbrev pub other_tags : List ℕ
-other_tags = 0 ∷ 1 ∷ 2 ∷ 3 ∷ 4 ∷ 5 ∷ 6 ∷ 7 ∷ 8 ∷ 11 ∷ 12 ∷ 13 ∷ 14 ∷ 15 ∷ 16 ∷ 17 ∷ 18 ∷ 19 ∷ []
+mark_code : (m : Mark) → code_mark (token_code (mark_token m)) ≡ Some m
+unfolding token_code
+mark_code M.Own = refl
+mark_code M.Becomes = refl
+mark_code M.Colon = refl
+mark_code M.OpenSquare = refl
+mark_code M.CloseSquare = refl
+mark_code M.OpenRound = refl
+mark_code M.CloseRound = refl
 
-pub colon_other : (k : Token) → k ≢ Becomes → k ≢ Colon → 0 ≡ colon_number k
-unfolding colon_number
-colon_other Becomes n m = absurd (n refl)
-colon_other Colon n m = absurd (m refl)
-colon_other Step n m = refl
-colon_other End n m = refl
-colon_other Done n m = refl
-colon_other Loop n m = refl
-colon_other If n m = refl
-colon_other Remote n m = refl
-colon_other Own n m = refl
-colon_other (Letter v) n m = refl
-colon_other (Number v) n m = refl
-colon_other (Write k) n m = refl
-colon_other (Operator o) n m = refl
-colon_other (Compared c) n m = refl
-colon_other OpenSquare n m = refl
-colon_other CloseSquare n m = refl
-colon_other OpenRound n m = refl
-colon_other CloseRound n m = refl
-colon_other Unknown n m = refl
-colon_other LineEnd n m = refl
+mark_reads : (m : Mark) {ts : List S.Token} (rest : Bool → List S.Token) → Reads (token_code (mark_token m)) ts rest
+    → ts ≡ mark_token m ∷ rest (operand_behind (mark_token m))
+unfolding token_code operand_behind
+mark_reads M.Own rest r = r
+mark_reads M.Becomes rest r = r
+mark_reads M.Colon rest r = r
+mark_reads M.OpenSquare rest r = r
+mark_reads M.CloseSquare rest r = r
+mark_reads M.OpenRound rest r = r
+mark_reads M.CloseRound rest r = r
 
-colon_number_lem : (n : ℕ) → 8 ≤ n → n ≤ 9 → colon_number (token_code (mark_token n)) ≡ n
-unfolding colon_number token_code
-colon_number_lem n l h =
-    let e : n - 8 + 8 ≡ n = omega (arith, l) in
-    subst (λ (k : ℕ). colon_number (token_code (mark_token k)) ≡ k) e (go (n - 8) (omega (arith, h)))
-  where
-    go : (m : ℕ) → m ≤ 1 → colon_number (token_code (mark_token (m + 8))) ≡ m + 8
-    go zero h = refl
-    go (suc zero) h = refl
-    go (suc (suc m)) h = absurd (omega (arith, h))
-
-module _ {due : Bool} {line : List ℕ} {at : ℕ} {x : Lexeme} (w : Lexed due line at x) (n : ℕ) (l : 8 ≤ n) where
-  pub colon_passed : colon_number x.token ≡ n → Passing due (operand_behind (mark_token n)) (mark_token n) line at x.end
-  unfolding colon_number
-  colon_passed e = record {
-    text = colon_read x.token _ (λ o. tokens_from o line x.end) l e w.reads;
-    behind = record { onward = w.onward (λ q. omega (arith, l, e, ap colon_number q)); inside = w.inside };
+module _ {due : Bool} {line : List ℕ} {at : ℕ} {x : Lexeme} (w : Lexed due line at x) (m : Mark) where
+  pub mark_passed : code_mark x.token ≡ Some m → Passing due (operand_behind (mark_token m)) (mark_token m) line at x.end
+  mark_passed e = record {
+    text = mark_reads m (λ o. tokens_from o line x.end) (passed w (marked x.token e));
+    behind = record { onward = w.onward (λ q. none-some m (sym (ap code_mark q) ∙ e)); inside = w.inside };
   }
 
-  pub colon_absent : n ≤ 9 → colon_number x.token ≢ n → Absent due (mark_token n) line at
-  colon_absent h e = absent w (mark_token n) (λ q. e (ap colon_number q ∙ colon_number_lem n l h))
+  pub mark_absent : code_mark x.token ≢ Some m → Absent due (mark_token m) line at
+  mark_absent n = absent w (mark_token m) (λ q. n (ap code_mark q ∙ mark_code m))
 
 pub past-absent : {A : Type 0} (w : S.Token) (ts : List S.Token) (f : List S.Token → Form A) → begins w ts ≡ false → past w ts f ≡ unformed
 unfolding past begins

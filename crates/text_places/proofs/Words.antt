@@ -1,4 +1,5 @@
 -- The end of a line, and `[u] :=` in it, by its tokens.
+use Rattle.std.specs.Prelude.{Option, None, Some}
 use Prim.Native.Nat.compare
 use Prim.Native.Nat.{ℕ, zero, suc, ◌≤◌}
 use mathlib.Core.Path.{◌≡◌, refl, sym, ap, ◌∙◌}
@@ -14,8 +15,6 @@ use Rattle.text_syntax.specs.Token.{own, becomes, openSquare, closeSquare}
 use Rattle.text_syntax.specs.Kind.{kind, letter_in, fixed_in, same, is}
 use Rattle.text_syntax.specs.Form.{held, one_of, past, then}
 use Rattle.text_syntax.specs.Grammar.{local_form}
-use Rattle.text_words.specs.declared.token.Place.{Place}
-use Rattle.text_words.specs.declared.token.Place.TheVariants.{At, Nothing}
 use Rattle.text_places.specs.Place.{Passing, Absent, Passes}
 use Rattle.text_places.proofs.Places.{past-absent}
 use Rattle.text_places.specs.Word.{is_empty, NotAssigned, PassesAssigned}
@@ -52,10 +51,10 @@ module _ {line : List ℕ} {at : ℕ} where
   not-closed o u h = record { none = λ f. rw (o.text, u.text) (past-absent closeSquare _ _ h.absent) }
 
   pub assigns : {i j k : ℕ} → Passing false false openSquare line at i → Passing false false own line i j → Passing false false closeSquare line j k
-      → (r : Place) → Passes false true becomes line k r → PassesAssigned line at r
+      → (r : Option ℕ) → Passes false true becomes line k r → PassesAssigned line at r
   unfolding local_form one_of held letter_in kind then past is same fixed_in
-  assigns o u c (At end) b = record {
+  assigns o u c (Some end) b = record {
     text = o.text ∙ rw (u.text, c.text, b.text);
     behind = record { onward = omega (arith, o.behind.onward, u.behind.onward, c.behind.onward, b.behind.onward); inside = b.behind.inside };
   }
-  assigns o u c Nothing h = record { none = λ f. rw (o.text, u.text, c.text) (past-absent becomes _ _ h.absent) }
+  assigns o u c None h = record { none = λ f. rw (o.text, u.text, c.text) (past-absent becomes _ _ h.absent) }

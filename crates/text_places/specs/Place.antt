@@ -1,15 +1,15 @@
 -- Places of a line, by the tokens from there on.
-use Rattle.std.specs.Prelude.{ℕ, ◌-◌, ◌≤◌, ◌<◌, ◌≡◌, Bool, true, false, List, [], ◌∷◌, length, get_or, drop}
-use Rattle.text_syntax.specs.Token.{Token, own, becomes, colon, operator, openSquare, closeSquare, openRound, closeRound, unknown}
-use Rattle.text_syntax.specs.Kind.{is, operator_in}
+use Rattle.std.specs.Prelude.{ℕ, ◌≤◌, ◌<◌, ◌≡◌, Bool, true, false, List, [], ◌∷◌, length, drop, Option, Some, None}
+use Rattle.std.proofs.Math.Option.{Option as Maybe}
+use Rattle.text_syntax.specs.Token.{Token, own, becomes, colon, operator, openSquare, closeSquare, openRound, closeRound}
+use Rattle.text_syntax.specs.Kind.{Kind, is, operator_in}
 use Rattle.text_syntax.specs.Lexing.{tokens_at}
 use Rattle.text_syntax.specs.Form.{unformed, one_of}
 use Rattle.text_words.specs.declared.token.Token.{Token as Code}
 use Rattle.text_words.specs.declared.token.Token.TheVariants as C
-use Rattle.text_words.specs.declared.token.Place.{Place}
-use Rattle.text_words.specs.declared.token.Place.TheVariants.{At, Nothing}
-use Rattle.text_places.specs.declared.place.OperatorRead.{OperatorRead}
-use Rattle.text_places.specs.declared.place.OperatorRead.TheVariants.{Operator, Nothing as NoSign}
+use Rattle.program.specs.declared.rule.Operator.{Operator}
+use Rattle.text_places.specs.declared.mark.Mark.{Mark}
+use Rattle.text_places.specs.declared.mark.Mark.TheVariants as M
 
 -- the tokens of a line from a place on, where an operand is due or not
 abbrev pub tokens_from : Bool → List ℕ → ℕ → List Token
@@ -25,36 +25,48 @@ unfoldable pub begins : Token → List Token → Bool
 begins w [] = false
 begins w (t ∷ r) = is w t
 
--- `u`, `:=`, `:` and brackets by their numbers, which are those of their kinds
-abbrev pub mark_token : ℕ → Token
-mark_token n = get_or (own ∷ becomes ∷ colon ∷ openSquare ∷ closeSquare ∷ openRound ∷ closeRound ∷ []) (n - 7) unknown
+-- the token that a mark stands for
+abbrev pub mark_token : Mark → Token
+mark_token M.Own = own
+mark_token M.Becomes = becomes
+mark_token M.Colon = colon
+mark_token M.OpenSquare = openSquare
+mark_token M.CloseSquare = closeSquare
+mark_token M.OpenRound = openRound
+mark_token M.CloseRound = closeRound
 
--- the byte of `u` or of a bracket by its number, 0 for `:=` and `:`
-abbrev pub mark_byte : ℕ → ℕ
-mark_byte n = get_or (117 ∷ 0 ∷ 0 ∷ 91 ∷ 93 ∷ 40 ∷ 41 ∷ []) (n - 7) 0
+-- the byte of `u` or of a bracket, none for `:=` and `:`
+abbrev pub mark_byte : Mark → Option ℕ
+mark_byte M.Own = Some 117
+mark_byte M.Becomes = None
+mark_byte M.Colon = None
+mark_byte M.OpenSquare = Some 91
+mark_byte M.CloseSquare = Some 93
+mark_byte M.OpenRound = Some 40
+mark_byte M.CloseRound = Some 41
 
--- the number of `:=` or `:` as the code has it, 0 for every other token
-unfoldable pub colon_number : Code → ℕ
-colon_number C.Step = 0
-colon_number C.End = 0
-colon_number C.Done = 0
-colon_number C.Loop = 0
-colon_number C.If = 0
-colon_number C.Remote = 0
-colon_number C.Own = 0
-colon_number (C.Letter l) = 0
-colon_number (C.Number v) = 0
-colon_number C.Becomes = 8
-colon_number C.Colon = 9
-colon_number (C.Write k) = 0
-colon_number (C.Operator o) = 0
-colon_number (C.Compared c) = 0
-colon_number C.OpenSquare = 0
-colon_number C.CloseSquare = 0
-colon_number C.OpenRound = 0
-colon_number C.CloseRound = 0
-colon_number C.Unknown = 0
-colon_number C.LineEnd = 0
+-- the mark that a token is as the code has it, none for every other token
+abbrev pub code_mark : Code → Option Mark
+code_mark C.Step = None
+code_mark C.End = None
+code_mark C.Done = None
+code_mark C.Loop = None
+code_mark C.If = None
+code_mark C.Remote = None
+code_mark C.Own = Some M.Own
+code_mark (C.Letter l) = None
+code_mark (C.Number v) = None
+code_mark C.Becomes = Some M.Becomes
+code_mark C.Colon = Some M.Colon
+code_mark (C.Write k) = None
+code_mark (C.Operator o) = None
+code_mark (C.Compared c) = None
+code_mark C.OpenSquare = Some M.OpenSquare
+code_mark C.CloseSquare = Some M.CloseSquare
+code_mark C.OpenRound = Some M.OpenRound
+code_mark C.CloseRound = Some M.CloseRound
+code_mark C.Unknown = None
+code_mark C.LineEnd = None
 
 -- the token w stands at a place, where an operand is due or not, before another place
 pub record Passing (due then : Bool) (w : Token) (line : List ℕ) (at end : ℕ) : Type 0 where
@@ -65,14 +77,21 @@ pub record Passing (due then : Bool) (w : Token) (line : List ℕ) (at end : ℕ
 pub record Absent (due : Bool) (w : Token) (line : List ℕ) (at : ℕ) : Type 0 where
   pub absent : begins w (tokens_from due line at) ≡ false
 
-abbrev pub Passes : Bool → Bool → Token → List ℕ → ℕ → Place → Type 0
-Passes due then w line at (At end) = Passing due then w line at end
-Passes due then w line at Nothing = Absent due w line at
+abbrev pub Passes : Bool → Bool → Token → List ℕ → ℕ → Option ℕ → Type 0
+Passes due then w line at (Some end) = Passing due then w line at end
+Passes due then w line at None = Absent due w line at
 
--- no operator stands there
-pub record NoOperator (line : List ℕ) (at : ℕ) : Type 0 where
-  pub none : one_of operator_in (tokens_from false line at) ≡ unformed
+-- no token of a kind stands there
+pub record NoneOf {A : Type 0} (kinds : Kind → Maybe A) (line : List ℕ) (at : ℕ) : Type 0 where
+  pub none : one_of kinds (tokens_from false line at) ≡ unformed
 
-abbrev pub PassesOperator : List ℕ → ℕ → OperatorRead → Type 0
-PassesOperator line at (Operator o end) = Passing false true (operator o) line at end
-PassesOperator line at NoSign = NoOperator line at
+-- a token of a kind stands there, and an operand is due behind it; or none does
+abbrev pub PassesOne : {A : Type 0} → (Kind → Maybe A) → (A → Token) → List ℕ → ℕ → Option (A × ℕ) → Type 0
+PassesOne kinds token line at (Some (a, end)) = Passing false true (token a) line at end
+PassesOne kinds token line at None = NoneOf kinds line at
+
+abbrev pub NoOperator : List ℕ → ℕ → Type 0
+NoOperator = NoneOf operator_in
+
+abbrev pub PassesOperator : List ℕ → ℕ → Option (Operator × ℕ) → Type 0
+PassesOperator = PassesOne operator_in operator

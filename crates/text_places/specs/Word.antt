@@ -1,19 +1,13 @@
 -- Single tokens at a place of a line.
-use Rattle.std.specs.Prelude.{ℕ, ◌≡◌, Bool, true, false, List, [], ◌∷◌}
+use Rattle.std.specs.Prelude.{ℕ, ◌≡◌, Bool, true, false, List, [], ◌∷◌, Option, Some, None}
 use Rattle.chain_text.specs.Text.{is_capital}
 use Rattle.text_syntax.specs.Token.{Token, letter, write, comparison, own, becomes, openSquare, closeSquare}
 use Rattle.text_syntax.specs.Kind.{letter_in, write_in, comparison_in}
 use Rattle.text_syntax.specs.Form.{unformed, one_of}
 use Rattle.text_syntax.specs.Grammar.{local_form}
-use Rattle.text_words.specs.declared.token.Place.{Place}
-use Rattle.text_words.specs.declared.token.Place.TheVariants.{At, Nothing}
-use Rattle.text_places.specs.Place.{tokens_from, Behind, Passing}
-use Rattle.text_places.specs.declared.word.LetterRead.{LetterRead}
-use Rattle.text_places.specs.declared.word.LetterRead.TheVariants.{Letter, Nothing as NoLetterRead}
-use Rattle.text_places.specs.declared.word.WriteRead.{WriteRead}
-use Rattle.text_places.specs.declared.word.WriteRead.TheVariants.{Write, Nothing as NoWriteRead}
-use Rattle.text_places.specs.declared.word.ComparisonRead.{ComparisonRead}
-use Rattle.text_places.specs.declared.word.ComparisonRead.TheVariants.{Compared, Nothing as NoComparisonRead}
+use Rattle.program.specs.declared.rule.Sort.{Sort}
+use Rattle.program.specs.declared.rule.Comparison.{Comparison}
+use Rattle.text_places.specs.Place.{tokens_from, Behind, Passing, NoneOf, PassesOne}
 
 -- a capital stands at a place, where an operand is due or not, or none
 pub record Lettered (due : Bool) (l : ℕ) (line : List ℕ) (at end : ℕ) : Type 0 where
@@ -23,28 +17,26 @@ pub record Lettered (due : Bool) (l : ℕ) (line : List ℕ) (at end : ℕ) : Ty
 pub record NoLetter (due : Bool) (line : List ℕ) (at : ℕ) : Type 0 where
   pub none : one_of letter_in (tokens_from due line at) ≡ unformed
 
-abbrev pub PassesLetter : Bool → List ℕ → ℕ → LetterRead → Type 0
-PassesLetter due line at (Letter l end) = Lettered due l line at end
-PassesLetter due line at NoLetterRead = NoLetter due line at
+abbrev pub PassesLetter : Bool → List ℕ → ℕ → Option (ℕ × ℕ) → Type 0
+PassesLetter due line at (Some (l, end)) = Lettered due l line at end
+PassesLetter due line at None = NoLetter due line at
 
 -- a capital is a token whether an operand is due or not
-abbrev pub LetterAt : List ℕ → ℕ → LetterRead → Type 0
+abbrev pub LetterAt : List ℕ → ℕ → Option (ℕ × ℕ) → Type 0
 LetterAt line at r = (due : Bool) → PassesLetter due line at r
 
 -- `<?=` or `+=`; `<`, `==` or `!=`
-pub record NoWrite (line : List ℕ) (at : ℕ) : Type 0 where
-  pub none : one_of write_in (tokens_from false line at) ≡ unformed
+abbrev pub NoWrite : List ℕ → ℕ → Type 0
+NoWrite = NoneOf write_in
 
-abbrev pub PassesWrite : List ℕ → ℕ → WriteRead → Type 0
-PassesWrite line at (Write k end) = Passing false true (write k) line at end
-PassesWrite line at NoWriteRead = NoWrite line at
+abbrev pub PassesWrite : List ℕ → ℕ → Option (Sort × ℕ) → Type 0
+PassesWrite = PassesOne write_in write
 
-pub record NoComparison (line : List ℕ) (at : ℕ) : Type 0 where
-  pub none : one_of comparison_in (tokens_from false line at) ≡ unformed
+abbrev pub NoComparison : List ℕ → ℕ → Type 0
+NoComparison = NoneOf comparison_in
 
-abbrev pub PassesComparison : List ℕ → ℕ → ComparisonRead → Type 0
-PassesComparison line at (Compared c end) = Passing false true (comparison c) line at end
-PassesComparison line at NoComparisonRead = NoComparison line at
+abbrev pub PassesComparison : List ℕ → ℕ → Option (Comparison × ℕ) → Type 0
+PassesComparison = PassesOne comparison_in comparison
 
 -- `[u] :=` stands at a place, or no letter before it begins a local rule
 pub record Assigned (line : List ℕ) (at end : ℕ) : Type 0 where
@@ -54,9 +46,9 @@ pub record Assigned (line : List ℕ) (at end : ℕ) : Type 0 where
 pub record NotAssigned (line : List ℕ) (at : ℕ) : Type 0 where
   pub none : (f : ℕ) → local_form (letter f ∷ tokens_from false line at) ≡ unformed
 
-abbrev pub PassesAssigned : List ℕ → ℕ → Place → Type 0
-PassesAssigned line at (At end) = Assigned line at end
-PassesAssigned line at Nothing = NotAssigned line at
+abbrev pub PassesAssigned : List ℕ → ℕ → Option ℕ → Type 0
+PassesAssigned line at (Some end) = Assigned line at end
+PassesAssigned line at None = NotAssigned line at
 
 -- whether no token stands there
 unfoldable pub is_empty : List Token → Bool

@@ -1,4 +1,5 @@
 -- Rules whose readings are placed in the plan of their step: they stay so where it grows, and they are located in it.
+use mathlib.Core.Bool.{Bool}
 use Prim.Native.Nat.{ℕ, ◌<◌}
 use mathlib.Core.Path.{ap}
 use mathlib.Core.List.{List, ◌++◌}
@@ -20,7 +21,9 @@ use Rattle.program.specs.declared.location.Locations.{Locations}
 use Rattle.program.specs.Code.{IfChain}
 use Rattle.program.specs.Location.{TermLocated, TestLocated, RuleLocated, LocatedAmong}
 use Rattle.program.specs.Terms.{TestTerms, RuleTerms, SlotTerms, TermInside, TermFormed, TermPlaced, TestPlaced, RulePlaced, SlotPlaced}
-use Rattle.text_readings.specs.Readings.{Lines, NotFull, WordPlaced, Walked}
+use Rattle.text_readings.specs.declared.Open.{Open}
+use Rattle.plan_lines.specs.declared.Plan.{Plan}
+use Rattle.text_readings.specs.Readings.{NotFull, PlacedIn, WordPlaced, Walked}
 use Rattle.text_readings.proofs.Codes.{walked_both, walked_as}
 use Rattle.text_plan.specs.Walked.{term_words, test_words, TermWalked, TermsWalked, TestWalked, RuleWalked, SlotWalked}
 use Rattle.text_plan.proofs.Words.{term_words-same, rule-words-same}
@@ -46,7 +49,7 @@ module _ {P Q : Location → List ℕ → Type 0} (codes codes' : List ℕ) (n :
   slot-changed x t h = (test-changed x.at.test x.slot.test t.0 h.0, rule-changed x.at.rule x.slot.rule t.1 h.1)
 
 -- a walk that follows leaves them where they are
-module _ {vs : List (List ℕ)} {From : ℕ → Type 0} {Found : Lines → List ℕ → Type 0} {a b : Lines} {k k' : List ℕ} (w : Walked vs From Found a k b k') (f : NotFull b)
+module _ {vs : List (List ℕ)} {From : ℕ → Type 0} {Found : Open → List ℕ → Type 0} {a b : Open} {k k' : List ℕ} (w : Walked vs From Found a k b k') (f : NotFull b)
     (n : ℕ) where
   term_stays : (at : Location) (x : Term) → TermInside n x → TermPlaced (WordPlaced a) k at x → TermPlaced (WordPlaced b) k' at x
   term_stays = term_changed k k' n (w.grown.stays f) (λ i l. w.keeps f i)
@@ -58,7 +61,7 @@ module _ {vs : List (List ℕ)} {From : ℕ → Type 0} {Found : Lines → List 
   slot-stays = slot-changed k k' n (w.grown.stays f) (λ i l. w.keeps f i)
 
 -- one term behind another, and a rule behind its test
-module _ {a b c : Lines} {k k' k'' : List ℕ} (n : ℕ) where
+module _ {a b c : Open} {k k' k'' : List ℕ} (n : ℕ) where
   pub walked_terms : (x y : Term) (at : Places) → TermInside n x → TermWalked a k b k' at.first x → TermWalked b k' c k'' at.second y
       → TermsWalked a k c k'' at x y
   walked_terms x y at t h w =
@@ -72,26 +75,26 @@ module _ {a b c : Lines} {k k' k'' : List ℕ} (n : ℕ) where
       (walked_both (λ f. test-stays w f n at.test x.test t) h w)
 
 -- a rule that is placed, and whose trees are those of expressions, is located
-module _ (a : Lines) (codes : List ℕ) where
-  term_located : (x : Term) → TermFormed codes x → TermInside (length codes) x → (at : Location) → TermPlaced (WordPlaced a) codes at x
-      → TermLocated (facts a.plan) a.wanted codes at x
+module _ (l : Plan) (wanted : List Bool) (codes : List ℕ) where
+  term_located : (x : Term) → TermFormed codes x → TermInside (length codes) x → (at : Location) → TermPlaced (PlacedIn l wanted) codes at x
+      → TermLocated (facts l) wanted codes at x
   term_located (Chain c) f t at h = h.located
   term_located (Number z) f t at h = tt
-  term_located (Tree from to) f t at h = record { formed = f.formed; some = f.some; kept = t; located = λ i l b e. (h i l b e).located }
+  term_located (Tree from to) f t at h = record { formed = f.formed; some = f.some; kept = t; located = λ i k b e. (h i k b e).located }
 
   test-located : (x : Test) → TestTerms (TermFormed codes) x → TestTerms (TermInside (length codes)) x → (p : Places)
-      → TestPlaced (WordPlaced a) codes p x → TestLocated (facts a.plan) a.wanted codes p x
+      → TestPlaced (PlacedIn l wanted) codes p x → TestLocated (facts l) wanted codes p x
   test-located Always f t p h = tt
   test-located (When x c y) f t p h = (term_located x f.0 t.0 p.first h.0, term_located y f.1 t.1 p.second h.1)
 
   rule-located : (x : Rule) → RuleTerms (TermFormed codes) x → RuleTerms (TermInside (length codes)) x → (p : Places)
-      → RulePlaced (WordPlaced a) codes p x → RuleLocated (facts a.plan) a.wanted codes p x
+      → RulePlaced (PlacedIn l wanted) codes p x → RuleLocated (facts l) wanted codes p x
   rule-located (Set g x) f t p h = term_located x f t p.first h
   rule-located (Combine g op x y) f t p h = (term_located x f.0 t.0 p.first h.0, term_located y f.1 t.1 p.second h.1)
   rule-located (Remote sort g c x) f t p h = (h.0.located, term_located x f t p.second h.1)
 
   pub slot-located : (x : Located) → SlotTerms (TermFormed codes) x.slot → SlotTerms (TermInside (length codes)) x.slot
-      → SlotPlaced (WordPlaced a) codes x → LocatedAmong (facts a.plan) a.wanted codes x
+      → SlotPlaced (PlacedIn l wanted) codes x → LocatedAmong (facts l) wanted codes x
   slot-located x f t h = record {
     test = test-located x.slot.test f.0 t.0 x.at.test h.0;
     rule = rule-located x.slot.rule f.1 t.1 x.at.rule h.1;

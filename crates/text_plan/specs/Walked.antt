@@ -12,7 +12,8 @@ use Rattle.program.specs.declared.location.Location.{Location}
 use Rattle.program.specs.declared.location.Places.{Places}
 use Rattle.program.specs.declared.location.Locations.{Locations}
 use Rattle.program.specs.Terms.{TestTerms, RuleTerms, SlotTerms, TermFrom, TermPlaced, TestPlaced, RulePlaced, SlotPlaced}
-use Rattle.text_readings.specs.Readings.{code_words, Lines, WordPlaced, Walked}
+use Rattle.text_readings.specs.Readings.{code_words, WordPlaced, Walked}
+use Rattle.text_readings.specs.declared.Open.{Open}
 
 -- the hop words of a rule's chains, from left to right: "C standing for the remote target"
 module _ (codes : List ℕ) where
@@ -34,7 +35,7 @@ module _ (codes : List ℕ) where
   slot_words x = test_words x.test ++ rule_words x.rule
 
 -- they are added to the lines a, and found in the lines b that come of it
-module _ (a : Lines) (codes : List ℕ) (b : Lines) (codes' : List ℕ) where
+module _ (a : Open) (codes : List ℕ) (b : Open) (codes' : List ℕ) where
   abbrev pub TermWalked : Location → Term → Type 0
   TermWalked at x = Walked (term_words codes x) (λ n. TermFrom n x) (λ l z. TermPlaced (WordPlaced l) z at x) a codes b codes'
 

@@ -15,7 +15,7 @@ use Rattle.program.specs.Stored.{rules_in}
 use Rattle.program.specs.Terms.{SlotTerms, TermInside, TermFormed, SlotPlaced}
 use Rattle.program.specs.Kept.{steps_in, AllLocated}
 use Rattle.program.proofs.Agreeing.{slot_map, inside-more, alike, formed-same, rule-alike}
-use Rattle.text_readings.specs.Readings.{Lines, WordPlaced}
+use Rattle.text_readings.specs.Readings.{PlacedIn}
 use Rattle.text_plan.proofs.Placing.{slot-changed, slot-located}
 use Rattle.text_reader.proofs.Lists.{each_both, map_same, each_take, each_drop}
 
@@ -29,14 +29,10 @@ SlotKept codes n y = SlotTerms (TermKept codes n) y.slot
 pub slot-inside : (codes : List ℕ) (n : ℕ) (x : Slot) → SlotTerms (TermKept codes n) x → SlotTerms (TermInside n) x
 slot-inside codes n x h = slot_map (λ t p. p.0) x h
 
--- the lines of a closed step
-abbrev pub lines_in : Frame → Lines
-lines_in f = record { plan = f.plan; wanted = f.wanted }
-
 -- the rules of each closed step, their readings placed among the lines of its plan
 abbrev pub AllPlaced : List ℕ → List Located → List Frame → Type 0
 AllPlaced codes slots [] = Unit {0}
-AllPlaced codes slots (f ∷ fs) = Each (SlotPlaced (WordPlaced (lines_in f)) codes) (take f.rules (take 32 slots)) × AllPlaced codes (drop 32 slots) fs
+AllPlaced codes slots (f ∷ fs) = Each (SlotPlaced (PlacedIn f.plan f.wanted) codes) (take f.rules (take 32 slots)) × AllPlaced codes (drop 32 slots) fs
 
 module _ (codes codes' : List ℕ) {n : ℕ} (same : SameBelow codes codes' n) where
   pub rules-same : (m : ℕ) (ys : List Located) → Each (SlotKept codes n) ys → rules_in codes m ys ≡ rules_in codes' m ys
@@ -65,7 +61,7 @@ module _ (codes codes' : List ℕ) {n : ℕ} (same : SameBelow codes codes' n) w
   pub all_placed : (slots : List Located) (fs : List Frame) → Each (SlotKept codes n) slots → AllPlaced codes slots fs → AllPlaced codes' slots fs
   all_placed slots [] p h = tt
   all_placed slots (f ∷ fs) p h = (
-    each_placed (WordPlaced (lines_in f)) (take f.rules (take 32 slots))
+    each_placed (PlacedIn f.plan f.wanted) (take f.rules (take 32 slots))
         (each_take (SlotKept codes n) f.rules (take 32 slots) (each_take (SlotKept codes n) 32 slots p)) h.0,
     all_placed (drop 32 slots) fs (each_drop (SlotKept codes n) 32 slots p) h.1,
   )
@@ -75,7 +71,7 @@ pub all_located : (codes : List ℕ) (n : ℕ) → n ≤ length codes → (slots
     → Each (SlotKept codes n) slots → AllPlaced codes slots fs → AllLocated codes slots fs
 all_located codes n l slots [] p h = tt
 all_located codes n l slots (f ∷ fs) p h = (
-  each_both _ _ _ (λ y q. slot-located (lines_in f) codes y (slot_map (λ t w. w.1) y.slot q) (slot_map (λ t w. inside-more l t w.0) y.slot q))
+  each_both _ _ _ (λ y q. slot-located f.plan f.wanted codes y (slot_map (λ t w. w.1) y.slot q) (slot_map (λ t w. inside-more l t w.0) y.slot q))
       (take f.rules (take 32 slots)) (each_take (SlotKept codes n) f.rules (take 32 slots) (each_take (SlotKept codes n) 32 slots p)) h.0,
   all_located codes n l (drop 32 slots) fs (each_drop (SlotKept codes n) 32 slots p) h.1,
 )

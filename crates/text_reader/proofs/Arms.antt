@@ -6,7 +6,7 @@ use mathlib.Core.List.{List, [], ◌∷◌, ◌++◌}
 use mathlib.Core.Option.{Option, none, some}
 use native.Mathlib.Omega.{arith}
 use native.Mathlib.Numerals.{add-one}
-use borrow.Author.Tests.{ltb-true, leb-true, not-true}
+use borrow.Author.Tests.{ltb-true, leb-true, not-true, le-ltb}
 use lib.ListN.{length, get_or, take, drop, set, length-set}
 use lib.Seq.{length-take-le, take-suc-set}
 use Rattle.laws.specs.Lists.{Each}
@@ -38,7 +38,8 @@ use Rattle.text_rules.proofs.Loops.{open_loop}
 use Rattle.text_rules.proofs.Passing.{Reached}
 use Rattle.program.specs.Stored.{rule_in, rules_in}
 use Rattle.program.specs.Kept.{steps_in, FrameOf, Framed}
-use Rattle.text_readings.specs.Readings.{Lines, open_lines}
+use Rattle.text_readings.specs.Readings.{NotFull}
+use Rattle.text_readings.specs.declared.Open.{Open}
 use Rattle.text_plan.specs.Walked.{SlotWalked}
 use Rattle.text_state.specs.State.{no_rules, more_rules, with_remote, with_rule, frame_of, last_frame, standing, advance_of}
 use Rattle.text_state.specs.declared.tally.Tally.{Tally}
@@ -49,7 +50,7 @@ use Rattle.text_reader.proofs.Lists.{each_map, each_take, each_drop, each_set}
 use Rattle.program.proofs.Agreeing.{slot_map, slot-both, inside-more, formed-alike, rule-alike}
 use Rattle.text_reader.proofs.Agreeing.{SlotKept, AllPlaced, rules-same, steps-same, slot_kept, all_placed}
 use Rattle.text_reader.proofs.Keeping.{store_steps, store_placed, store_place, store_rule, more_frames, more-placed, framed_more, close_frames, framed_close, placed_close}
-use Rattle.text_reader.proofs.Opening.{OpenStep, none-held, open_none, open_still, open_same, open_rule}
+use Rattle.text_reader.proofs.Opening.{OpenStep, open_none, open_still, open_same, open_rule}
 
 -- what the arrays hold of the lines so far, n codes among it
 pub record Kept (codes : List ℕ) (n : ℕ) (slots : List Located) (frames : List Frame) (x : S.State) (st : State) : Type 0 where
@@ -66,11 +67,11 @@ abbrev pub open_slots : List Located → S.State → List Located
 open_slots slots x = take x.tally.rules (take 32 (drop (32 * x.steps) slots))
 
 -- the arrays and the open step behind a line
-pub record Behind (codes : List ℕ) (n : ℕ) (slots : List Located) (frames : List Frame) (a : Lines) (x : S.State) (st : State) : Type 0 where
+pub record Behind (codes : List ℕ) (n : ℕ) (slots : List Located) (frames : List Frame) (a : Open) (x : S.State) (st : State) : Type 0 where
   pub kept : Kept codes n slots frames x st
   pub opened : OpenStep codes (open_rules st) (open_slots slots x) a
 
-module _ {codes : List ℕ} {n : ℕ} {slots : List Located} {frames : List Frame} {a : Lines} {x : S.State} {st : State} (b : Behind codes n slots frames a x st) where
+module _ {codes : List ℕ} {n : ℕ} {slots : List Located} {frames : List Frame} {a : Open} {x : S.State} {st : State} (b : Behind codes n slots frames a x st) where
   step_terms : Each (SlotKept codes n) (take 32 (drop (32 * x.steps) slots))
   step_terms = each_take _ 32 (drop (32 * x.steps) slots) (each_drop _ (32 * x.steps) slots b.kept.terms)
 
@@ -116,7 +117,7 @@ used_steps (Unused f) xs u h = true_false u refl
 used_steps (Used f) [] u h = absurd (let z : ◌≡◌ {A = ℕ} 0 1 = cc in omega arith)
 used_steps (Used f) (x ∷ xs) u h = omega arith
 
-module _ (scope : Scope) {codes : List ℕ} {n : ℕ} {slots : List Located} {frames : List Frame} {a : Lines} {x : S.State}
+module _ (scope : Scope) {codes : List ℕ} {n : ℕ} {slots : List Located} {frames : List Frame} {a : Open} {x : S.State}
     {st : State} (r : Reached scope.sizes st) (h : Stands x st) (b : Behind codes n slots frames a x st) (i : ℕ) where
   -- these store nothing
   pub at-step : Clean scope st step → Behind codes n slots frames a (advance_of x i L.Step) (advance st step)
@@ -163,7 +164,7 @@ module _ (scope : Scope) {codes : List ℕ} {n : ℕ} {slots : List Located} {fr
     abbrev here : ℕ
     here = 32 * x.steps + x.tally.rules
 
-    pub at-rule : {b' : Lines} {codes' : List ℕ} (z : Slot) (at : Locations) (ch : Checks) {m : ℕ} → rule_in codes z ≡ rule_of u act
+    pub at-rule : {b' : Open} {codes' : List ℕ} (z : Slot) (at : Locations) (ch : Checks) {m : ℕ} → rule_in codes z ≡ rule_of u act
         → SlotTerms (TermFormed codes) z → SlotTerms (TermFrom n) z → SlotTerms (TermInside m) z → n ≤ m → SlotWalked a codes b' codes' at z
         → Behind codes' m (set slots here (record { slot = z; at = at })) frames b' (advance_of x i (L.Rule z ch)) (advance st (rule u act))
     unfolding advance_of standing advance open_rules
@@ -204,23 +205,25 @@ module _ (scope : Scope) {codes : List ℕ} {n : ℕ} {slots : List Located} {fr
     pub end_count : a.plan.count ≡ length (step_plan (open_rules st))
     end_count = sym (holds_count end-holds)
 
-    end_frame : FrameOf (frame_of x a.plan a.wanted) (open_rules st)
+    end_frame : length a.wanted ≡ 64 → FrameOf (frame_of x a.plan a.wanted) (open_rules st)
     unfolding frame_of
-    end_frame = record {
+    end_frame l = record {
       few = omega (arith, r.rules.few, h.tally_is.rules_are);
       remote_is = h.tally_is.remote_is;
       fields_are = h.tally_is.fields_are;
       holds = end-holds;
-      wanted_length = b.opened.growing.marks;
+      wanted_length = l;
     }
 
-    -- its arrays have no line yet for the next step
-    pub at-end : {marks : List Bool} → length marks ≡ 64
-        → let p = a.plan in
-        Behind codes n slots (set frames x.steps (frame_of x p a.wanted)) (open_lines p.keys p.rounds p.backs p.reads 0 marks)
-        (advance_of x i L.End) (advance st end)
+    -- it has room for its lines
+    end-room : NotFull a
+    end-room = b.opened.planned.full_is ∙ le-ltb 64 (length (step_plan (open_rules st))) end_fits
+
+    -- the next step has no line yet
+    pub at-end : {o : Open} → length a.wanted ≡ 64 → HoldsLines o.plan [] → NotFull o
+        → Behind codes n slots (set frames x.steps (frame_of x a.plan a.wanted)) o (advance_of x i L.End) (advance st end)
     unfolding advance_of advance open_rules rules_in no_rules frame_of
-    at-end l =
+    at-end l held empty =
         let f = frame_of x a.plan a.wanted in
         let front : length (take x.steps frames) ≡ x.steps = length-take-le x.steps frames (omega (arith, end-steps, b.kept.frames_length)) in
         let more : take (x.steps + 1) (set frames x.steps f) ≡ take x.steps frames ++ (f ∷ []) =
@@ -237,11 +240,11 @@ module _ (scope : Scope) {codes : List ℕ} {n : ℕ} {slots : List Located} {fr
             steps_are = new;
             rules_are = refl;
             framed = rw h.steps_are (framed_more frames st.steps f (record { rules = open_rules st; setting = setting_in st.around })
-                b.kept.framed (omega (arith, end-steps, b.kept.frames_length, h.steps_are)) end_frame);
-            placed = rw more (more-placed codes slots (take x.steps frames) f b.kept.placed (rw front (b.opened.placed (omega (arith, end_count, end_fits)))));
+                b.kept.framed (omega (arith, end-steps, b.kept.frames_length, h.steps_are)) (end_frame l));
+            placed = rw more (more-placed codes slots (take x.steps frames) f b.kept.placed (rw front (b.opened.placed end-room)));
             terms = b.kept.terms;
           };
-          opened = let e = end-holds in open_none (none-held e.keyed.places e.rounds_are.places e.backs_are.places e.reads_are.places) l;
+          opened = open_none held empty;
         }
 
   -- the last step is the last of its loop

@@ -13,10 +13,10 @@ use Rattle.text_rules.specs.Text.{close_loop}
 use Rattle.program.specs.Stored.{rule_in, rules_in}
 use Rattle.program.specs.Terms.{SlotPlaced}
 use Rattle.program.specs.Kept.{steps_in, FrameOf, Framed}
-use Rattle.text_readings.specs.Readings.{WordPlaced}
+use Rattle.text_readings.specs.Readings.{PlacedIn}
 use Rattle.text_state.specs.State.{last_frame}
 use Rattle.program.specs.declared.frame.Frame.{Frame}
-use Rattle.text_reader.proofs.Agreeing.{lines_in, AllPlaced}
+use Rattle.text_reader.proofs.Agreeing.{AllPlaced}
 
 -- a rule stored behind the rules of the open step
 module _ (slots : List Located) (s k : ℕ) (x : Located) (h : k < 32) (b : 32 * s + 32 ≤ length slots) where
@@ -93,7 +93,7 @@ module _ (codes : List ℕ) where
       )
 
   pub more-placed : (slots : List Located) (fs : List Frame) (f : Frame) → AllPlaced codes slots fs
-      → Each (SlotPlaced (WordPlaced (lines_in f)) codes) (take f.rules (take 32 (drop (32 * length fs) slots)))
+      → Each (SlotPlaced (PlacedIn f.plan f.wanted) codes) (take f.rules (take 32 (drop (32 * length fs) slots)))
       → AllPlaced codes slots (fs ++ (f ∷ []))
   more-placed slots [] f h e = (e, tt)
   more-placed slots (g ∷ fs) f h e =

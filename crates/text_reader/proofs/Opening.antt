@@ -1,16 +1,11 @@
 -- The open step: its plan, the lines of it that are wanted, and its rules so far with their readings placed in it.
 use Prim.Native.Nat.{ℕ}
-use mathlib.Core.Path.{◌≡◌, refl, sym, ap, subst, ◌∙◌}
+use mathlib.Core.Path.{◌≡◌, sym, ap, subst, ◌∙◌}
 use mathlib.Core.List.{List, [], ◌∷◌, ◌++◌, append-nil, append_assoc}
-use native.Mathlib.Omega.{arith}
-use borrow.Author.Tests.{le-ltb}
-use lib.ListN.{length}
 use Rattle.laws.specs.Lists.{Each}
 use Rattle.laws.proofs.Lists.{each_append}
 use Rattle.plan_theory.specs.Plan.{add_readings, plan}
-use Rattle.plan_lines.specs.Held.{facts_in, HoldsLines, ExtendedTo, plan_of}
-use Rattle.plan_lines.proofs.Adding.{holds-facts}
-use Rattle.plan_lines.proofs.Appending.{holds_count}
+use Rattle.plan_lines.specs.Held.{HoldsLines}
 use Rattle.program.specs.declared.rule.Slot.{Slot}
 use Rattle.program.specs.declared.location.Located.{Located}
 use Rattle.program.specs.declared.location.Locations.{Locations}
@@ -18,7 +13,8 @@ use Rattle.program.specs.Program.{Rule, rule_readings, readings, step_plan}
 use Rattle.program.specs.Code.{SameBelow}
 use Rattle.program.specs.Stored.{rule_in}
 use Rattle.program.specs.Terms.{SlotTerms, TermFormed, SlotPlaced}
-use Rattle.text_readings.specs.Readings.{Lines, NotFull, Growing, WordPlaced}
+use Rattle.text_readings.specs.Readings.{NotFull, WordPlaced, OpenFor}
+use Rattle.text_readings.specs.declared.Open.{Open}
 use Rattle.text_plan.specs.Walked.{slot_words, SlotWalked}
 use Rattle.text_plan.proofs.Words.{slot-words}
 use Rattle.text_plan.proofs.Placing.{slot-stays}
@@ -26,23 +22,9 @@ use Rattle.text_reader.proofs.Lists.{each_both}
 use Rattle.text_reader.proofs.Agreeing.{SlotKept, slot-inside, each_placed}
 
 -- these rules, which stand at these slots; where the plan is full, nothing is said of their places
-pub record OpenStep (codes : List ℕ) (rs : List Rule) (slots : List Located) (a : Lines) : Type 0 where
-  pub planned : ExtendedTo (step_plan rs) a.plan
-  pub growing : Growing a
+pub record OpenStep (codes : List ℕ) (rs : List Rule) (slots : List Located) (a : Open) : Type 0 where
+  pub planned : OpenFor (step_plan rs) a
   pub placed : NotFull a → Each (SlotPlaced (WordPlaced a) codes) slots
-
--- arrays that are lent for a plan hold no line yet
-pub none-held : {keys rounds backs reads : List ℕ} → length keys ≡ 64 → length rounds ≡ 64 → length backs ≡ 64 → length reads ≡ 64
-    → HoldsLines (plan_of keys rounds backs reads 0) []
-unfolding facts_in
-none-held k r b d = record {
-  facts_are = refl;
-  keyed = record { places = k; taken≤ = omega arith };
-  ordered = λ i h. absurd (omega arith);
-  rounds_are = record { places = r; entry = λ i h. absurd (omega arith) };
-  backs_are = record { places = b; entry = λ i h. absurd (omega arith) };
-  reads_are = record { places = d; entry = λ i h. absurd (omega arith) };
-}
 
 readings-more : (rs : List Rule) (r : Rule) → readings (rs ++ (r ∷ [])) ≡ readings rs ++ rule_readings r
 unfolding readings
@@ -51,28 +33,26 @@ readings-more (q ∷ rs) r = ap (λ (ws : List (List ℕ)). rule_readings q ++ w
     ∙ sym (append_assoc (rule_readings q) (readings rs) (rule_readings r))
 
 -- before the first rule
-pub open_none : {codes : List ℕ} {a : Lines} → HoldsLines a.plan [] → length a.wanted ≡ 64 → OpenStep codes [] [] a
+pub open_none : {codes : List ℕ} {a : Open} → HoldsLines a.plan [] → NotFull a → OpenStep codes [] [] a
 unfolding step_plan readings plan add_readings
-open_none {a = a} h l = record {
-  planned = record { full_is = le-ltb 64 a.plan.count (omega (arith, holds_count h)); holds = λ k. h };
-  growing = record { holds = λ k. holds-facts h; marks = l };
+open_none h f = record {
+  planned = record { full_is = f; holds = λ k. h };
   placed = λ k. tt;
 }
 
-module _ {codes : List ℕ} {rs : List Rule} {slots : List Located} {a : Lines} (o : OpenStep codes rs slots a) where
+module _ {codes : List ℕ} {rs : List Rule} {slots : List Located} {a : Open} (o : OpenStep codes rs slots a) where
   pub open_still : rs ≡ [] → OpenStep codes [] [] a
-  open_still e = record { planned = subst (λ (rs : List Rule). ExtendedTo (step_plan rs) a.plan) e o.planned; growing = o.growing; placed = λ k. tt }
+  open_still e = record { planned = subst (λ (rs : List Rule). OpenFor (step_plan rs) a) e o.planned; placed = λ k. tt }
 
   -- codes that are the same as far as it has any
   pub open_same : (codes' : List ℕ) {n : ℕ} → SameBelow codes codes' n → Each (SlotKept codes n) slots → OpenStep codes' rs slots a
   open_same codes' same s = record {
     planned = o.planned;
-    growing = o.growing;
     placed = λ f. each_placed codes codes' same (WordPlaced a) slots s (o.placed f);
   }
 
   -- one rule more, placed in the plan that has its readings
-  pub open_rule : {b : Lines} {codes' : List ℕ} (x : Slot) (at : Locations) (n : ℕ) → SlotWalked a codes b codes' at x → Each (SlotKept codes n) slots
+  pub open_rule : {b : Open} {codes' : List ℕ} (x : Slot) (at : Locations) (n : ℕ) → SlotWalked a codes b codes' at x → Each (SlotKept codes n) slots
       → SlotTerms (TermFormed codes) x → OpenStep codes' (rs ++ (rule_in codes x ∷ [])) (slots ++ (record { slot = x; at = at } ∷ [])) b
   unfolding step_plan
   open_rule x at n w s f =
@@ -80,8 +60,7 @@ module _ {codes : List ℕ} {rs : List Rule} {slots : List Located} {a : Lines} 
       ap (λ (ws : List (List ℕ)). readings rs ++ ws) (slot-words codes x f) ∙ sym (readings-more rs (rule_in codes x)) in
       record {
         planned = rw (← words) (w.grown.extends (readings rs) o.planned);
-        growing = w.grown.growing;
         placed = λ k.
             each_append _ slots (record { slot = x; at = at } ∷ [])
-            (each_both _ _ _ (λ y p. slot-stays w k n y (slot-inside codes n y.slot p)) slots s (o.placed (omega (arith, k, w.grown.more)))) (w.found k, tt);
+            (each_both _ _ _ (λ y p. slot-stays w k n y (slot-inside codes n y.slot p)) slots s (o.placed (w.grown.kept k))) (w.found k, tt);
       }

@@ -32,16 +32,23 @@ use Rattle.text_rules.proofs.Passing.{Reached, start_reached, advance_reached}
 use Rattle.text_next.specs.Front.{line_bytes, first_form, CodeRoom, LineNext}
 use Rattle.program.specs.Stored.{rules_in}
 use Rattle.program.specs.Kept.{steps_in, program_of}
+use Rattle.text_judge.specs.Judged.{parts_of, Judged}
+use Rattle.text_judge.specs.declared.Next.{Next}
 use Rattle.text_reader.specs.Answers.{check_outcome, Answers}
 use Rattle.program.specs.declared.location.Located.{Located}
 use Rattle.program.specs.declared.location.Locations.{Locations}
 use Rattle.program.specs.Code.{SameBelow}
 use Rattle.program.specs.Terms.{SlotTerms, TermInside}
-use Rattle.text_readings.specs.Readings.{Short, Lines, open_lines}
+use Rattle.text_readings.specs.Readings.{Short, NotFull}
+use Rattle.text_readings.specs.declared.Open.{Open}
 use Rattle.text_plan.specs.Walked.{slot_words, SlotWalked}
 use Rattle.text_plan.specs.Store.{empty_slot}
 use Rattle.text_plan.proofs.Words.{slot-words}
 use Rattle.text_state.specs.State.{no_rules, start_state, frame_of, last_frame, advance_of}
+use Rattle.std.specs.Prelude.{Ok, Err}
+use Rattle.text_refusals.specs.Number.{refusal_number}
+use Rattle.text_refusals.specs.declared.Refusal.{Refusal}
+use Rattle.text_refusals.proofs.Numbers.{not_none}
 use Rattle.text_refusals.specs.Refusal.{refusal_of, last_refusal}
 use Rattle.program.specs.declared.Program as C
 use Rattle.program.specs.declared.frame.Frame.{Frame}
@@ -57,7 +64,7 @@ use Rattle.text_state.proofs.Standing.{Stands, start-stands, advance-stands}
 use Rattle.text_refusals.proofs.Refusals.{number, refusal_is, last-is}
 
 -- the state of the definition before line i, which begins at `at`, and what the code has of it, with n codes in the lent array
-pub record Read (scope : Scope) (t : List ℕ) (a : Lines) (codes : List ℕ) (slots : List Located) (frames : List Frame) (x : S.State) (n at i : ℕ) : Type 0 where
+pub record Read (scope : Scope) (t : List ℕ) (a : Open) (codes : List ℕ) (slots : List Located) (frames : List Frame) (x : S.State) (n at i : ℕ) : Type 0 where
   pub state : State
   pub reached : Reached scope.sizes state
   pub stands : Stands x state
@@ -69,11 +76,11 @@ pub record Read (scope : Scope) (t : List ℕ) (a : Lines) (codes : List ℕ) (s
   pub few_codes : n ≤ at
 
 -- before the first line
-pub begun : (scope : Scope) (t : List ℕ) {a : Lines} {codes : List ℕ} {y : Located} {frames : List Frame} {x : S.State}
-    → HoldsLines a.plan [] → length a.wanted ≡ 64 → length codes ≡ 8192
+pub begun : (scope : Scope) (t : List ℕ) {a : Open} {codes : List ℕ} {y : Located} {frames : List Frame} {x : S.State}
+    → HoldsLines a.plan [] → NotFull a → length codes ≡ 8192
     → y.slot ≡ empty_slot → length frames ≡ 32 → x ≡ start_state → Read scope t a codes (replicate 1024 y) frames x 0 0 1
 unfolding start_state start open_rules steps_in rules_in no_rules
-begun scope t {codes = codes} {y} h lw lent ey lf e = record {
+begun scope t {codes = codes} {y} h room lent ey lf e = record {
   state = start;
   reached = start_reached scope.sizes;
   stands = rw e start-stands;
@@ -87,7 +94,7 @@ begun scope t {codes = codes} {y} h lw lent ey lf e = record {
       placed = tt;
       terms = each_replicate (SlotKept codes 0) 1024 y (rw ey (tt, (tt, tt)));
     };
-    opened = open_none h lw;
+    opened = open_none h room;
   });
   lent = lent;
   rest = refl;
@@ -137,7 +144,7 @@ first_some_lem t l h = go (ltb (length (line_bytes t)) (length t)) refl h
     go true e h = ltb-true (length (line_bytes t)) (length t) e
     go false e h = absurd (let z : ◌≡◌ {A = ℕ} 0 1 = cc in omega arith)
 
-module _ (scope : Scope) {t : List ℕ} {a : Lines} {codes : List ℕ} {slots : List Located} {frames : List Frame} {x : S.State} {n at i : ℕ}
+module _ (scope : Scope) {t : List ℕ} {a : Open} {codes : List ℕ} {slots : List Located} {frames : List Frame} {x : S.State} {n at i : ℕ}
     (q : Read scope t a codes slots frames x n at i) where
   -- the next line, where it passes
   pub record Passes (b : List ℕ) (r : LineParts) : Type 0 where
@@ -159,14 +166,16 @@ module _ (scope : Scope) {t : List ℕ} {a : Lines} {codes : List ℕ} {slots : 
     outcome : read_from scope start 1 (lines t) ≡ after (line_outcome scope q.state i (first_form (drop at t))) follows
     outcome = q.rest ∙ first-line scope q.state i (drop at t) (simp length-drop (omega arith))
 
-    numbered : refusal_of x (ltb 64 a.plan.count) r.line ≡ number scope q.state (first_form (drop at t))
-    numbered = refusal_is scope q.stands (ltb 64 a.plan.count) q.behind.opened.planned.full_is l.reads
+    numbered : refusal_of x a.full r.line ≡ number scope q.state (first_form (drop at t))
+    numbered = refusal_is scope q.stands a.full q.behind.opened.planned.full_is l.reads
 
     -- a line that is refused
-    pub stopped : (refusal_of x (ltb 64 a.plan.count) r.line ≡ 0 → ⊥) → read_from scope start 1 (lines t) ≡ refused (refusal_of x (ltb 64 a.plan.count) r.line) i
-    stopped h = outcome ∙ refused-line scope q.state i (first_form (drop at t)) follows (λ z. h (numbered ∙ z)) ∙ ap (λ (m : ℕ). refused m i) (sym numbered)
+    stopped : (e : Refusal) → refusal_number e ≡ refusal_of x a.full r.line → read_from scope start 1 (lines t) ≡ refused (refusal_number e) i
+    stopped e is =
+        outcome ∙ refused-line scope q.state i (first_form (drop at t)) follows (λ z. not_none e (is ∙ (numbered ∙ z)))
+        ∙ ap (λ (m : ℕ). refused m i) (sym (is ∙ numbered))
 
-    pub passes : refusal_of x (ltb 64 a.plan.count) r.line ≡ 0 → Passes b r
+    passes : refusal_of x a.full r.line ≡ 0 → Passes b r
     passes h =
         let p = passed-line scope q.state i (first_form (drop at t)) follows (sym numbered ∙ h) in
         let behind : at + (length (line_bytes (drop at t)) + 1) ≡ at + length (line_bytes (drop at t)) + 1 = omega arith in
@@ -183,8 +192,18 @@ module _ (scope : Scope) {t : List ℕ} {a : Lines} {codes : List ℕ} {slots : 
               (drop-drop (length (line_bytes (drop at t)) + 1) at t ∙ ap (λ (j : ℕ). drop j t) behind);
         }
 
+  -- the next line as it is judged, where it passes and where it is refused
+  module _ (here : at < length t) {b : List ℕ} where
+    pub passed : {y : Next} → Judged scope t at x a.full codes b n (Ok y) → Passes b (parts_of y)
+    passed {y} j = passes (parts_of y) j.end_is here j.read (sym j.refusal_is)
+
+    pub answer-line : {e : Refusal} → Judged scope t at x a.full codes b n (Err e)
+        → Answers b (read_from scope start 1 (lines t)) (Err (record { refusal = e; line = i }))
+    unfolding check_outcome
+    answer-line {e} j = record { outcome_is = sym (stopped j.1 j.2.end_is here j.2.read e j.2.refusal_is); complete = tt }
+
 -- the arrays and the plan behind each sort of line; m is the number of lines of the open step's plan
-module _ {scope : Scope} (lim : Limits scope.sizes) {t : List ℕ} {a : Lines} {codes : List ℕ} {slots : List Located} {frames : List Frame} {x : S.State} {n at i : ℕ}
+module _ {scope : Scope} (lim : Limits scope.sizes) {t : List ℕ} {a : Open} {codes : List ℕ} {slots : List Located} {frames : List Frame} {x : S.State} {n at i : ℕ}
     {q : Read scope t a codes slots frames x n at i} where
   module _ {b : List ℕ} {r : LineParts} (p : Passes scope q b r) (m : ℕ) where
     -- what stood before the line, with the codes behind it
@@ -218,13 +237,9 @@ module _ {scope : Scope} (lim : Limits scope.sizes) {t : List ℕ} {a : Lines} {
       pub arm_end-steps : x.steps < 32
       arm_end-steps = end-steps scope q.reached q.stands more m end_clean
 
-      pub arm_end : {marks : List Bool} → length marks ≡ 64
-          → let o = a.plan in
-          Behind b r.used slots (set frames x.steps (frame_of x o a.wanted)) (open_lines o.keys o.rounds o.backs o.reads 0 marks)
-          (advance_of x m r.line) (advance q.state p.form)
-      arm_end l =
-          rw (e, end-form p.reads e)
-          (at-end scope q.reached q.stands more m end_clean l)
+      pub arm_end : {o : Open} → length a.wanted ≡ 64 → HoldsLines o.plan [] → NotFull o
+          → Behind b r.used slots (set frames x.steps (frame_of x a.plan a.wanted)) o (advance_of x m r.line) (advance q.state p.form)
+      arm_end l held empty = rw (e, end-form p.reads e) (at-end scope q.reached q.stands more m end_clean l held empty)
 
     module _ (e : r.line ≡ L.Done) where
       done_clean : Clean scope q.state done
@@ -255,7 +270,7 @@ module _ {scope : Scope} (lim : Limits scope.sizes) {t : List ℕ} {a : Lines} {
         slot_map (inside-more (omega (arith, p.few_codes, p.inside, e))) y written.inside,
       )
 
-      pub arm_rule : {a' : Lines} {codes' : List ℕ} (at' : Locations) → SlotWalked a b a' codes' at' y
+      pub arm_rule : {a' : Open} {codes' : List ℕ} (at' : Locations) → SlotWalked a b a' codes' at' y
           → Behind codes' r.used (set slots (32 * x.steps + x.tally.rules) (record { slot = y; at = at' })) frames a'
           (advance_of x m r.line) (advance q.state p.form)
       arm_rule at' w =
@@ -268,7 +283,7 @@ module _ {scope : Scope} (lim : Limits scope.sizes) {t : List ℕ} {a : Lines} {
     end-lines e = end_count scope q.reached q.stands more m (subst (Clean scope q.state) e p.clean)
 
   -- one line further
-  pub again : {b b' : List ℕ} {r : LineParts} (p : Passes scope q b r) {slots' : List Located} {frames' : List Frame} {a' : Lines} {x' : S.State} {stop : ℕ}
+  pub again : {b b' : List ℕ} {r : LineParts} (p : Passes scope q b r) {slots' : List Located} {frames' : List Frame} {a' : Open} {x' : S.State} {stop : ℕ}
       → x' ≡ advance_of x a.plan.count r.line → stop ≡ at + length (line_bytes (drop at t)) → length b' ≡ 8192
       → Behind b' r.used slots' frames' a' (advance_of x a.plan.count r.line) (advance q.state p.form)
       → Read scope t a' b' slots' frames' x' r.used (stop + 1) (i + 1)
@@ -284,13 +299,8 @@ module _ {scope : Scope} (lim : Limits scope.sizes) {t : List ℕ} {a : Lines} {
     few_codes = omega (arith, p.few_codes);
   })
 
--- the answer with a refusal, and with the program
-pub answer-refused : {codes : List ℕ} {o : Outcome Program} (n i : ℕ) (p : C.Program) → (n ≡ 0 → ⊥) → o ≡ refused n i
-    → Answers codes o (record { refusal = n; line = i; program = p })
-unfolding check_outcome
-answer-refused {codes} n i p h e = record { outcome_is = refuse-none n i (O.done (program_of codes p)) h ∙ sym e; complete = λ z. absurd (h z) }
-
-module _ {scope : Scope} {t : List ℕ} {a : Lines} {codes : List ℕ} {slots : List Located} {frames : List Frame} {x : S.State} {n at i : ℕ}
+-- the answer with a refusal behind the last line, and with the program
+module _ {scope : Scope} {t : List ℕ} {a : Open} {codes : List ℕ} {slots : List Located} {frames : List Frame} {x : S.State} {n at i : ℕ}
     (q : Read scope t a codes slots frames x n at i) where
   pub small : (x.steps ≤ 32) × (x.tally.rules ≤ 32)
   small = (omega (arith, q.reached.few, q.stands.steps_are), omega (arith, q.reached.rules.few, q.stands.tally_is.rules_are))
@@ -305,17 +315,31 @@ module _ {scope : Scope} {t : List ℕ} {a : Lines} {codes : List ℕ} {slots : 
   pub room : length t ≤ 8192 → CodeRoom (length t) codes
   room h = record { room = omega (arith, q.lent); few = omega (arith, q.lent) }
 
-  pub answer-read : length t ≤ 8192 → length t ≤ at
-      → Answers codes (read_from scope start 1 (lines t))
-      (record { refusal = last_refusal x; line = i; program = record { slots = slots; frames = frames; steps = x.steps; lines = x.lines } })
-  unfolding check_outcome program lines read_from closed_text unless
-  answer-read o h =
-      let ended : read_from scope start 1 (lines t) ≡ closed_text q.state i =
-      q.rest ∙ ap (λ (u : List ℕ). read_from scope q.state i (lines u)) (drop_of_length-le t h) in
+  -- behind the last line
+  ended : length t ≤ 8192 → length t ≤ at → read_from scope start 1 (lines t) ≡ cond (not (is_open q.state) && is_outside q.state.around) (O.done q.state.steps) (refused 8 i)
+  unfolding lines read_from closed_text
+  ended o h = q.rest ∙ ap (λ (u : List ℕ). read_from scope q.state i (lines u)) (drop_of_length-le t h)
+
+  pub answer-last : length t ≤ 8192 → length t ≤ at → (e : Refusal) → refusal_number e ≡ last_refusal x
+      → Answers codes (read_from scope start 1 (lines t)) (Err (record { refusal = e; line = i }))
+  unfolding check_outcome
+  answer-last o h e is = record {
+    outcome_is = sym (ended o h ∙ go (not (is_open q.state) && is_outside q.state.around) (is ∙ last-is q.stands));
+    complete = tt;
+  }
+    where
+      go : (b : Bool) → refusal_number e ≡ cond b 0 8 → cond b (O.done q.state.steps) (refused 8 i) ≡ refused (refusal_number e) i
+      go true z = absurd (not_none e z)
+      go false z = rw z
+
+  pub answer-read : length t ≤ 8192 → length t ≤ at → last_refusal x ≡ 0
+      → Answers codes (read_from scope start 1 (lines t)) (Ok (record { slots = slots; frames = frames; steps = x.steps; lines = x.lines }))
+  unfolding check_outcome program
+  answer-read o h is =
       let kept = q.behind.kept in
       record {
-        outcome_is = rw (ended, last-is q.stands, program-is) (go (not (is_open q.state) && is_outside q.state.around));
-        complete = λ z. record {
+        outcome_is = rw (ended o h, program-is) (go (not (is_open q.state) && is_outside q.state.around) (sym (last-is q.stands) ∙ is));
+        complete = record {
           slots_length = kept.slots_length;
           framed = rw program-is kept.framed;
           located = all_located codes n (omega (arith, q.lent, q.few_codes, q.within)) slots (take x.steps frames) kept.terms kept.placed;
@@ -324,6 +348,6 @@ module _ {scope : Scope} {t : List ℕ} {a : Lines} {codes : List ℕ} {slots : 
         };
       }
     where
-      go : (b : Bool) → unless (cond b 0 8) i (O.done q.state.steps) ≡ cond b (O.done q.state.steps) (refused 8 i)
-      go true = refl
-      go false = refl
+      go : (b : Bool) → ◌≡◌ {A = ℕ} (cond b 0 8) 0 → O.done q.state.steps ≡ cond b (O.done q.state.steps) (refused 8 i)
+      go true z = refl
+      go false z = absurd (omega (arith, z))

@@ -1,7 +1,6 @@
 -- What is stored of a line that has passed, and the reader's arrays behind it.
 use Prim.Native.Nat.{ℕ, ◌+◌, ◌-◌, ◌*◌, ◌≤◌, ◌<◌}
 use mathlib.Core.Path.{◌≡◌, refl, sym, ap, ◌∙◌}
-use mathlib.Core.Bool.{Bool}
 use mathlib.Core.List.{List}
 use native.Mathlib.Omega.{arith}
 use lib.ListN.{length, get_or, set}
@@ -13,7 +12,10 @@ use Rattle.text_rules.specs.declared.line.LineRead.{LineRead}
 use Rattle.text_rules.specs.declared.line.LineRead.TheVariants as L
 use Rattle.text_rules.specs.Text.{advance}
 use Rattle.text_lines.specs.declared.line.LineParts.{LineParts}
-use Rattle.text_readings.specs.Readings.{Lines, open_lines}
+use Rattle.text_readings.specs.Readings.{NotFull}
+use Rattle.text_readings.specs.declared.Open.{Open}
+use Rattle.plan_lines.specs.Held.{HoldsLines}
+use Rattle.std.specs.Prelude.{Option, Some, None, []}
 use Rattle.text_plan.specs.Store.{LineFits, LineLeaves, LinePlanned}
 use Rattle.text_plan.specs.declared.store.Store.{Store}
 use Rattle.text_plan.specs.declared.store.Store.TheVariants as W
@@ -24,17 +26,22 @@ use Rattle.text_reader.proofs.Reading.{Read, Passes, small, arm_step, arm_loop, 
 use Rattle.text_reader.proofs.Reading.{arm_steps, arm_rules, arm_fits, arm_rule}
 
 -- which of the four is stored
-abbrev sort_of : Store → ℕ
-sort_of (W.Rule i y) = 0
-sort_of (W.Close i) = 1
-sort_of (W.Last i) = 2
-sort_of W.Nothing = 3
+abbrev sort_of : Option Store → ℕ
+sort_of (Some (W.Rule i y)) = 0
+sort_of (Some (W.Close i)) = 1
+sort_of (Some (W.Last i)) = 2
+sort_of None = 3
 
-other : {A : Type 0} {v w : Store} → v ≡ w → (sort_of v ≡ sort_of w → ⊥) → A
+other : {A : Type 0} {v w : Option Store} → v ≡ w → (sort_of v ≡ sort_of w → ⊥) → A
 other e h = absurd (h (ap sort_of e))
 
+-- the frame of the open step has its marks
+marked : (x : S.State) (a : Open) {f : Frame} → f ≡ frame_of x a.plan a.wanted → length f.wanted ≡ 64 → length a.wanted ≡ 64
+unfolding frame_of
+marked x a is l = rw is at l
+
 -- m is the number of lines of the open step's plan
-module _ {scope : Scope} (lim : Limits scope.sizes) {t : List ℕ} {a : Lines} {codes : List ℕ} {slots : List Located} {frames : List Frame} {x : S.State} {n at i : ℕ}
+module _ {scope : Scope} (lim : Limits scope.sizes) {t : List ℕ} {a : Open} {codes : List ℕ} {slots : List Located} {frames : List Frame} {x : S.State} {n at i : ℕ}
     {q : Read scope t a codes slots frames x n at i} {b : List ℕ} {r : LineParts} (p : Passes scope q b r) (m : ℕ) where
   pub fits : length t ≤ 8192 → length b ≡ 8192 → LineFits b x r.line
   fits h l = go r.line refl
@@ -48,12 +55,12 @@ module _ {scope : Scope} (lim : Limits scope.sizes) {t : List ℕ} {a : Lines} {
       go L.NoForm e = tt
 
   -- the arrays behind the line, where it leaves v
-  abbrev Goes : List ℕ → List Located → List Frame → Lines → Type 0
+  abbrev Goes : List ℕ → List Located → List Frame → Open → Type 0
   Goes codes' slots' frames' a' = Behind codes' r.used slots' frames' a' (advance_of x m r.line) (advance q.state p.form)
 
-  module _ {a' : Lines} {codes' : List ℕ} {v : Store} (h : LinePlanned x a b a' codes' r.line v) where
+  module _ {a' : Open} {codes' : List ℕ} {v : Option Store} (h : LinePlanned x a b a' codes' r.line v) where
     -- a rule
-    pub behind-rule : {j : ℕ} {y : Located} → v ≡ W.Rule j y → (j < 1024) × Goes codes' (set slots j y) frames a'
+    pub behind-rule : {j : ℕ} {y : Located} → v ≡ Some (W.Rule j y) → (j < 1024) × Goes codes' (set slots j y) frames a'
     behind-rule {j} {y} is = go r.line refl h.leaves
       where
         go : (o : LineRead) → r.line ≡ o → LineLeaves x a b a' codes' o v → (j < 1024) × Goes codes' (set slots j y) frames a'
@@ -70,25 +77,28 @@ module _ {scope : Scope} (lim : Limits scope.sizes) {t : List ℕ} {a : Lines} {
     -- the frame of a step that is closed, ..
     abbrev Closed : ℕ → Type 0
     Closed j =
-        let o = a'.plan in
-        (marks : List Bool) → length marks ≡ 64
-        → Goes codes' slots (set frames j (frame_of x o a'.wanted)) (open_lines o.keys o.rounds o.backs o.reads 0 marks)
+        (f : Frame) → f ≡ frame_of x a'.plan a'.wanted → length f.wanted ≡ 64 → (o : Open) → HoldsLines o.plan [] → NotFull o
+        → Goes codes' slots (set frames j f) o
 
-    pub behind_close : {j : ℕ} → v ≡ W.Close j → (j < 32) × Closed j
+    pub behind_close : {j : ℕ} → v ≡ Some (W.Close j) → (j < 32) × Closed j
     behind_close {j} is = go r.line refl h.leaves
       where
         go : (o : LineRead) → r.line ≡ o → LineLeaves x a b a' codes' o v → (j < 32) × Closed j
         go L.Step e h = other (sym is ∙ h.stores) (λ z. omega arith)
         go L.End e h =
-            let place : j ≡ x.steps = cc (is, h.stores) in
-            (omega (arith, place, arm_end-steps lim p m e), λ marks l. rw (place, h.same_lines, h.same_codes) (arm_end lim p m e l))
+            let place : j ≡ x.steps = cc (is, h.stores) in (
+              omega (arith, place, arm_end-steps lim p m e),
+              λ f is l o held empty.
+                  let marks : length a'.wanted ≡ 64 = marked x a' is l in
+                  rw (is, place, h.same_codes, h.same_lines) (arm_end lim p m e (rw h.same_lines at marks) held empty),
+            )
         go L.Done e h = other (sym is ∙ h.stores) (λ z. omega arith)
         go (L.Loop f named) e h = other (sym is ∙ h.stores) (λ z. omega arith)
         go (L.Rule y c) e h = other (sym is ∙ h.stores) (λ z. omega arith)
         go L.NoForm e h = other (sym is ∙ h.stores) (λ z. omega arith)
 
     -- .. and of the last step of a loop
-    pub behind-last : {j : ℕ} → v ≡ W.Last j → (j < 32) × ((d : Frame) → Goes codes' slots (set frames j (last_frame (get_or frames j d))) a')
+    pub behind-last : {j : ℕ} → v ≡ Some (W.Last j) → (j < 32) × ((d : Frame) → Goes codes' slots (set frames j (last_frame (get_or frames j d))) a')
     behind-last {j} is = go r.line refl h.leaves
       where
         go : (o : LineRead) → r.line ≡ o → LineLeaves x a b a' codes' o v → (j < 32) × ((d : Frame) → Goes codes' slots (set frames j (last_frame (get_or frames j d))) a')
@@ -102,7 +112,7 @@ module _ {scope : Scope} (lim : Limits scope.sizes) {t : List ℕ} {a : Lines} {
         go L.NoForm e h = other (sym is ∙ h.stores) (λ z. omega arith)
 
     -- nothing
-    pub behind-none : v ≡ W.Nothing → Goes codes' slots frames a'
+    pub behind-none : v ≡ None → Goes codes' slots frames a'
     behind-none is = go r.line refl h.leaves
       where
         go : (o : LineRead) → r.line ≡ o → LineLeaves x a b a' codes' o v → Goes codes' slots frames a'

@@ -11,79 +11,59 @@ use program::Program;
 use text_judge::next_line;
 use text_plan::store;
 use text_plan::store::Store;
+use text_readings::Open;
+use text_refusals::Refusal;
 use text_rules::scope::Scope;
 use text_state::state;
+use text_state::state::State;
 
-// A program, where the refusal is 0; otherwise the refusal's number and its line.
-#[derive(Drop)]
-pub struct Checked {
-    pub refusal: u32,
+// Why a text is refused, and at which line.
+#[derive(Clone, Copy, Debug, PartialEq, Eq)]
+pub struct Refused {
+    pub refusal: Refusal,
     pub line: usize,
-    pub program: Program,
 }
 
 // The program of the lines of a text, the codes of its expressions in the lent array, which has a place for each of its at most
 // 8,192 bytes. The plan of the open step is held beside it.
-pub fn read_lines(text: &[u8], scope: Scope, codes: &mut [u64]) -> Checked
+pub fn read_lines(text: &[u8], scope: Scope, codes: &mut [u64]) -> Result<Program, Refused>
     requires { Limits scope.sizes × (length text.now ≤ 8192) × (length codes.old ≡ 8192) }
     ensures { Answers codes.new (read_from scope start_of 1 (lines text.now)) result }
 {
-    let mut keys = [0u64; 64];
-    let mut rounds = [0u8; 64];
-    let mut backs = [0u8; 64];
-    let mut reads = [0u8; 64];
-    let mut count = 0;
-    let mut wanted = [false; 64];
+    let mut open_step = Open::empty();
     let mut slots = [store::empty_slot(); 1024];
     let mut frames = [store::empty_frame(); 32];
-    let mut state = state::start();
+    let mut state = State::start();
     let mut used = 0;
     let mut at = 0;
     let mut line = 1;
-    let mut refusal = 0;
     while at < text.len() {
-        let next = next_line(text, at, scope, state, codes, used, 64 < count);
-        refusal = next.refusal;
-        if refusal != 0 {
-            break;
-        }
-        let read = next.line;
-        let lines = count;
-        let stores = store::plan_line(
-            &mut keys,
-            &mut rounds,
-            &mut backs,
-            &mut reads,
-            &mut count,
-            &mut wanted,
-            codes,
-            state,
-            read,
-        );
-        match stores {
-            Store::Rule(place, located) => slots[place] = located,
-            Store::Close(step) => {
-                let plan = store::plan_of(&keys, &rounds, &backs, &reads, count);
-                frames[step] = state::open_frame(state, plan, wanted);
-                count = 0;
-                wanted = [false; 64];
+        let next = match next_line(text, at, scope, state, codes, used, open_step.full) {
+            Ok(next) => next,
+            Err(refusal) => return Err(Refused { refusal, line }),
+        };
+        let lines = open_step.plan.count;
+        match store::plan_line(&mut open_step, codes, state, next.line) {
+            Some(Store::Rule(place, located)) => slots[place] = located,
+            Some(Store::Close(step)) => {
+                frames[step] = state.open_frame(open_step.plan, open_step.wanted);
+                open_step = Open::empty();
             }
-            Store::Last(step) => frames[step] = state::last_frame(frames[step]),
-            Store::Nothing => {}
+            Some(Store::Last(step)) => frames[step] = state::last_frame(frames[step]),
+            None => {}
         }
-        state = state::advance(state, lines, read);
+        state = state.advance(lines, next.line);
         used = next.used;
         at = next.end + 1;
         line += 1;
     }
-    Checked {
-        refusal: text_refusals::refusal_or_last(refusal, state),
-        line,
-        program: Program {
+    match text_refusals::last_refusal(state) {
+        Ok(()) => Ok(Program {
             slots,
             frames,
             steps: state.steps,
             lines: state.lines,
-        },
+        }),
+        Err(refusal) => Err(Refused { refusal, line }),
     }
 }

@@ -17,14 +17,15 @@ use Rattle.program.specs.declared.location.Location.{Location}
 use Rattle.program.specs.declared.rule.Operator.TheVariants.{Plus, Minus, Smaller}
 use Rattle.program.specs.Code.{Code, number, operator, unknown, code_readings, kind_in, chain_in, number_in, of_kind, code_of, code_at, codes_from, with_location, IfChain, EachChain}
 use Rattle.program.proofs.Codes.{readings-append, codes-first, codes-none, codes-more, codes_agree, chain_at, chain_listed, located_chain, located-at, located-code}
-use Rattle.text_readings.specs.Readings.{code_words, Short, Lines, NotFull, Growing, WordPlaced, ReadingAdded, Walked}
+use Rattle.text_readings.specs.declared.Open.{Open}
+use Rattle.text_readings.specs.Readings.{code_words, Short, NotFull, WordPlaced, ReadingAdded, Walked}
 use Rattle.text_readings.proofs.Plans.{grown_none, grown_both}
 
 -- no reading, and one walk behind another
-pub walked_none : {From : ℕ → Type 0} {Found : Lines → List ℕ → Type 0} {a : Lines} {codes : List ℕ} → Growing a → Found a codes
+pub walked_none : {From : ℕ → Type 0} {Found : Open → List ℕ → Type 0} {a : Open} {codes : List ℕ} → Found a codes
     → Walked [] From Found a codes a codes
-walked_none g f = record {
-  grown = grown_none g;
+walked_none f = record {
+  grown = grown_none;
   same = λ i. refl;
   sized = refl;
   keeps = λ n i h. h;
@@ -32,20 +33,20 @@ walked_none g f = record {
   found = λ n. f;
 }
 
-pub walked_both : {vs us : List (List ℕ)} {From From' : ℕ → Type 0} {Found Found' : Lines → List ℕ → Type 0} {a b c : Lines} {k k' k'' : List ℕ}
+pub walked_both : {vs us : List (List ℕ)} {From From' : ℕ → Type 0} {Found Found' : Open → List ℕ → Type 0} {a b c : Open} {k k' k'' : List ℕ}
     → (NotFull c → Found b k' → Found c k'') → Walked vs From Found a k b k' → Walked us From' Found' b k' c k''
     → Walked (vs ++ us) (λ n. From n × From' n) (λ x z. Found x z × Found' x z) a k c k''
 walked_both {vs} {us} stay h k = record {
   grown = grown_both vs us h.grown k.grown;
   same = λ i. h.same i ∙ k.same i;
   sized = k.sized ∙ h.sized;
-  keeps = λ n i p. k.keeps n i (h.keeps (omega (arith, n, k.grown.more)) i p);
+  keeps = λ n i p. k.keeps n i (h.keeps (k.grown.kept n) i p);
   below = λ n f i j. k.below n f.1 i j ∙ h.below n f.0 i j;
-  found = λ n. (stay n (h.found (omega (arith, n, k.grown.more))), k.found n);
+  found = λ n. (stay n (h.found (k.grown.kept n)), k.found n);
 }
 
 -- a walk told in other words
-pub walked_as : {vs us : List (List ℕ)} {From From' : ℕ → Type 0} {Found Found' : Lines → List ℕ → Type 0} {a b : Lines} {k k' : List ℕ}
+pub walked_as : {vs us : List (List ℕ)} {From From' : ℕ → Type 0} {Found Found' : Open → List ℕ → Type 0} {a b : Open} {k k' : List ℕ}
     → vs ≡ us → ((n : ℕ) → From' n → From n) → (Found b k' → Found' b k') → Walked vs From Found a k b k' → Walked us From' Found' a k b k'
 walked_as e from found h = record {
   grown = rw e at h.grown;
@@ -57,8 +58,8 @@ walked_as e from found h = record {
 }
 
 -- a chain alone leaves the codes as they are
-pub walked_chain : {w : List ℕ} {From : ℕ → Type 0} {Found : Lines → List ℕ → Type 0} {a b : Lines} {at : Location} (codes : List ℕ)
-    → ReadingAdded w a b at → ((x : Lines) → WordPlaced x at w → Found x codes) → Walked (w ∷ []) From Found a codes b codes
+pub walked_chain : {w : List ℕ} {From : ℕ → Type 0} {Found : Open → List ℕ → Type 0} {a b : Open} {at : Location} (codes : List ℕ)
+    → ReadingAdded w a b at → ((x : Open) → WordPlaced x at w → Found x codes) → Walked (w ∷ []) From Found a codes b codes
 walked_chain {b = b} codes h f = record {
   grown = h.grown;
   same = λ i. refl;
@@ -117,7 +118,7 @@ pub short_chain : (codes : List ℕ) (from to at : ℕ) → from ≤ at → at <
 short_chain codes from to at f t h e = each_of _ h (chain_listed codes from to at f t e)
 
 -- the code of a chain that is added
-module _ {a b : Lines} (codes : List ℕ) (i : ℕ) (inside : i < length codes) (chain : kind_in (get_or codes i 0) ≡ 0) {x : Location}
+module _ {a b : Open} (codes : List ℕ) (i : ℕ) (inside : i < length codes) (chain : kind_in (get_or codes i 0) ≡ 0) {x : Location}
     (h : ReadingAdded (unpack (chain_in (get_or codes i 0))) a b x) where
   abbrev c : ℕ
   c = get_or codes i 0
@@ -154,12 +155,12 @@ module _ {a b : Lines} (codes : List ℕ) (i : ℕ) (inside : i < length codes) 
   }
 
 -- a code that is no chain
-pub walked_other : {a : Lines} (codes : List ℕ) (i : ℕ) → Growing a → kind_in (get_or codes i 0) ≢ 0
+pub walked_other : {a : Open} (codes : List ℕ) (i : ℕ) → kind_in (get_or codes i 0) ≢ 0
     → Walked (code_words codes i (suc i)) (λ n. n ≤ i) (λ y z. IfChain (WordPlaced y) (get_or z i 0)) a codes a codes
-walked_other codes i g n = rw (words-other codes i n) (walked_none g (λ e. absurd (n e)))
+walked_other codes i n = rw (words-other codes i n) (walked_none (λ e. absurd (n e)))
 
 -- one code more behind others
-pub walked_more : {a b c : Lines} {k k' k'' : List ℕ} (from at : ℕ) → from ≤ at
+pub walked_more : {a b c : Open} {k k' k'' : List ℕ} (from at : ℕ) → from ≤ at
     → Walked (code_words k from at) (λ n. n ≤ from) (λ x z. EachChain (WordPlaced x) z from at) a k b k'
     → Walked (code_words k' at (suc at)) (λ n. n ≤ at) (λ x z. IfChain (WordPlaced x) (get_or z at 0)) b k' c k''
     → Walked (code_words k from (at + 1)) (λ n. n ≤ from) (λ x z. EachChain (WordPlaced x) z from (at + 1)) a k c k''

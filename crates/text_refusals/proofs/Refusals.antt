@@ -1,5 +1,5 @@
 -- The refusal of a line, as the reader finds it, is the lowest number that applies to it.
-use Prim.Native.Nat.{ℕ, zero, suc, ◌≤◌}
+use Prim.Native.Nat.{ℕ, ◌≤◌}
 use mathlib.Core.Path.{◌≡◌, refl, sym, ap, ◌∙◌}
 use mathlib.Core.Bool.{Bool, true, false, cond, not, ◌&&◌, ◌||◌}
 use mathlib.Core.List.{List}
@@ -31,16 +31,6 @@ use Rattle.text_refusals.specs.Refusal.{checks_refusal, step_refusal, end_refusa
 use Rattle.text_state.specs.declared.tally.Tally.{Tally}
 use Rattle.text_state.specs.declared.state.State as S
 use Rattle.text_state.proofs.Standing.{Counts, Stands}
-
--- a number that is not 0 stands, and one that is 0 gives way
-pub or-first : (n m : ℕ) → (n ≡ 0 → ⊥) → or_else n m ≡ n
-unfolding or_else
-or-first zero m h = absurd (h refl)
-or-first (suc n) m h = refl
-
-pub or-none : (n m : ℕ) → n ≡ 0 → or_else n m ≡ m
-unfolding or_else
-or-none n m h = rw h
 
 -- the lowest number that applies to a line, 7 where it has no form
 unfoldable pub number : Scope → State → Option Line → ℕ
@@ -88,19 +78,19 @@ and-done false = refl
 -- 9 to 12, 24 and 25, and behind them another number, which may depend on their passing
 checks_first : (c : Checks) (n m : ℕ) → (all_pass c ≡ true → n ≡ m)
     → or_else (checks_refusal c) n ≡ cond (not c.named) 9 (cond (not c.kinded) 10 (cond (not c.short) 11 (cond (not c.ranged) 12 (cond (not c.shallow) 24 (cond (not c.few) 25 m)))))
-unfolding checks_refusal all_pass
+unfolding checks_refusal all_pass or_else
 checks_first c n m = go c.named c.kinded c.short c.ranged c.shallow c.few
   where
     go : (a b d e f g : Bool) → (a && (b && (d && (e && (f && g)))) ≡ true → n ≡ m)
         → or_else (cond (not a) 9 (cond (not b) 10 (cond (not d) 11 (cond (not e) 12 (cond (not f) 24 (cond (not g) 25 0)))))) n
         ≡ cond (not a) 9 (cond (not b) 10 (cond (not d) 11 (cond (not e) 12 (cond (not f) 24 (cond (not g) 25 m)))))
-    go false b d e f g h = or-first 9 n (λ z. omega arith)
-    go true false d e f g h = or-first 10 n (λ z. omega arith)
-    go true true false e f g h = or-first 11 n (λ z. omega arith)
-    go true true true false f g h = or-first 12 n (λ z. omega arith)
-    go true true true true false g h = or-first 24 n (λ z. omega arith)
-    go true true true true true false h = or-first 25 n (λ z. omega arith)
-    go true true true true true true h = or-none 0 n refl ∙ h refl
+    go false b d e f g h = refl
+    go true false d e f g h = refl
+    go true true false e f g h = refl
+    go true true true false f g h = refl
+    go true true true true false g h = refl
+    go true true true true true false h = refl
+    go true true true true true true h = h refl
 
 module _ (scope : Scope) {x : S.State} {st : State} (h : Stands x st) (full : Bool) (f : full ≡ ltb 64 (length (step_plan (open_rules st)))) where
   -- 13 and 14, of a rule that passes what is asked before

@@ -1,2 +1,3 @@
 -- Why a line is refused.
 pub mod Refusal
+pub mod Number

@@ -2,152 +2,177 @@
 #![tactic(auto)]
 
 ghost use Rattle.std.specs.Prelude.{◌≡◌};
-ghost use Rattle.laws.specs.Outcome.{or_else};
+ghost use Rattle.text_refusals.specs.Number.{refusal_number, check_number};
 ghost use Rattle.text_refusals.specs.Refusal.{checks_refusal, rule_refusal, step_refusal, end_refusal, misplaced, loop_refusal, done_refusal, refusal_of, last_refusal};
 
 use program::rule::Rule;
-use text_rules::around;
 use text_rules::line::{Checks, LineRead};
 use text_state::state::State;
-use text_state::tally;
+
+// What is wrong with a line: it has no form; it stands in the wrong place; it names no field; its kinds differ; a chain has too many
+// hops; a number is out of range; there are too many steps or rules; a field takes both sorts of remote write; a plan has too many
+// lines; a group is too deep; there are too many operators.
+#[derive(Clone, Copy, Debug, PartialEq, Eq)]
+pub enum Refusal {
+    Form,
+    Place,
+    Field,
+    Kind,
+    Hops,
+    Range,
+    Limit,
+    Sort,
+    Lines,
+    Depth,
+    Operators,
+}
+
+impl Refusal {
+    // Document 01's number of a refusal.
+    #[tactic(auto, unfolding(crate::specs::Number::refusal_number))]
+    pub fn number(self) -> u32
+        ensures { result ≡ refusal_number self }
+    {
+        match self {
+            Refusal::Form => 7,
+            Refusal::Place => 8,
+            Refusal::Field => 9,
+            Refusal::Kind => 10,
+            Refusal::Hops => 11,
+            Refusal::Range => 12,
+            Refusal::Limit => 13,
+            Refusal::Sort => 14,
+            Refusal::Lines => 15,
+            Refusal::Depth => 24,
+            Refusal::Operators => 25,
+        }
+    }
+}
 
 // The first of 9 to 12, 24 and 25.
-fn checks_refusal(checks: Checks) -> u32
-    ensures { result ≡ checks_refusal checks }
+#[tactic(auto, unfolding(crate::specs::Refusal::checks_refusal, crate::specs::Number::check_number, crate::specs::Number::refusal_number))]
+fn checks_refusal(checks: Checks) -> Result<(), Refusal>
+    ensures { check_number result ≡ checks_refusal checks }
 {
     if !checks.named {
-        return 9;
+        return Err(Refusal::Field);
     }
     if !checks.kinded {
-        return 10;
+        return Err(Refusal::Kind);
     }
     if !checks.short {
-        return 11;
+        return Err(Refusal::Hops);
     }
     if !checks.ranged {
-        return 12;
+        return Err(Refusal::Range);
     }
     if !checks.shallow {
-        return 24;
+        return Err(Refusal::Depth);
     }
     if !checks.few {
-        return 25;
+        return Err(Refusal::Operators);
     }
-    0
+    Ok(())
 }
 
-fn rule_refusal(state: State, rule: Rule, checks: Checks) -> u32
-    ensures { result ≡ rule_refusal state rule checks }
+#[tactic(auto, using(crate::proofs::Numbers::number_stands), unfolding(crate::specs::Refusal::rule_refusal, crate::specs::Number::check_number, crate::specs::Number::refusal_number, laws::specs::Outcome::or_else))]
+fn rule_refusal(state: State, rule: Rule, checks: Checks) -> Result<(), Refusal>
+    ensures { check_number result ≡ rule_refusal state rule checks }
 {
-    let inside = state.in_step;
-    if !inside {
-        return 8;
+    if !state.in_step {
+        return Err(Refusal::Place);
     }
-    let refusal = checks_refusal(checks);
-    if refusal != 0 {
-        return refusal;
+    checks_refusal(checks)?;
+    if 32 <= state.tally.rules {
+        return Err(Refusal::Limit);
     }
-    let tally = state.tally;
-    if 32 <= tally.rules {
-        return 13;
+    if state.tally.is_other_sort(rule) {
+        return Err(Refusal::Sort);
     }
-    if tally::is_other_sort(tally, rule) {
-        return 14;
-    }
-    0
+    Ok(())
 }
 
-fn step_refusal(state: State) -> u32
-    ensures { result ≡ step_refusal state }
+#[tactic(auto, unfolding(crate::specs::Refusal::step_refusal, crate::specs::Number::check_number, crate::specs::Number::refusal_number))]
+fn step_refusal(state: State) -> Result<(), Refusal>
+    ensures { check_number result ≡ step_refusal state }
 {
     if state.in_step {
-        return 8;
+        return Err(Refusal::Place);
     }
     if 32 <= state.steps {
-        return 13;
+        return Err(Refusal::Limit);
     }
-    0
+    Ok(())
 }
 
 // `full`: the plan of the open step needs more than 64 lines.
-fn end_refusal(state: State, full: bool) -> u32
-    ensures { result ≡ end_refusal state full }
+#[tactic(auto, unfolding(crate::specs::Refusal::end_refusal, crate::specs::Number::check_number, crate::specs::Number::refusal_number))]
+fn end_refusal(state: State, full: bool) -> Result<(), Refusal>
+    ensures { check_number result ≡ end_refusal state full }
 {
     if !state.in_step {
-        return 8;
+        return Err(Refusal::Place);
     }
     if full {
-        return 15;
+        return Err(Refusal::Lines);
     }
-    0
+    Ok(())
 }
 
 // Whether a line that stands outside steps is out of place; `fits`: the loop around, or none, is one that it asks for.
+#[tactic(auto, unfolding(crate::specs::Refusal::misplaced))]
 fn is_misplaced(state: State, fits: bool) -> bool
     ensures { result ≡ misplaced state fits }
 {
     state.in_step | !fits
 }
 
-fn loop_refusal(state: State, named: bool) -> u32
-    ensures { result ≡ loop_refusal state named }
+#[tactic(auto, unfolding(crate::specs::Refusal::loop_refusal, crate::specs::Number::check_number, crate::specs::Number::refusal_number))]
+fn loop_refusal(state: State, named: bool) -> Result<(), Refusal>
+    ensures { check_number result ≡ loop_refusal state named }
 {
-    let around = state.around;
-    let outside = around::is_outside(around);
+    let outside = state.around.is_outside();
     if is_misplaced(state, outside) {
-        return 8;
+        return Err(Refusal::Place);
     }
     if !named {
-        return 9;
+        return Err(Refusal::Field);
     }
-    0
+    Ok(())
 }
 
-fn done_refusal(state: State) -> u32
-    ensures { result ≡ done_refusal state }
+#[tactic(auto, unfolding(crate::specs::Refusal::done_refusal, crate::specs::Number::check_number, crate::specs::Number::refusal_number))]
+fn done_refusal(state: State) -> Result<(), Refusal>
+    ensures { check_number result ≡ done_refusal state }
 {
-    let around = state.around;
-    let used = around::is_used(around);
-    if is_misplaced(state, used) {
-        return 8;
+    if is_misplaced(state, state.around.is_used()) {
+        return Err(Refusal::Place);
     }
-    0
+    Ok(())
 }
 
-// The lowest number that applies to a line, 0 for a line that passes.
-pub fn refusal(state: State, full: bool, read: LineRead) -> u32
-    ensures { result ≡ refusal_of state full read }
+// The lowest number that applies to a line.
+#[tactic(auto, unfolding(crate::specs::Refusal::refusal_of, crate::specs::Number::check_number, crate::specs::Number::refusal_number))]
+pub fn line_refusal(state: State, full: bool, read: LineRead) -> Result<(), Refusal>
+    ensures { check_number result ≡ refusal_of state full read }
 {
     match read {
         LineRead::Step => step_refusal(state),
         LineRead::End => end_refusal(state, full),
         LineRead::Done => done_refusal(state),
         LineRead::Loop(_, named) => loop_refusal(state, named),
-        LineRead::Rule(slot, checks) => {
-            let rule = slot.rule;
-            rule_refusal(state, rule, checks)
-        }
-        LineRead::NoForm => 7,
+        LineRead::Rule(slot, checks) => rule_refusal(state, slot.rule, checks),
+        LineRead::NoForm => Err(Refusal::Form),
     }
 }
 
 // Behind the last line: 8 where a step or a loop is still open.
-fn last_refusal(state: State) -> u32
-    ensures { result ≡ last_refusal state }
+#[tactic(auto, unfolding(crate::specs::Refusal::last_refusal, crate::specs::Number::check_number, crate::specs::Number::refusal_number))]
+pub fn last_refusal(state: State) -> Result<(), Refusal>
+    ensures { check_number result ≡ last_refusal state }
 {
-    let around = state.around;
-    if is_misplaced(state, around::is_outside(around)) {
-        return 8;
+    if is_misplaced(state, state.around.is_outside()) {
+        return Err(Refusal::Place);
     }
-    0
-}
-
-// The refusal of a line, or of the end of the text where no line has one.
-pub fn refusal_or_last(refusal: u32, state: State) -> u32
-    ensures { result ≡ or_else refusal (last_refusal state) }
-{
-    if refusal != 0 {
-        return refusal;
-    }
-    last_refusal(state)
+    Ok(())
 }

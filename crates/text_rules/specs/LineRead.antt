@@ -20,6 +20,31 @@ line_checks s l = record { named = named s l; kinded = kinded l; short = short l
 unfoldable pub all_pass : Checks → Bool
 all_pass c = c.named && (c.kinded && (c.short && (c.ranged && (c.shallow && c.few))))
 
+-- asked of nothing
+abbrev pub all_true : Checks
+all_true = record { named = true; kinded = true; short = true; ranged = true; shallow = true; few = true }
+
+-- of two parts; and whether a field is named and kinds agree
+abbrev pub both_checks : Checks → Checks → Checks
+both_checks a b = record {
+  named = a.named && b.named;
+  kinded = a.kinded && b.kinded;
+  short = a.short && b.short;
+  ranged = a.ranged && b.ranged;
+  shallow = a.shallow && b.shallow;
+  few = a.few && b.few;
+}
+
+abbrev pub with_kinds : Checks → Bool → Bool → Checks
+with_kinds k named kinded = record {
+  named = k.named && named;
+  kinded = k.kinded && kinded;
+  short = k.short;
+  ranged = k.ranged;
+  shallow = k.shallow;
+  few = k.few;
+}
+
 -- a rule in the array is the one that is written; k are the codes beside the rules
 pub record RuleRead (k : List ℕ) (c : Condition) (a : Action) (x : Slot) : Type 0 where
   pub rule_is : rule_in k x ≡ rule_of c a

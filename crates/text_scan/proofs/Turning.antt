@@ -23,9 +23,15 @@ use Rattle.text_scan.specs.declared.ScanState.{ScanState}
 use Rattle.text_places.specs.Place.{tokens_from, Passing, Absent, NoOperator}
 use Rattle.text_terms.specs.Term.{TermFormed, NoTerm}
 use Rattle.text_codes.specs.Summary.{summary_of, term_summary}
-use Rattle.text_scan.specs.Scan.{ScanStateAt, scan_of, Turns, ScanEnds, Fails, ScanFormed, NoExpression}
+use Rattle.text_scan.specs.Scan.{ScanStateAt, scan_of, Turns, Fails, ScanFormed, NoExpression}
 use Rattle.text_codes.proofs.Summaries.{term_summary_lem, term_few, operator_few}
 use Rattle.text_places.proofs.Places.{past-absent}
+
+-- the answer, where the turns end
+pub record ScanEnds (s : Sizes) (line : List ℕ) (x : ScanState) (g : Summary) (end : ℕ) : Type 0 where
+  pub answer : scan_of s line x ≡ formed (summary_of g) (tokens_from false line end)
+  pub inside : end ≤ length line
+  pub onward : x.at ≤ end
 
 module _ (s : Sizes) {line : List ℕ} (x : ScanState) (w : ScanStateAt line x) where
   abbrev d : ℕ

@@ -1,5 +1,5 @@
 -- What one pass over an expression answers.
-use Rattle.std.specs.Prelude.{ℕ, ◌≤◌, ◌<◌, ◌≡◌, true, false, List, length}
+use Rattle.std.specs.Prelude.{ℕ, ◌≤◌, ◌<◌, ◌≡◌, true, false, List, length, Option, Some, None}
 use Rattle.register.specs.declared.Sizes.{Sizes}
 use Rattle.text_syntax.specs.Form.{Form, formed, unformed}
 use Rattle.text_syntax.specs.Written.{Expression}
@@ -8,10 +8,6 @@ use Rattle.text_syntax.specs.Flat as F
 use Rattle.text_syntax.specs.Flat.{scan_from, summary}
 use Rattle.text_codes.specs.declared.summary.Summary.{Summary}
 use Rattle.text_scan.specs.declared.ScanState.{ScanState}
-use Rattle.text_scan.specs.declared.Turn.{Turn}
-use Rattle.text_scan.specs.declared.Turn.TheVariants.{Next, Done, NoForm}
-use Rattle.text_scan.specs.declared.ScanRead.{ScanRead}
-use Rattle.text_scan.specs.declared.ScanRead.TheVariants.{Scanned, NoForm as NoScan}
 use Rattle.text_places.specs.Place.{tokens_from}
 use Rattle.text_codes.specs.Summary.{summary_of}
 
@@ -25,24 +21,18 @@ pub record ScanStateAt (line : List ℕ) (x : ScanState) : Type 0 where
 abbrev pub scan_of : Sizes → List ℕ → ScanState → Form F.Summary
 scan_of s line x = scan_from s x.due x.deep (summary_of x.seen) (tokens_from x.due line x.at)
 
--- a turn: the same answer from the next state on, or the answer
+-- a turn: the same answer from the next state on, or no expression
 pub record Turns (s : Sizes) (line : List ℕ) (x y : ScanState) : Type 0 where
   pub same : scan_of s line x ≡ scan_of s line y
   pub onward : x.at < y.at
   pub stands : ScanStateAt line y
 
-pub record ScanEnds (s : Sizes) (line : List ℕ) (x : ScanState) (g : Summary) (end : ℕ) : Type 0 where
-  pub answer : scan_of s line x ≡ formed (summary_of g) (tokens_from false line end)
-  pub inside : end ≤ length line
-  pub onward : x.at ≤ end
-
 pub record Fails (s : Sizes) (line : List ℕ) (x : ScanState) : Type 0 where
   pub none : scan_of s line x ≡ unformed
 
-abbrev pub TurnAt : Sizes → List ℕ → ScanState → Turn → Type 0
-TurnAt s line x (Next y) = Turns s line x y
-TurnAt s line x (Done g end) = ScanEnds s line x g end
-TurnAt s line x NoForm = Fails s line x
+abbrev pub TurnAt : Sizes → List ℕ → ScanState → Option ScanState → Type 0
+TurnAt s line x (Some y) = Turns s line x y
+TurnAt s line x None = Fails s line x
 
 -- an expression stands at a place where an operand is due, with what is asked of it; or none
 pub record ScanFormed (s : Sizes) (line : List ℕ) (at : ℕ) (g : Summary) (end : ℕ) : Type 0 where
@@ -55,6 +45,6 @@ pub record ScanFormed (s : Sizes) (line : List ℕ) (at : ℕ) (g : Summary) (en
 pub record NoExpression (line : List ℕ) (at : ℕ) : Type 0 where
   pub none : expression (tokens_from true line at) ≡ unformed
 
-abbrev pub ScanAt : Sizes → List ℕ → ℕ → ScanRead → Type 0
-ScanAt s line at (Scanned g end) = ScanFormed s line at g end
-ScanAt s line at NoScan = NoExpression line at
+abbrev pub ScanAt : Sizes → List ℕ → ℕ → Option (Summary × ℕ) → Type 0
+ScanAt s line at (Some (g, end)) = ScanFormed s line at g end
+ScanAt s line at None = NoExpression line at

@@ -1,10 +1,9 @@
 -- The expression at a place: by its depth, read with its codes or passed.
 use Prim.Native.Nat.{ℕ, ◌≤◌}
-use mathlib.Core.Path.{◌≡◌, sym, ap, subst, ◌∙◌}
+use mathlib.Core.Path.{◌≡◌, sym, ap, ◌∙◌}
 use mathlib.Core.Bool.{true}
 use mathlib.Core.List.{List}
 use native.Mathlib.Omega.{arith}
-use lib.ListN.{length}
 use Rattle.register.specs.Shape.{Limits}
 use Rattle.register.specs.declared.Sizes.{Sizes}
 use Rattle.program.specs.Code.{postfix, codes_in}
@@ -14,10 +13,10 @@ use Rattle.text_syntax.specs.Flat as F
 use Rattle.text_syntax.specs.Flat.{empty, summary, merged}
 use Rattle.text_syntax.proofs.Scans.{merged-empty}
 use Rattle.text_codes.specs.declared.summary.Summary.{Summary}
+use Rattle.text_joins.specs.declared.Gathered.{Gathered}
 use Rattle.text_codes.specs.Summary.{summary_of}
 use Rattle.text_codes.specs.Codes.{Roomy}
-use Rattle.text_scan.specs.Scan.{ScanFormed, NoExpression}
-use Rattle.text_expressions.specs.Reading.{AllDeep, ReadAs, Unread, TooDeep}
+use Rattle.text_expressions.specs.Reading.{ReadAs}
 use Rattle.text_sides.specs.Expression.{ExpressionFormed}
 use Rattle.text_codes.proofs.Postfix.{codes-postfix}
 
@@ -26,8 +25,8 @@ unfolding empty
 nothing_few e n = omega (arith, ap (λ (f : F.Summary). f.operators) e)
 
 -- what was read, before which nothing was gathered
-pub whole-read : {s : Sizes} {before : Summary} {line : List ℕ} {at : ℕ} {a b : List ℕ} {count : ℕ} {g : Summary} {end to : ℕ} → summary_of before ≡ empty
-    → Roomy a line at count → ReadAs expression s 8 before line at a b count g end to → ExpressionFormed s line at a b count g end to
+pub whole-read : {s : Sizes} {before : Gathered} {line a b : List ℕ} {g : Gathered} → summary_of before.seen ≡ empty
+    → Roomy a line before.end before.used → ReadAs expression s 8 before line a b g → ExpressionFormed s line before.end a b before.used g
 whole-read {s} e r w = record {
   written = w.written;
   form_is = w.form_is;
@@ -39,28 +38,10 @@ whole-read {s} e r w = record {
   roomy = omega (arith, r, w.wrote.same_length, w.few_codes);
 }
 
--- what is too deep, and was passed
-pub whole-passed : {s : Sizes} {line : List ℕ} {at : ℕ} {a b : List ℕ} {count : ℕ} {g : Summary} {end : ℕ} → Roomy a line at count
-    → length b ≡ length a
-    → TooDeep expression 8 line at → ScanFormed s line at g end → ExpressionFormed s line at a b count g end count
-whole-passed r k t w = record {
-  written = w.written;
-  form_is = w.form_is;
-  summary_is = w.summary_is;
-  wrote = λ d. absurd (let more = subst (AllDeep 8) w.form_is t.deep in omega (arith, more, d));
-  more_codes = omega arith;
-  few_codes = omega (arith, w.onward);
-  inside = w.inside;
-  roomy = omega (arith, r, k, w.onward);
-}
-
-pub whole-none : {line : List ℕ} {at : ℕ} → NoExpression line at → Unread expression line at
-whole-none w = record { none = w.none }
-
 -- an expression that passes 9, 11, 12 and 24, and whose chains go over references: its codes are those of its tree
-pub whole-postfix : {s : Sizes} {line : List ℕ} {at : ℕ} {a b : List ℕ} {count : ℕ} {g : Summary} {end to : ℕ} → Limits s
-    → (w : ExpressionFormed s line at a b count g end to) → g.named ≡ true → g.kinded ≡ true → g.short ≡ true → g.ranged ≡ true → g.depth ≤ 8
-    → codes_in b count to ≡ postfix (tree_of w.written)
+pub whole-postfix : {s : Sizes} {line : List ℕ} {at : ℕ} {a b : List ℕ} {count : ℕ} {g : Gathered} → Limits s
+    → (w : ExpressionFormed s line at a b count g) → g.seen.named ≡ true → g.seen.kinded ≡ true → g.seen.short ≡ true → g.seen.ranged ≡ true
+    → g.seen.depth ≤ 8 → codes_in b count g.used ≡ postfix (tree_of w.written)
 unfolding summary
 whole-postfix {s} l w n k h r d =
     let e = w.summary_is in

@@ -1,5 +1,5 @@
 -- Written expressions as the terms of a rule in the array.
-use Rattle.std.specs.Prelude.{ℕ, ◌+◌, ◌≤◌, ◌≡◌, true, false, cond, List, eqb, length, get_or}
+use Rattle.std.specs.Prelude.{ℕ, ◌+◌, ◌≤◌, ◌≡◌, true, false, cond, List, eqb, length, get_or, Option, Some, None}
 use Rattle.register.specs.declared.Sizes.{Sizes}
 use Rattle.program.specs.declared.term.Term.{Term}
 use Rattle.program.specs.declared.term.Term.TheVariants.{Chain, Number, Tree}
@@ -16,14 +16,12 @@ use Rattle.text_syntax.specs.Grammar.{expression}
 use Rattle.text_syntax.specs.Tree.{tree_of}
 use Rattle.text_syntax.specs.Flat as F
 use Rattle.text_rules.specs.LineRead.{all_pass}
-use Rattle.text_codes.specs.declared.summary.Summary.{Summary}
 use Rattle.text_places.specs.Place.{tokens_from}
 use Rattle.text_codes.specs.Summary.{summary_of}
 use Rattle.text_codes.specs.Codes.{Roomy}
 use Rattle.text_expressions.specs.Reading.{Unread}
 use Rattle.text_checks.specs.Checks.{summary_checks}
-use Rattle.text_sides.specs.declared.side.SideRead.{SideRead}
-use Rattle.text_sides.specs.declared.side.SideRead.TheVariants.{Side, NoForm}
+use Rattle.text_sides.specs.declared.side.Side.{Side}
 
 -- the term of one code, and of the codes from..to
 unfoldable pub single_of : ℕ → Term
@@ -53,17 +51,17 @@ pub record Holds (b : List ℕ) (from to : ℕ) (e : Expression) (x : Term) : Ty
   pub inside : TermInside to x
 
 -- an expression stands at a place where an operand is due; if it passes what is asked of it, the term is that expression
-pub record SideFormed (s : Sizes) (line : List ℕ) (at : ℕ) (a b : List ℕ) (count : ℕ) (g : Summary) (x : Term) (end to : ℕ) : Type 0 where
+pub record SideFormed (s : Sizes) (line : List ℕ) (at : ℕ) (a b : List ℕ) (count : ℕ) (x : Side) : Type 0 where
   pub written : Expression
-  pub form_is : expression (tokens_from true line at) ≡ formed written (tokens_from false line end)
-  pub summary_is : summary_of g ≡ F.summary s written
-  pub holds : all_pass (summary_checks g) ≡ true → Holds b count to written x
-  pub kept : all_pass (summary_checks g) ≡ true → SameBelow a b count
-  pub more_codes : count ≤ to
-  pub few_codes : to + at ≤ count + end
-  pub inside : end ≤ length line
-  pub roomy : Roomy b line end to
+  pub form_is : expression (tokens_from true line at) ≡ formed written (tokens_from false line x.end)
+  pub summary_is : summary_of x.seen ≡ F.summary s written
+  pub holds : all_pass (summary_checks x.seen) ≡ true → Holds b count x.used written x.term
+  pub kept : all_pass (summary_checks x.seen) ≡ true → SameBelow a b count
+  pub more_codes : count ≤ x.used
+  pub few_codes : x.used + at ≤ count + x.end
+  pub inside : x.end ≤ length line
+  pub roomy : Roomy b line x.end x.used
 
-abbrev pub SideAt : Sizes → List ℕ → ℕ → List ℕ → List ℕ → ℕ → SideRead → Type 0
-SideAt s line at a b count (Side g x end to) = SideFormed s line at a b count g x end to
-SideAt s line at a b count NoForm = Unread expression line at
+abbrev pub SideAt : Sizes → List ℕ → ℕ → List ℕ → List ℕ → ℕ → Option Side → Type 0
+SideAt s line at a b count (Some x) = SideFormed s line at a b count x
+SideAt s line at a b count None = Unread expression line at

@@ -1,4 +1,5 @@
 -- The signs that a text begins with, by its first byte.
+use Rattle.std.specs.Prelude.{Option}
 use Prim.Native.Nat.{ℕ, ◌+◌, ◌<◌}
 use mathlib.Core.Path.{◌≡◌, refl, sym, ap, ap₂, ◌∙◌}
 use mathlib.Core.Logic.{◌≢◌}
@@ -19,8 +20,8 @@ use Rattle.text_syntax.specs.Lexing.{spelled, words, signs, First, first, none, 
 use Rattle.text_syntax.proofs.Spellings.{less_read}
 use Rattle.text_words.specs.Tokens.{token_code, sized_token, sized_first}
 use Rattle.program.specs.declared.rule.Operator.TheVariants.{Smaller}
+use Rattle.text_words.specs.declared.token.Token.{Token}
 use Rattle.text_words.specs.declared.token.Token.TheVariants.{Write, Operator, Compared}
-use Rattle.text_words.specs.declared.token.SizedToken.{SizedToken}
 
 opens_one : (b : ℕ) (r : List ℕ) → opens_with (b ∷ []) r ≡ starts_with b r
 unfolding opens_with starts_with
@@ -28,11 +29,11 @@ opens_one b [] = refl
 opens_one b (a ∷ r) = and-true (eqb a b)
 
 -- a sign, or a longer one where `=` follows
-pub longer_is : {x short : SizedToken} (r : List ℕ) (f g : First) → x ≡ cond (starts_with 61 r) (sized_first f) short → short ≡ sized_first g
+pub longer_is : {x short : Option (Token × ℕ)} (r : List ℕ) (f g : First) → x ≡ cond (starts_with 61 r) (sized_first f) short → short ≡ sized_first g
     → x ≡ sized_first (cond (opens_with (61 ∷ []) r) f g)
 longer_is r f g e q =
     e
-    ∙ ap₂ (λ (y : Bool) (z : SizedToken). cond y (sized_first f) z) (sym (opens_one 61 r)) q
+    ∙ ap₂ (λ (y : Bool) (z : Option (Token × ℕ)). cond y (sized_first f) z) (sym (opens_one 61 r)) q
     ∙ sym (sized-cond (opens_with (61 ∷ []) r) f g)
 
 -- `<`, and `<?=` or `<?`

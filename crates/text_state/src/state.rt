@@ -1,8 +1,7 @@
 // Where the reader of a text stands, and how it goes on behind a line that has passed.
-ghost use Rattle.std.specs.Prelude.{◌≡◌, ◌+◌, ◌*◌, ◌≤◌, max};
-ghost use Rattle.text_state.specs.State.{start_state, frame_of, last_frame, standing, advance_of};
+ghost use Rattle.std.specs.Prelude.{◌≡◌, ◌+◌, ◌*◌, ◌≤◌, length};
+ghost use Rattle.text_state.specs.State.{start_state, frame_of, last_frame, advance_of};
 
-use crate::tally;
 use crate::tally::Tally;
 use plan_lines::Plan;
 use program::frame::Frame;
@@ -21,112 +20,92 @@ pub struct State {
     pub tally: Tally,
 }
 
-pub fn start() -> State
-    ensures { result ≡ start_state }
-{
-    State {
-        steps: 0,
-        lines: 0,
-        around: Around::Outside,
-        in_step: false,
-        tally: tally::no_rules(),
+impl State {
+    #[tactic(auto, unfolding(crate::specs::State::start_state))]
+    pub fn start() -> State
+        ensures { result ≡ start_state }
+    {
+        State {
+            steps: 0,
+            lines: 0,
+            around: Around::Outside,
+            in_step: false,
+            tally: Tally::no_rules(),
+        }
     }
-}
 
-// The place of the next rule.
-pub fn place(state: State) -> usize
-    requires { (state.steps ≤ 32) × (state.tally.rules ≤ 32) }
-    ensures { result ≡ 32 * state.steps + state.tally.rules }
-{
-    let tally = state.tally;
-    32 * state.steps + tally.rules
-}
+    // The place of the next rule.
+    pub fn place(&self) -> usize
+        requires { (self.now.steps ≤ 32) × (self.now.tally.rules ≤ 32) }
+        ensures { result ≡ 32 * self.now.steps + self.now.tally.rules }
+    {
+        32 * self.steps + self.tally.rules
+    }
 
-// The frame of the open step, with its plan and the lines of it that its rules read.
-pub fn open_frame(state: State, plan: Plan, wanted: [bool; 64]) -> Frame
-    ensures { result ≡ frame_of state plan wanted }
-{
-    let around = state.around;
-    let tally = state.tally;
-    let fields = tally.fields;
-    Frame {
-        rules: tally.rules,
-        remote: tally.remote,
-        fields,
-        setting: around::setting_in(around),
-        plan,
-        wanted,
+    // The frame of the open step, with its plan and the lines of it that its rules read.
+    #[tactic(auto, unfolding(crate::specs::State::frame_of))]
+    pub fn open_frame(&self, plan: Plan, wanted: [bool; 64]) -> Frame
+        ensures frame { result ≡ frame_of self.now plan wanted }
+        ensures sized { length result.wanted ≡ 64 }
+    {
+        Frame {
+            rules: self.tally.rules,
+            remote: self.tally.remote,
+            fields: self.tally.fields,
+            setting: self.around.setting_in(),
+            plan,
+            wanted,
+        }
+    }
+
+    // Behind a line that has passed; n is the number of lines of the open step's plan.
+    #[tactic(auto, unfolding(crate::specs::State::advance_of, crate::specs::State::standing))]
+    pub fn advance(self, n: usize, read: LineRead) -> State
+        requires { (self.steps ≤ 32) × (self.tally.rules ≤ 32) }
+        ensures { result ≡ advance_of self n read }
+    {
+        match read {
+            LineRead::Step => State {
+                in_step: true,
+                tally: Tally::no_rules(),
+                ..self
+            },
+            LineRead::End => State {
+                steps: self.steps + 1,
+                lines: self.lines.max(n),
+                around: self.around.with_step(),
+                in_step: false,
+                tally: Tally::no_rules(),
+            },
+            LineRead::Done => State {
+                around: Around::Outside,
+                in_step: false,
+                tally: Tally::no_rules(),
+                ..self
+            },
+            LineRead::Loop(field, _) => State {
+                around: Around::Unused(field),
+                in_step: false,
+                tally: Tally::no_rules(),
+                ..self
+            },
+            LineRead::Rule(slot, _) => State {
+                in_step: true,
+                tally: self.tally.with_rule(slot.rule),
+                ..self
+            },
+            LineRead::NoForm => self,
+        }
     }
 }
 
 // The frame of a step that is the last of its loop.
+#[tactic(auto, unfolding(crate::specs::State::last_frame))]
 pub fn last_frame(frame: Frame) -> Frame
     ensures { result ≡ last_frame frame }
 {
-    let setting = frame.setting;
-    let plan = frame.plan;
-    let fields = frame.fields;
-    let wanted = frame.wanted;
     Frame {
-        rules: frame.rules,
-        remote: frame.remote,
-        fields,
-        setting: around::last_of(setting),
-        plan,
-        wanted,
-    }
-}
-
-fn larger(a: usize, b: usize) -> usize
-    ensures { result ≡ max a b }
-{
-    if a < b { b } else { a }
-}
-
-// Behind the line that closes a step, whose plan has n lines.
-fn behind_end(state: State, n: usize) -> State
-    requires { state.steps ≤ 32 }
-    ensures { result ≡ advance_of state n LineRead.End }
-{
-    let around = state.around;
-    State {
-        steps: state.steps + 1,
-        lines: larger(state.lines, n),
-        around: around::with_step(around),
-        in_step: false,
-        tally: tally::no_rules(),
-    }
-}
-
-// Behind any other line that changes nothing but this.
-fn behind(state: State, around: Around, in_step: bool, tally: Tally) -> State
-    ensures { result ≡ standing state around in_step tally }
-{
-    State {
-        steps: state.steps,
-        lines: state.lines,
-        around,
-        in_step,
-        tally,
-    }
-}
-
-// Behind a line that has passed.
-pub fn advance(state: State, n: usize, read: LineRead) -> State
-    requires { (state.steps ≤ 32) × (state.tally.rules ≤ 32) }
-    ensures { result ≡ advance_of state n read }
-{
-    let around = state.around;
-    match read {
-        LineRead::Step => behind(state, around, true, tally::no_rules()),
-        LineRead::End => behind_end(state, n),
-        LineRead::Done => behind(state, Around::Outside, false, tally::no_rules()),
-        LineRead::Loop(field, _) => behind(state, Around::Unused(field), false, tally::no_rules()),
-        LineRead::Rule(slot, _) => {
-            let rule = slot.rule;
-            let tally = state.tally;
-            behind(state, around, true, tally::with_rule(tally, rule))
-        }
-        LineRead::NoForm => state,
+        setting: around::last_of(frame.setting),
+        ..frame
     }
 }

@@ -14,104 +14,88 @@ pub struct Tally {
     pub totals: [bool; 16],
 }
 
-pub fn no_rules() -> Tally
-    ensures { result ≡ no_rules }
+fn is_taken(fields: &[bool; 16], field: u64) -> bool
+    ensures { result ≡ get_or fields.now field false }
 {
-    Tally {
-        rules: 0,
-        remote: false,
-        fields: [false; 16],
-        leasts: [false; 16],
-        totals: [false; 16],
-    }
+    fields.get(field as usize).copied().unwrap_or(false)
 }
 
-fn is_taken(fields: [bool; 16], field: u64) -> bool
-    ensures { result ≡ get_or fields field false }
-{
-    if field < 16 {
-        return fields[field as usize];
-    }
-    false
-}
-
-fn with_taken(fields: [bool; 16], field: u64) -> [bool; 16]
+fn with_taken(mut fields: [bool; 16], field: u64) -> [bool; 16]
     ensures { result ≡ set fields field true }
 {
-    if 16 <= field {
-        return fields;
+    if field < 16 {
+        fields[field as usize] = true;
     }
-    let mut next = fields;
-    next[field as usize] = true;
-    next
+    fields
 }
 
-// 14: whether a rule is of the other sort than its field has taken.
-pub fn is_other_sort(tally: Tally, rule: Rule) -> bool
-    ensures { result ≡ other_sort tally rule }
-{
-    let leasts = tally.leasts;
-    let totals = tally.totals;
-    match rule {
-        Rule::Set(_, _) => false,
-        Rule::Combine(_, _, _, _) => false,
-        Rule::Remote(sort, field, _, _) => match sort {
-            Sort::Least => is_taken(totals, field),
-            Sort::Total => is_taken(leasts, field),
-        },
+impl Tally {
+    #[tactic(auto, unfolding(crate::specs::State::no_rules))]
+    pub fn no_rules() -> Tally
+        ensures { result ≡ no_rules }
+    {
+        Tally {
+            rules: 0,
+            remote: false,
+            fields: [false; 16],
+            leasts: [false; 16],
+            totals: [false; 16],
+        }
     }
-}
 
-// One more rule, that writes a field and is not remote.
-fn more_rules(tally: Tally, field: u64) -> Tally
-    requires { tally.rules ≤ 32 }
-    ensures { result ≡ more_rules tally field }
-{
-    let fields = tally.fields;
-    let leasts = tally.leasts;
-    let totals = tally.totals;
-    Tally {
-        rules: tally.rules + 1,
-        remote: tally.remote,
-        fields: with_taken(fields, field),
-        leasts,
-        totals,
+    // 14: whether a rule is of the other sort than its field has taken.
+    #[tactic(auto, unfolding(crate::specs::State::other_sort))]
+    pub fn is_other_sort(&self, rule: Rule) -> bool
+        ensures { result ≡ other_sort self.now rule }
+    {
+        match rule {
+            Rule::Set(..) | Rule::Combine(..) => false,
+            Rule::Remote(Sort::Least, field, ..) => is_taken(&self.totals, field),
+            Rule::Remote(Sort::Total, field, ..) => is_taken(&self.leasts, field),
+        }
     }
-}
 
-// A remote rule of this sort, that writes this field.
-fn with_remote(tally: Tally, sort: Sort, field: u64) -> Tally
-    ensures { result ≡ with_remote tally sort field }
-{
-    let fields = tally.fields;
-    let leasts = tally.leasts;
-    let totals = tally.totals;
-    match sort {
-        Sort::Least => Tally {
-            rules: tally.rules,
-            remote: true,
-            fields,
-            leasts: with_taken(leasts, field),
-            totals,
-        },
-        Sort::Total => Tally {
-            rules: tally.rules,
-            remote: true,
-            fields,
-            leasts,
-            totals: with_taken(totals, field),
-        },
+    // One more rule, that writes a field and is not remote.
+    #[tactic(auto, unfolding(crate::specs::State::more_rules))]
+    fn more_rules(self, field: u64) -> Tally
+        requires { self.rules ≤ 32 }
+        ensures { result ≡ more_rules self field }
+    {
+        Tally {
+            rules: self.rules + 1,
+            fields: with_taken(self.fields, field),
+            ..self
+        }
     }
-}
 
-// With one more rule.
-pub fn with_rule(tally: Tally, rule: Rule) -> Tally
-    requires { tally.rules ≤ 32 }
-    ensures { result ≡ with_rule tally rule }
-{
-    match rule {
-        Rule::Set(field, _) => more_rules(tally, field),
-        Rule::Combine(field, _, _, _) => more_rules(tally, field),
-        Rule::Remote(sort, field, _, _) => with_remote(more_rules(tally, field), sort, field),
+    // A remote rule of this sort, that writes this field.
+    #[tactic(auto, unfolding(crate::specs::State::with_remote))]
+    fn with_remote(self, sort: Sort, field: u64) -> Tally
+        ensures { result ≡ with_remote self sort field }
+    {
+        match sort {
+            Sort::Least => Tally {
+                remote: true,
+                leasts: with_taken(self.leasts, field),
+                ..self
+            },
+            Sort::Total => Tally {
+                remote: true,
+                totals: with_taken(self.totals, field),
+                ..self
+            },
+        }
+    }
+
+    // With one more rule.
+    #[tactic(auto, unfolding(crate::specs::State::with_rule))]
+    pub fn with_rule(self, rule: Rule) -> Tally
+        requires { self.rules ≤ 32 }
+        ensures { result ≡ with_rule self rule }
+    {
+        match rule {
+            Rule::Set(field, ..) | Rule::Combine(field, ..) => self.more_rules(field),
+            Rule::Remote(sort, field, ..) => self.more_rules(field).with_remote(sort, field),
+        }
     }
 }

@@ -1,7 +1,6 @@
 -- Chains, link by link: what a chain begins with, its inner chain, and the brackets behind it.
 use Prim.Native.Nat.{ℕ, suc, ◌+◌, ◌-◌, ◌*◌, ◌^◌, ◌≤◌, ◌<◌}
-use mathlib.Core.Path.{◌≡◌, refl, sym, ap, subst, ◌∙◌}
-use mathlib.Core.Logic.{◌≢◌}
+use mathlib.Core.Path.{◌≡◌, refl, sym, ap, ◌∙◌}
 use mathlib.Core.Bool.{Bool, false}
 use mathlib.Core.List.{List, [], ◌∷◌, ◌++◌}
 use mathlib.Core.Option.{Option, none, some}
@@ -19,11 +18,9 @@ use Rattle.text_syntax.specs.Grammar.{chain_form}
 use Rattle.text_syntax.specs.Flat.{closed_chain, chain_from}
 use Rattle.text_syntax.proofs.Chains.{chain_own, chain_letter, chain_none}
 use Rattle.text_syntax.proofs.Scans.{chain_start, chain_opens, chain_within}
-use Rattle.text_terms.specs.declared.chains.ChainRead.{ChainRead}
-use Rattle.text_terms.specs.declared.chains.ChainRead.TheVariants.{Chain, NoForm}
 use Rattle.text_places.specs.Word.{NoLetter}
 use Rattle.text_places.specs.Place.{tokens_from, Behind, begins, Passing, Absent}
-use Rattle.text_terms.specs.Chain.{Opens, NoChain, Closes, Unclosed, ChainFormed, ChainAt, ClosedBy, EndsInside, PackedSmall}
+use Rattle.text_terms.specs.Chain.{Opens, NoChain, Closes, Unclosed, ChainFormed}
 use Rattle.text_places.proofs.Places.{behind-behind, past-absent, letter-capital}
 
 -- what a chain begins with: a letter and `[`, a letter alone, and neither a letter nor `u`
@@ -56,26 +53,28 @@ opened : {due : Bool} {line : List ℕ} {at l end : ℕ} → Opens due line at l
 unfolding past is same fixed_in kind
 opened {l = l} {end = end} o = ap chain_form o.text ∙ chain_letter l (openSquare ∷ tokens_from false _ end)
 
-pub chain_closed : (s : Sizes) (k : ℕ) (x : Letters) {due : Bool} {line : List ℕ} {at l end : ℕ} → Opens due line at l end → (inner r : ChainRead)
-    → ChainAt s (k - 1) (step s k x l) false line end inner → ClosedBy line inner r → ChainAt s k x due line at r
-unfolding then past steps is same fixed_in kind
-chain_closed s k x {due} {line} {at} {l} o NoForm r h q = subst (ChainAt s k x due line at) (sym q) (record {
-  none = opened o ∙ ap (λ (f : Form (List ℕ)). then f (λ ls r. past closeSquare r (formed (l ∷ ls)))) h.none;
-})
-chain_closed s k x {l = l} o (Chain y i) NoForm h q = record {
-  none = opened o ∙ ap (λ (f : Form (List ℕ)). then f (λ ls r. past closeSquare r (formed (l ∷ ls)))) h.form_is ∙ past-absent closeSquare _ _
-      q.absent;
-}
-chain_closed s k x {l = l} o (Chain y i) (Chain z last) h q = record {
-  letters = l ∷ h.letters;
-  form_is =
-      opened o
-      ∙ ap (λ (f : Form (List ℕ)). then f (λ ls r. past closeSquare r (formed (l ∷ ls)))) h.form_is
-      ∙ ap (λ (r : List S.Token). past closeSquare r (formed (l ∷ h.letters))) q.1.text;
-  letters_are = q.0 ∙ h.letters_are;
-  small = rw q.0 h.small;
-  behind = behind-behind o.behind (behind-behind h.behind q.1.behind);
-}
+module _ (s : Sizes) (k : ℕ) (x : Letters) {due : Bool} {line : List ℕ} {at l end : ℕ} (o : Opens due line at l end) where
+  abbrev bracketed : Form (List ℕ) → Form (List ℕ)
+  bracketed f = then f (λ ls r. past closeSquare r (formed (l ∷ ls)))
+
+  pub chain_unopened : NoChain false line end → NoChain due line at
+  unfolding then
+  chain_unopened h = record { none = opened o ∙ ap bracketed h.none }
+
+  module _ {y : Letters} {i : ℕ} (h : ChainFormed s (k - 1) (step s k x l) false line end y i) where
+    pub chain_unclosed : Absent false closeSquare line i → NoChain due line at
+    unfolding then
+    chain_unclosed p = record { none = opened o ∙ ap bracketed h.form_is ∙ past-absent closeSquare _ _ p.absent }
+
+    pub chain_closed : {last : ℕ} → Passing false false closeSquare line i last → ChainFormed s k x due line at y last
+    unfolding then past steps is same fixed_in kind
+    chain_closed p = record {
+      letters = l ∷ h.letters;
+      form_is = opened o ∙ ap bracketed h.form_is ∙ ap (λ (r : List S.Token). past closeSquare r (formed (l ∷ h.letters))) p.text;
+      letters_are = h.letters_are;
+      small = h.small;
+      behind = behind-behind o.behind (behind-behind h.behind p.behind);
+    }
 
 -- `u` alone
 pub chain_alone : (s : Sizes) (k : ℕ) (x : Letters) {due : Bool} {line : List ℕ} {at end : ℕ} → x.packed < 9007199254740992
@@ -90,53 +89,35 @@ hops-small k n h few =
     let p : 8 ^ (16 - k) ≤ 8 ^ 16 = pow-le-pow_right (omega arith) less in
     omega (arith, few, p)
 
--- where there is no room, nothing more is packed
-pub step_kept : (s : Sizes) {k : ℕ} (x : Letters) (l : ℕ) → k ≡ 0 → (step s k x l).packed ≡ x.packed
-unfolding step
-step_kept s x l e = rw e
-
-pub chain_inside : (s : Sizes) (k : ℕ) (x : Letters) (due : Bool) (line : List ℕ) (at : ℕ) (r : ChainRead) → ChainAt s k x due line at r → EndsInside line
-    r
-chain_inside s k x due line at NoForm h = tt
-chain_inside s k x due line at (Chain y end) h = h.behind.inside
-
-pub chain_small : (s : Sizes) (k : ℕ) (x : Letters) (due : Bool) (line : List ℕ) (at : ℕ) (r : ChainRead) → ChainAt s k x due line at r → PackedSmall r
-chain_small s k x due line at NoForm h = tt
-chain_small s k x due line at (Chain y end) h = h.small
-
--- `]` once more
-pub record Closing (n : ℕ) (line : List ℕ) (at left i : ℕ) : Type 0 where
-  pub same : (ls : List ℕ) → closed_chain n ls (tokens_from false line at) ≡ closed_chain left ls (tokens_from false line i)
+-- `]` has stood k times of n
+pub record Closing (n : ℕ) (line : List ℕ) (at k i : ℕ) : Type 0 where
+  pub same : (ls : List ℕ) → closed_chain n ls (tokens_from false line at) ≡ closed_chain (n - k) ls (tokens_from false line i)
   pub onward : at ≤ i
   pub inside : i ≤ length line
 
-module _ {n : ℕ} {line : List ℕ} {at left i : ℕ} (w : Closing n line at left i) (z : left ≢ 0) where
-  next : (f : ℕ → Type 0) → ((m : ℕ) → left ≡ suc m → f m) → f (left - 1)
-  next f h = h (left - 1) (omega (arith, z))
+module _ {n : ℕ} {line : List ℕ} {at k i : ℕ} (w : Closing n line at k i) (h : k < n) where
+  one_more : (ls : List ℕ) → closed_chain n ls (tokens_from false line at) ≡ closed_chain (suc (n - (k + 1))) ls (tokens_from false line i)
+  one_more ls = w.same ls ∙ ap (λ (m : ℕ). closed_chain m ls (tokens_from false line i)) (omega arith)
 
-  pub closing-more : {end : ℕ} → Passing false false closeSquare line i end → Closing n line at (left - 1) end
+  pub closing-more : {end : ℕ} → Passing false false closeSquare line i end → Closing n line at (k + 1) end
   unfolding closed_chain past is same fixed_in kind
-  closing-more {end} p = record {
-    same = λ ls. w.same ls ∙ next (λ m. closed_chain left ls (tokens_from false line i) ≡ closed_chain m ls (tokens_from false line end)) (λ m e.
-        ap (λ (k : ℕ). closed_chain k ls (tokens_from false line i)) e ∙ ap (closed_chain (suc m) ls) p.text);
+  closing-more p = record {
+    same = λ ls. one_more ls ∙ ap (closed_chain (suc (n - (k + 1))) ls) p.text;
     onward = omega (arith, w.onward, p.behind.onward);
     inside = p.behind.inside;
   }
 
   pub closing-none : Absent false closeSquare line i → Unclosed n line at
   unfolding closed_chain
-  closing-none p = record {
-    none = λ ls. w.same ls ∙ next (λ m. closed_chain left ls (tokens_from false line i) ≡ unformed) (λ m e.
-        ap (λ (k : ℕ). closed_chain k ls (tokens_from false line i)) e ∙ past-absent closeSquare _ _ p.absent);
-  }
+  closing-none p = record { none = λ ls. one_more ls ∙ past-absent closeSquare _ _ p.absent }
 
-pub closing-start : (n : ℕ) {line : List ℕ} {at : ℕ} → at ≤ length line → Closing n line at n at
-closing-start n h = record { same = λ ls. refl; onward = omega arith; inside = h }
-
-pub closing-done : {n : ℕ} {line : List ℕ} {at left i : ℕ} → Closing n line at left i → left ≡ 0 → Closes n line at i
+pub closing-done : {n : ℕ} {line : List ℕ} {at k i : ℕ} → Closing n line at k i → n ≤ k → Closes n line at i
 unfolding closed_chain
-closing-done {line = line} {i = i} w e = record
-    { text = λ ls. w.same ls ∙ ap (λ (k : ℕ). closed_chain k ls (tokens_from false line i)) e; onward = w.onward; inside = w.inside }
+closing-done {n} {line = line} {k = k} {i = i} w h = record {
+  text = λ ls. let none_left : n - k ≡ 0 = omega arith in w.same ls ∙ ap (λ (m : ℕ). closed_chain m ls (tokens_from false line i)) none_left;
+  onward = w.onward;
+  inside = w.inside;
+}
 
 -- a chain of any length: the letters that have opened, and where the next link stands
 pub record Opening (s : Sizes) (x : Letters) (line : List ℕ) (at : ℕ) (seen : Letters) (i hops : ℕ) : Type 0 where

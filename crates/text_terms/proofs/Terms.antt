@@ -5,10 +5,10 @@ use mathlib.Core.Logic.{◌≢◌}
 use mathlib.Core.Bool.{Bool, true, false, not}
 use mathlib.Core.List.{List, [], ◌∷◌}
 use native.Mathlib.Omega.{arith}
-use borrow.Author.Tests.{ltb-true, ltb-false, lt-leb, le-leb}
 use lib.Dec.{leb, ltb}
 use lib.IntN.{ℤ}
 use lib.ListN.{length}
+use Rattle.std.proofs.lemmas.Bool.Decides.{nat_tests}
 use Rattle.register.specs.declared.Sizes.{Sizes}
 use Rattle.integers.specs.Range.{in_range, sum_of}
 use Rattle.chain_text.specs.Text.{is_reference_letter}
@@ -33,11 +33,9 @@ use Rattle.text_lexer.specs.Lexeme.{first_code, NumberFirst, Lexed}
 use Rattle.text_lexer.specs.declared.lexer.Lexeme.{Lexeme}
 use Rattle.text_words.specs.declared.token.Token.TheVariants.{Number}
 use Rattle.text_codes.specs.declared.code.TermParts.{TermParts}
-use Rattle.text_terms.specs.declared.chains.ChainRead.{ChainRead}
-use Rattle.text_terms.specs.declared.chains.ChainRead.TheVariants.{Chain, NoForm}
 use Rattle.text_places.specs.Place.{tokens_from, Behind, Passing}
-use Rattle.text_terms.specs.Chain.{Opens, NoChain, ChainFormed, ChainAt}
-use Rattle.text_terms.specs.Term.{chain_parts, number_parts, chain_term, ChainTerm, ChainPartsAt, TermFormed, NoTerm}
+use Rattle.text_terms.specs.Chain.{Opens, NoChain, ChainFormed}
+use Rattle.text_terms.specs.Term.{chain_parts, number_parts, ChainTerm, TermFormed, NoTerm}
 use Rattle.text_codes.specs.Coded.{term_code, parts_of}
 
 -- the parts of a chain and of a number
@@ -46,11 +44,7 @@ unfolding summary parts_of term_code term_named term_kinded term_short term_in_r
 chain_parts_lem s ls b h = rw (h, at_most 16 (length ls))
   where
     at_most : (k n : ℕ) → not (ltb k n) ≡ leb n k
-    at_most k n = go (ltb k n) refl
-      where
-        go : (x : Bool) → ltb k n ≡ x → not x ≡ leb n k
-        go true e = sym (lt-leb n k (ltb-true k n e))
-        go false e = sym (le-leb n k (ltb-false k n e))
+    at_most k n = grind (arith, nat_tests)
 
 number-parts : (s : Sizes) (negative : Bool) (x : Numeral) → number_parts (sum_of (number_value negative x)) ≡ parts_of s (number negative x)
 unfolding parts_of term_code term_named term_kinded term_short term_in_range is_reference_term sum_of
@@ -88,10 +82,9 @@ letter-kind ts (m ∷ ls) {l} e t =
     let same : m ≡ l = cc in
     ap (λ (k : ℕ). ltb k 77) (sym same)
 
-pub letter_chain : (s : Sizes) {due : Bool} {line : List ℕ} {at l end : ℕ} → Opens due line at l end → (r : ChainRead)
-    → ChainAt s 16 start due line at r → ChainPartsAt s due line at (chain_term r (ltb l 77))
-letter_chain s o NoForm h = h
-letter_chain s o (Chain y end) h = chain_formed _ h (letter-kind _ h.letters h.form_is o.text)
+pub letter_chain : {s : Sizes} {due : Bool} {line : List ℕ} {at l end : ℕ} → Opens due line at l end → {y : Letters} {last : ℕ}
+    → ChainFormed s 16 start due line at y last → ChainTerm s due line at (chain_parts y (ltb l 77)) last
+letter_chain o h = chain_formed _ h (letter-kind _ h.letters h.form_is o.text)
 
 -- a chain as a term
 pub chain_term_lem : {s : Sizes} {line : List ℕ} {at : ℕ} {p : TermParts} {end : ℕ} → ChainTerm s true line at p end → TermFormed s line at p end

@@ -1,20 +1,16 @@
 -- What the reader of chains answers, by the tokens from a place on.
-use Rattle.std.specs.Prelude.{ℕ, ◌≤◌, ◌<◌, ◌≡◌, Bool, true, false, List, ◌∷◌, length}
+use Rattle.std.specs.Prelude.{ℕ, ◌≤◌, ◌<◌, ◌≡◌, Bool, true, false, List, ◌∷◌, length, Option, Some, None}
 use Rattle.register.specs.declared.Sizes.{Sizes}
 use Rattle.chain_text.specs.Text.{is_capital}
 use Rattle.chain_text.specs.Scan.{steps}
 use Rattle.chain_text.specs.declared.letters.Letters.{Letters}
-use Rattle.text_syntax.specs.Token.{own, letter, openSquare, closeSquare}
+use Rattle.text_syntax.specs.Token.{own, letter, openSquare}
 use Rattle.text_syntax.specs.Form.{formed, unformed}
 use Rattle.text_syntax.specs.Grammar.{chain_form}
 use Rattle.text_syntax.specs.Flat.{closed_chain}
-use Rattle.text_words.specs.declared.token.Place.{Place}
-use Rattle.text_words.specs.declared.token.Place.TheVariants.{At, Nothing}
 use Rattle.text_terms.specs.declared.chains.Link.{Link}
-use Rattle.text_terms.specs.declared.chains.Link.TheVariants.{Own, Letter, Nothing as NoLink}
-use Rattle.text_terms.specs.declared.chains.ChainRead.{ChainRead}
-use Rattle.text_terms.specs.declared.chains.ChainRead.TheVariants.{Chain, NoForm}
-use Rattle.text_places.specs.Place.{tokens_from, Behind, Passing, Absent}
+use Rattle.text_terms.specs.declared.chains.Link.TheVariants.{Own, Letter}
+use Rattle.text_places.specs.Place.{tokens_from, Behind, Passing}
 
 -- a letter and `[`
 pub record Opens (due : Bool) (line : List ℕ) (at l end : ℕ) : Type 0 where
@@ -27,10 +23,10 @@ pub record NoChain (due : Bool) (line : List ℕ) (at : ℕ) : Type 0 where
   pub none : chain_form (tokens_from due line at) ≡ unformed
 
 -- what a chain begins with, at a place where an operand is due or not
-abbrev pub LinkAt : Bool → List ℕ → ℕ → Link → Type 0
-LinkAt due line at (Own end) = Passing due false own line at end
-LinkAt due line at (Letter l end) = Opens due line at l end
-LinkAt due line at NoLink = NoChain due line at
+abbrev pub LinkAt : Bool → List ℕ → ℕ → Option Link → Type 0
+LinkAt due line at (Some (Own end)) = Passing due false own line at end
+LinkAt due line at (Some (Letter l end)) = Opens due line at l end
+LinkAt due line at None = NoChain due line at
 
 -- `]` stands n times, whatever the letters; or not so often
 pub record Closes (n : ℕ) (line : List ℕ) (at end : ℕ) : Type 0 where
@@ -41,9 +37,9 @@ pub record Closes (n : ℕ) (line : List ℕ) (at end : ℕ) : Type 0 where
 pub record Unclosed (n : ℕ) (line : List ℕ) (at : ℕ) : Type 0 where
   pub none : (ls : List ℕ) → closed_chain n ls (tokens_from false line at) ≡ unformed
 
-abbrev pub ClosesAt : ℕ → List ℕ → ℕ → Place → Type 0
-ClosesAt n line at (At end) = Closes n line at end
-ClosesAt n line at Nothing = Unclosed n line at
+abbrev pub ClosesAt : ℕ → List ℕ → ℕ → Option ℕ → Type 0
+ClosesAt n line at (Some end) = Closes n line at end
+ClosesAt n line at None = Unclosed n line at
 
 -- a chain that stands behind the letters x, with room for k more hops: what is known of its letters then, and where it ends
 pub record ChainFormed (s : Sizes) (k : ℕ) (x : Letters) (due : Bool) (line : List ℕ) (at : ℕ) (y : Letters) (end : ℕ) : Type 0 where
@@ -54,25 +50,6 @@ pub record ChainFormed (s : Sizes) (k : ℕ) (x : Letters) (due : Bool) (line : 
   pub behind : Behind line at end
 
 -- a chain stands there, or none
-abbrev pub ChainAt : Sizes → ℕ → Letters → Bool → List ℕ → ℕ → ChainRead → Type 0
-ChainAt s k x due line at (Chain y end) = ChainFormed s k x due line at y end
-ChainAt s k x due line at NoForm = NoChain due line at
-
--- the end of a chain is inside the line
-abbrev pub EndsInside : List ℕ → ChainRead → Type 0
-EndsInside line (Chain y end) = end ≤ length line
-EndsInside line NoForm = Unit {0}
-
--- what is packed of a chain, of whatever letters, has a code
-abbrev pub PackedSmall : ChainRead → Type 0
-PackedSmall (Chain y end) = y.packed < 9007199254740992
-PackedSmall NoForm = Unit {0}
-
--- an inner chain with `]` behind it
-abbrev pub ClosedAt : List ℕ → Letters → ℕ → ChainRead → Type 0
-ClosedAt line y at (Chain z end) = (z ≡ y) × Passing false false closeSquare line at end
-ClosedAt line y at NoForm = Absent false closeSquare line at
-
-abbrev pub ClosedBy : List ℕ → ChainRead → ChainRead → Type 0
-ClosedBy line NoForm r = r ≡ NoForm
-ClosedBy line (Chain y at) r = ClosedAt line y at r
+abbrev pub ChainAt : Sizes → ℕ → Letters → Bool → List ℕ → ℕ → Option (Letters × ℕ) → Type 0
+ChainAt s k x due line at (Some (y, end)) = ChainFormed s k x due line at y end
+ChainAt s k x due line at None = NoChain due line at

@@ -1,19 +1,13 @@
 -- What the reader of terms answers, by the tokens from a place on.
-use Rattle.std.specs.Prelude.{ℕ, ◌≡◌, Bool, true, false, not, List, ℤ, pos}
+use Rattle.std.specs.Prelude.{ℕ, ◌≡◌, Bool, true, false, not, List, ℤ, pos, Option, None, Some}
 use Rattle.register.specs.declared.Sizes.{Sizes}
-use Rattle.integers.specs.declared.Sum.{Sum}
-use Rattle.integers.specs.declared.Sum.TheVariants.{InRange, OutOfRange}
 use Rattle.chain_text.specs.declared.letters.Letters.{Letters}
 use Rattle.program.specs.Code.{chain_code, number_code}
 use Rattle.text_syntax.specs.Form.{formed, unformed}
 use Rattle.text_syntax.specs.Written.{Term, chain}
 use Rattle.text_syntax.specs.Grammar.{chain_form, term_form}
-use Rattle.text_terms.specs.declared.chains.ChainRead.{ChainRead}
-use Rattle.text_terms.specs.declared.chains.ChainRead.TheVariants.{Chain, NoForm}
 use Rattle.text_codes.specs.declared.code.TermParts.{TermParts}
 use Rattle.text_codes.specs.Coded.{parts_of}
-use Rattle.text_terms.specs.declared.term.TermRead.{TermRead}
-use Rattle.text_terms.specs.declared.term.TermRead.TheVariants.{Parts, NoForm as NoTermRead}
 use Rattle.text_places.specs.Place.{tokens_from, Behind}
 use Rattle.text_terms.specs.Chain.{NoChain}
 
@@ -32,14 +26,9 @@ chain_parts x reference = record {
 abbrev pub plain_parts : ℤ → Bool → TermParts
 plain_parts z ranged = record { code = number_code z; named = true; kinded = true; reference = false; short = true; ranged = ranged }
 
-abbrev pub number_parts : Sum → TermParts
-number_parts (InRange z) = plain_parts z true
-number_parts OutOfRange = plain_parts (pos 0) false
-
--- a chain's answer as a term's
-abbrev pub chain_term : ChainRead → Bool → TermRead
-chain_term NoForm reference = NoTermRead
-chain_term (Chain x end) reference = Parts (chain_parts x reference) end
+abbrev pub number_parts : Option ℤ → TermParts
+number_parts (Some z) = plain_parts z true
+number_parts None = plain_parts (pos 0) false
 
 -- a chain stands at a place where an operand is due or not, or none
 pub record ChainTerm (s : Sizes) (due : Bool) (line : List ℕ) (at : ℕ) (p : TermParts) (end : ℕ) : Type 0 where
@@ -48,9 +37,9 @@ pub record ChainTerm (s : Sizes) (due : Bool) (line : List ℕ) (at : ℕ) (p : 
   pub parts_are : p ≡ parts_of s (chain letters)
   pub behind : Behind line at end
 
-abbrev pub ChainPartsAt : Sizes → Bool → List ℕ → ℕ → TermRead → Type 0
-ChainPartsAt s due line at (Parts p end) = ChainTerm s due line at p end
-ChainPartsAt s due line at NoTermRead = NoChain due line at
+abbrev pub ChainPartsAt : Sizes → Bool → List ℕ → ℕ → Option (TermParts × ℕ) → Type 0
+ChainPartsAt s due line at (Some (p, end)) = ChainTerm s due line at p end
+ChainPartsAt s due line at None = NoChain due line at
 
 -- a term stands at a place where an operand is due, or none
 pub record TermFormed (s : Sizes) (line : List ℕ) (at : ℕ) (p : TermParts) (end : ℕ) : Type 0 where
@@ -62,6 +51,6 @@ pub record TermFormed (s : Sizes) (line : List ℕ) (at : ℕ) (p : TermParts) (
 pub record NoTerm (line : List ℕ) (at : ℕ) : Type 0 where
   pub none : term_form (tokens_from true line at) ≡ unformed
 
-abbrev pub TermAt : Sizes → List ℕ → ℕ → TermRead → Type 0
-TermAt s line at (Parts p end) = TermFormed s line at p end
-TermAt s line at NoTermRead = NoTerm line at
+abbrev pub TermAt : Sizes → List ℕ → ℕ → Option (TermParts × ℕ) → Type 0
+TermAt s line at (Some (p, end)) = TermFormed s line at p end
+TermAt s line at None = NoTerm line at

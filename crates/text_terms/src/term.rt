@@ -2,26 +2,19 @@
 ghost use Rattle.std.specs.Prelude.{◌≡◌, true, ◌≤◌, ◌<◌, length};
 ghost use Rattle.register.specs.Shape.{Limits};
 ghost use Rattle.integers.specs.Range.{sum_of};
-ghost use Rattle.text_terms.specs.Chain.{NoChain, PackedSmall};
-ghost use Rattle.text_terms.specs.Term.{chain_parts, chain_term, plain_parts, number_parts, ChainPartsAt, TermAt};
+ghost use Rattle.text_terms.specs.Chain.{NoChain};
+ghost use Rattle.text_terms.specs.Term.{chain_parts, plain_parts, number_parts, ChainPartsAt, TermAt};
 
 use crate::chains;
-use crate::chains::{ChainRead, Link};
-use chain_text::letters;
+use crate::chains::Link;
 use chain_text::letters::Letters;
-use integers::Sum;
 use program::code;
 use register::Sizes;
 use text_codes::code::TermParts;
 use text_lexer::lexer;
+use text_places::mark::Mark;
+use text_places::place;
 use text_words::token::Token;
-
-// A term and the place behind it; or no term stands there.
-#[derive(Clone, Copy)]
-pub enum TermRead {
-    Parts(TermParts, usize),
-    NoForm,
-}
 
 fn chain_parts(letters: Letters, reference: bool) -> TermParts
     requires { letters.packed < 9007199254740992 }
@@ -35,17 +28,6 @@ fn chain_parts(letters: Letters, reference: bool) -> TermParts
         short: !letters.long,
         ranged: true,
     }
-}
-
-// A chain's answer as a term's, by the kind of its outermost letter.
-fn chain_term(read: ChainRead, reference: bool) -> TermRead
-    requires { PackedSmall read }
-    ensures { result ≡ chain_term read reference }
-{
-    let ChainRead::Chain(letters, end) = read else {
-        return TermRead::NoForm;
-    };
-    TermRead::Parts(chain_parts(letters, reference), end)
 }
 
 // A number, in range or not.
@@ -66,26 +48,25 @@ fn number_parts(value: i64) -> TermParts
     ensures { result ≡ number_parts (sum_of value) }
 {
     match integers::in_range(value) {
-        Sum::InRange(number) => plain_parts(number, true),
-        Sum::OutOfRange => plain_parts(0, false),
+        Some(number) => plain_parts(number, true),
+        None => plain_parts(0, false),
     }
 }
 
 // The number at `at`, where no chain stands.
-fn number_term(line: &[u8], at: usize, sizes: Sizes) -> TermRead
+fn number_term(line: &[u8], at: usize, sizes: Sizes) -> Option<(TermParts, usize)>
     requires { (at ≤ length line.now) × NoChain true line.now at }
     ensures { TermAt sizes line.now at result }
 {
     let read = lexer::next_token(line, at, true);
-    let token = read.token;
-    let Token::Number(value) = token else {
-        return TermRead::NoForm;
+    let Token::Number(value) = read.token else {
+        return None;
     };
-    TermRead::Parts(number_parts(value), read.end)
+    Some((number_parts(value), read.end))
 }
 
-// The chain at `at`, where an operand is due or not, as a term.
-pub fn read_chain(line: &[u8], at: usize, due: bool, sizes: Sizes) -> TermRead
+// The chain at `at`, where an operand is due or not, as a term and the place behind it.
+pub fn read_chain(line: &[u8], at: usize, due: bool, sizes: Sizes) -> Option<(TermParts, usize)>
     requires { Limits sizes × (at ≤ length line.now) }
     ensures { ChainPartsAt sizes due line.now at result }
 {
@@ -95,24 +76,24 @@ pub fn read_chain(line: &[u8], at: usize, due: bool, sizes: Sizes) -> TermRead
         kinded: true,
         long: false,
     };
-    match chains::first_link(line, at, due) {
-        Link::Own(end) => TermRead::Parts(chain_parts(start, true), end),
+    match chains::first_link(line, at, due)? {
+        Link::Own(end) => Some((chain_parts(start, true), end)),
         Link::Letter(letter, end) => {
-            let next = letters::step(sizes, 16, start, letter);
-            let read = chains::closed(line, chains::read(line, end, sizes, next, 15));
-            chain_term(read, letter < b'M')
+            let next = start.step(sizes, 16, letter);
+            let (letters, closing) = chains::read(line, end, sizes, next, 15)?;
+            let last = place::mark(line, closing, false, Mark::CloseSquare)?;
+            Some((chain_parts(letters, letter < b'M'), last))
         }
-        Link::Nothing => TermRead::NoForm,
     }
 }
 
-// The term at `at`.
-pub fn read_term(line: &[u8], at: usize, sizes: Sizes) -> TermRead
+// The term at `at` and the place behind it.
+pub fn read_term(line: &[u8], at: usize, sizes: Sizes) -> Option<(TermParts, usize)>
     requires { Limits sizes × (at ≤ length line.now) }
     ensures { TermAt sizes line.now at result }
 {
-    let TermRead::Parts(parts, end) = read_chain(line, at, true, sizes) else {
-        return number_term(line, at, sizes);
-    };
-    TermRead::Parts(parts, end)
+    if let Some(chain) = read_chain(line, at, true, sizes) {
+        return Some(chain);
+    }
+    number_term(line, at, sizes)
 }

@@ -1,4 +1,5 @@
 -- The words that a text begins with, by its first byte.
+use Rattle.std.specs.Prelude.{Option, None}
 use Prim.Native.Nat.{ℕ, ◌+◌, ◌<◌}
 use mathlib.Core.Path.{◌≡◌, refl, sym, ap, ap₂, ◌∙◌}
 use mathlib.Core.Logic.{◌≢◌}
@@ -11,8 +12,8 @@ use lib.Seq.{drop-cons}
 use Rattle.text_numerals.specs.Word.{opens_with}
 use Rattle.text_syntax.specs.Token as S
 use Rattle.text_syntax.specs.Lexing.{spelled, words, First, first, none, fixed_token}
-use Rattle.text_words.specs.Tokens.{token_code, sized_token, no_token, sized_first}
-use Rattle.text_words.specs.declared.token.SizedToken.{SizedToken}
+use Rattle.text_words.specs.Tokens.{token_code, sized_token, sized_first}
+use Rattle.text_words.specs.declared.token.Token.{Token}
 
 -- the text from a place on, and its first byte
 module _ (t : List ℕ) (at b : ℕ) (inside : at < length t) (byte : get_or t at 0 ≡ b) where
@@ -20,14 +21,14 @@ module _ (t : List ℕ) (at b : ℕ) (inside : at < length t) (byte : get_or t a
   first_byte = drop-cons t at 0 inside ∙ ap₂ (λ (x n : ℕ). x ∷ drop n t) byte (sym (add-one at))
 
   -- the answer from a table, by the first byte
-  pub table_at : (ks : List S.Token) {x : SizedToken} → x ≡ sized_first (fixed_token ks (b ∷ drop (at + 1) t)) → x ≡ sized_first (fixed_token ks (drop at t))
+  pub table_at : (ks : List S.Token) {x : Option (Token × ℕ)} → x ≡ sized_first (fixed_token ks (b ∷ drop (at + 1) t)) → x ≡ sized_first (fixed_token ks (drop at t))
   table_at ks e = e ∙ sym (ap (λ (l : List ℕ). sized_first (fixed_token ks l)) first_byte)
 
 -- an answer by a test
-pub cond-first : {x : Bool} (a b : SizedToken) → x ≡ true → a ≡ cond x a b
+pub cond-first : {x : Bool} (a b : Option (Token × ℕ)) → x ≡ true → a ≡ cond x a b
 cond-first a b h = rw h
 
-pub cond-second : {x : Bool} (a b : SizedToken) → x ≡ false → b ≡ cond x a b
+pub cond-second : {x : Bool} (a b : Option (Token × ℕ)) → x ≡ false → b ≡ cond x a b
 cond-second a b h = rw h
 
 pub sized-cond : (x : Bool) (f g : First) → sized_first (cond x f g) ≡ cond x (sized_first f) (sized_first g)
@@ -35,14 +36,14 @@ sized-cond true f g = refl
 sized-cond false f g = refl
 
 -- a word, where only this one begins with the text's first byte
-pub word-is : (t : List ℕ) (at b : ℕ) → at < length t → get_or t at 0 ≡ b → (k : S.Token) {x : SizedToken}
+pub word-is : (t : List ℕ) (at b : ℕ) → at < length t → get_or t at 0 ≡ b → (k : S.Token) {x : Option (Token × ℕ)}
     → ((r : List ℕ) → fixed_token words (b ∷ r) ≡ cond (opens_with (spelled k) (b ∷ r)) (first k (drop (length (spelled k)) (b ∷ r))) none)
-    → x ≡ cond (opens_with (spelled k) (drop at t)) (sized_token (token_code k) (length (spelled k))) no_token → x ≡ sized_first (fixed_token words (drop at t))
+    → x ≡ cond (opens_with (spelled k) (drop at t)) (sized_token (token_code k) (length (spelled k))) None → x ≡ sized_first (fixed_token words (drop at t))
 unfolding sized_first
 word-is t at b h e k alone q =
     table_at t at b h e words
     (q
-    ∙ ap (λ (l : List ℕ). cond (opens_with (spelled k) l) (sized_token (token_code k) (length (spelled k))) no_token) (first_byte t at b h e)
+    ∙ ap (λ (l : List ℕ). cond (opens_with (spelled k) l) (sized_token (token_code k) (length (spelled k))) None) (first_byte t at b h e)
     ∙ sym (ap sized_first (alone _) ∙ sized-cond (opens_with (spelled k) _) (first k _) none))
 
 -- a byte that no word begins with

@@ -1,19 +1,16 @@
 -- Tokens as the code has them, and what the readers of words answer for the text from a place on.
-use Rattle.std.specs.Prelude.{ℕ, ◌+◌, cond, List, length}
+use Rattle.std.specs.Prelude.{ℕ, ◌+◌, cond, List, length, Option, Some, None}
 use Rattle.text_numerals.specs.Numeral.{capped_value}
 use Rattle.text_numerals.specs.Word.{opens_with}
-use Rattle.text_words.specs.declared.token.Place.{Place}
-use Rattle.text_words.specs.declared.token.Place.TheVariants.{At, Nothing}
 use Rattle.text_syntax.specs.Token as S
 use Rattle.text_syntax.specs.Token.{stepWord, end_word, doneWord, loopWord, ifWord, remoteWord, own, letter, number, becomes, colon, write, operator, comparison, openSquare, closeSquare, openRound, closeRound, unknown}
 use Rattle.text_syntax.specs.Lexing.{spelled, First, first, none}
 use Rattle.text_words.specs.declared.token.Token.{Token}
 use Rattle.text_words.specs.declared.token.Token.TheVariants.{Step, End, Done, Loop, If, Remote, Own, Letter, Number, Becomes, Colon, Write, Operator, Compared, OpenSquare, CloseSquare, OpenRound, CloseRound, Unknown}
-use Rattle.text_words.specs.declared.token.SizedToken.{SizedToken}
 
 -- the place behind a word that stands at `at`
-unfoldable pub literal_read : ℕ → List ℕ → List ℕ → Place
-literal_read at w t = cond (opens_with w t) (At (at + length w)) Nothing
+unfoldable pub literal_read : ℕ → List ℕ → List ℕ → Option ℕ
+literal_read at w t = cond (opens_with w t) (Some (at + length w)) None
 
 -- a token as the code has it
 unfoldable pub token_code : S.Token → Token
@@ -38,12 +35,9 @@ token_code closeRound = CloseRound
 token_code unknown = Unknown
 
 -- a token and the number of its bytes
-abbrev pub sized_token : Token → ℕ → SizedToken
-sized_token k n = record { token = k; size = n }
+abbrev pub sized_token : Token → ℕ → Option (Token × ℕ)
+sized_token k n = Some (k, n)
 
-abbrev pub no_token : SizedToken
-no_token = sized_token Unknown 0
-
-unfoldable pub sized_first : First → SizedToken
-sized_first none = no_token
+unfoldable pub sized_first : First → Option (Token × ℕ)
+sized_first none = None
 sized_first (first k r) = sized_token (token_code k) (length (spelled k))

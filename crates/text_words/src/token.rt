@@ -2,7 +2,6 @@
 ghost use Rattle.std.specs.Prelude.{◌≡◌, ◌≤◌, length, drop};
 ghost use Rattle.text_words.specs.Tokens.{literal_read};
 
-use chain_text::text;
 use program::rule::{Comparison, Operator, Sort};
 
 // A word; `u`; a capital; a number, capped as its digits are; `:=`, `:`; `<?=` or `+=`; an operator; `<`, `==` or `!=`;
@@ -31,31 +30,14 @@ pub enum Token {
     LineEnd,
 }
 
-// A token and the number of its bytes, 0 where none stands.
-#[derive(Clone, Copy)]
-pub struct SizedToken {
-    pub token: Token,
-    pub size: usize,
-}
-
-// The place behind a word; or the word does not stand there.
-#[derive(Clone, Copy)]
-pub enum Place {
-    At(usize),
-    Nothing,
-}
-
-// The word at `at`.
-pub fn literal(line: &[u8], at: usize, word: &[u8]) -> Place
+// The place behind a word that stands at `at`.
+#[tactic(auto, using(crate::proofs::Words::opens_from), unfolding(crate::specs::Tokens::literal_read))]
+pub fn literal(line: &[u8], at: usize, word: &[u8]) -> Option<usize>
     requires { at ≤ length line.now }
     ensures { result ≡ literal_read at word.now (drop at line.now) }
 {
-    let mut i = 0;
-    while i < word.len() {
-        if !text::starts_with(line, at + i, word[i]) {
-            return Place::Nothing;
-        }
-        i += 1;
+    if !line[at..].starts_with(word) {
+        return None;
     }
-    Place::At(at + i)
+    Some(at + word.len())
 }

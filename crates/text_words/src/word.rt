@@ -1,31 +1,24 @@
 // Words, by their first byte.
-ghost use Rattle.std.specs.Prelude.{◌≡◌, cond, ◌≤◌, ◌<◌, length, drop};
+ghost use Rattle.std.specs.Prelude.{◌≡◌, cond, ◌≤◌, ◌<◌, length, drop, None};
 ghost use Rattle.text_numerals.specs.Word.{opens_with};
 ghost use Rattle.text_syntax.specs.Lexing.{words, fixed_token};
-ghost use Rattle.text_words.specs.Tokens.{sized_token, no_token, sized_first};
+ghost use Rattle.text_words.specs.Tokens.{sized_token, sized_first};
 
 use crate::token;
-use crate::token::{Place, SizedToken, Token};
+use crate::token::Token;
 
-pub fn sized(token: Token, size: usize) -> SizedToken
-    ensures { result ≡ sized_token token size }
-{
-    SizedToken { token, size }
-}
-
-// A word that stands at `at`.
-fn word(line: &[u8], at: usize, bytes: &[u8], token: Token) -> SizedToken
+// A word that stands at `at`, and the number of its bytes.
+#[tactic(auto, unfolding(crate::specs::Tokens::literal_read))]
+fn word(line: &[u8], at: usize, bytes: &[u8], token: Token) -> Option<(Token, usize)>
     requires { at ≤ length line.now }
-    ensures { result ≡ cond (opens_with bytes.now (drop at line.now)) (sized_token token (length bytes.now)) no_token }
+    ensures { result ≡ cond (opens_with bytes.now (drop at line.now)) (sized_token token (length bytes.now)) None }
 {
-    let Place::At(_) = token::literal(line, at, bytes) else {
-        return sized(Token::Unknown, 0);
-    };
-    sized(token, bytes.len())
+    let end = token::literal(line, at, bytes)?;
+    Some((token, end - at))
 }
 
-// The word at `at`, if one stands there.
-pub fn word_at(line: &[u8], at: usize) -> SizedToken
+// The word at `at`, if one stands there, and the number of its bytes.
+pub fn word_at(line: &[u8], at: usize) -> Option<(Token, usize)>
     requires { at < length line.now }
     ensures { result ≡ sized_first (fixed_token words (drop at line.now)) }
 {
@@ -37,6 +30,6 @@ pub fn word_at(line: &[u8], at: usize) -> SizedToken
         b'e' => word(line, at, b"end", Token::End),
         b'l' => word(line, at, b"loop ", Token::Loop),
         b'd' => word(line, at, b"done", Token::Done),
-        _ => sized(Token::Unknown, 0),
+        _ => None,
     }
 }

@@ -1,11 +1,7 @@
 -- `api_plan::fill_kinds` meets its contract. The loop's invariant: the places passed hold their kinds, the others 0.
-use Prim.Native.Nat.{◌-◌, ◌≤◌}
 use Rattle.api_plan.specs.PlanArrays.{kind_at, plan_lines}
 use Rattle.api_plan.proofs.Filling.{Progress}
 use Rattle.api_plan.proofs.fill_kinds.Given as goal
 
 abbrev pub invariant-loop-i : goal.invariant-loop-i
-invariant-loop-i l = (l.i ≤ l.count) × Progress 0 (kind_at (plan_lines l.plan)) 64 l.i l.kinds
-
-abbrev pub decreases-loop-i : goal.decreases-loop-i
-decreases-loop-i l = l.count - l.i
+invariant-loop-i l = Progress 0 (kind_at (plan_lines l.plan)) 64 l.i l.kinds

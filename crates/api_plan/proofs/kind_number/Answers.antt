@@ -18,7 +18,7 @@ of_kind_lem (back w) = refl
 of_kind_lem (read w) = refl
 
 pub returns-in-Back : goal.returns-in-Back
-returns-in-Back c = ap number (sym c.in-Back.is ∙ c.kind_of-kind.ensures) ∙ of_kind_lem _
+returns-in-Back c = ap number (sym c.in-Back.is ∙ c.kind_of.ensures) ∙ of_kind_lem _
 
 pub returns-in-Read : goal.returns-in-Read
-returns-in-Read c = ap number (sym c.in-Read.is ∙ c.kind_of-kind.ensures) ∙ of_kind_lem _
+returns-in-Read c = ap number (sym c.in-Read.is ∙ c.kind_of.ensures) ∙ of_kind_lem _

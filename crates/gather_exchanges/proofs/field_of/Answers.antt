@@ -1,5 +1,5 @@
 -- `gather_exchanges::field_of` meets its contract.
-use mathlib.Core.Path.{◌≡◌, sym, ap, ◌∙◌}
+use mathlib.Core.Path.{sym, ap, ◌∙◌}
 use native.Mathlib.Omega.{arith}
 use Rattle.plan_theory.specs.Plan.{word}
 use Rattle.plan_keys.proofs.Keys.{hops_long, hops-short}

@@ -1,43 +1,24 @@
 -- `gather_hops::begin_line` meets its contract. The loop's invariant: what the records passed read by two hops is stored.
-use Prim.Native.Nat.{◌+◌, ◌-◌, ◌<◌}
 use mathlib.Core.Path.{◌≡◌}
 use native.Mathlib.Omega.{arith}
-use lib.ListN.{length}
 use Rattle.scratch.proofs.Storing.{stored-none, stored_more}
 use Rattle.gather_hops.proofs.Hopping.{reading-stored}
 use Rattle.gather_hops.proofs.begin_line.Goals as goal
 
 pub loop-u-init : goal.loop-u-init
-loop-u-init c = (omega arith, stored-none _ _ _ _)
-
-pub two_hops-reading-requires : goal.two_hops-reading-requires
-two_hops-reading-requires c =
-    let s = c in
-    (s.requires.0, s.requires.1, omega arith, s.requires.2)
+loop-u-init c = stored-none _ _ _ _
 
 pub put_reading-requires : goal.put_reading-requires
-put_reading-requires c =
-    let room : (let l = c.loop-u in let a = c.args in (a.first + l.u < length l.values) × (a.first + l.u < length l.marks)) = (let i = c.loop-u.invariant.1 in (omega (arith, i.values_length), omega (arith, i.marks_length))) in
-    room
+put_reading-requires c = (omega (arith, c.loop-u.invariant.values_length), omega (arith, c.loop-u.invariant.marks_length))
 
 pub loop-u-preserved : goal.loop-u-preserved
 loop-u-preserved c =
-    let room : (let l = c.loop-u in let a = c.args in (a.first + l.u < length l.values) × (a.first + l.u < length l.marks)) = (let i = c.loop-u.invariant.1 in (omega (arith, i.values_length), omega (arith, i.marks_length))) in
-    let p = c in
-    let t = p in
-    let k = t in
-    let put = p.put_reading.ensures in
-    let one = reading-stored t.two_hops-reading.result _ _ _ (room).0 (room).1 put.2 in
-    (omega arith, rw (put.0, put.1) (stored_more k.loop-u.invariant.1 one t.two_hops-reading.ensures))
-
-pub shape_of-values : goal.shape_of-values
-shape_of-values c = c.loop-u.invariant.1.values_length
-
-pub shape_of-marks : goal.shape_of-marks
-shape_of-marks c = c.loop-u.invariant.1.marks_length
+    let put = c.put_reading.ensures in
+    let so_far = c.loop-u.invariant in
+    let one = reading-stored c.two_hops-reading.result _ _ _ (omega (arith, so_far.values_length)) (omega (arith, so_far.marks_length)) put.2 in
+    rw (put.0, put.1) (stored_more so_far one c.two_hops-reading.ensures)
 
 pub returns : goal.returns
 returns c =
-    let l = c.loop-u in
-    let e : l.u ≡ c.args.sizes.records = omega arith in
-    rw e at l.invariant.1
+    let e : c.loop-u.u ≡ c.args.cells.now.sizes.records = omega arith in
+    rw e at c.loop-u.invariant

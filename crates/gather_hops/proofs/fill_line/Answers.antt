@@ -15,60 +15,45 @@ pub overflow_mul-first : goal.overflow_mul-first
 overflow_mul-first c = record { fits = omega arith }
 
 pub first_hop-field-requires : goal.first_hop-field-requires
-first_hop-field-requires c = packed_some _ (omega (arith, c.requires.3))
+first_hop-field-requires c = packed_some _ (omega (arith, c.requires.2))
 
 pub first_hop-second-requires : goal.first_hop-second-requires
 first_hop-second-requires c =
-    let first-apart : (let f = c in unpack f.args.chain ≡ f.first_hop-field.result ∷ unpack c.rest_hops-behind.result) = taken_apart c.first_hop-field.ensures c.rest_hops-behind.ensures in
-    packed_some _ (omega (arith, ap length (first-apart), c.requires.3))
+    let first-apart : unpack c.args.chain ≡ c.first_hop-field.result ∷ unpack c.rest_hops-behind.result = taken_apart c.first_hop-field.ensures c.rest_hops-behind.ensures in
+    packed_some _ (omega (arith, ap length first-apart, c.requires.2))
 
 pub begin_line-requires : goal.begin_line-requires
 begin_line-requires c =
-    let first-apart : (let f = c in unpack f.args.chain ≡ f.first_hop-field.result ∷ unpack c.rest_hops-behind.result) = taken_apart c.first_hop-field.ensures c.rest_hops-behind.ensures in
+    let first-apart : unpack c.args.chain ≡ c.first_hop-field.result ∷ unpack c.rest_hops-behind.result = taken_apart c.first_hop-field.ensures c.rest_hops-behind.ensures in
     let two-apart : (r : List ℕ) → r ≡ drop 1 (unpack c.rest_hops-behind.result) → unpack c.args.chain ≡ c.first_hop-field.result ∷ c.first_hop-second.result ∷ r = λ r e. first-apart ∙ ap (λ (w : List ℕ). c.first_hop-field.result ∷ w) (taken_apart c.first_hop-second.ensures e) in
-    let f = c in
-    let s = f in
-    (s.requires.0, s.requires.1, readable-two _ (two-apart _ refl) s.requires.2, s.requires.4, s.requires.5)
+    (c.requires.0, readable-two _ (two-apart _ refl) c.requires.1, c.requires.3, c.requires.4)
 
 pub loop-rest-init : goal.loop-rest-init
 loop-rest-init c =
-    let first-apart : (let f = c in unpack f.args.chain ≡ f.first_hop-field.result ∷ unpack c.rest_hops-behind.result) = taken_apart c.first_hop-field.ensures c.rest_hops-behind.ensures in
+    let first-apart : unpack c.args.chain ≡ c.first_hop-field.result ∷ unpack c.rest_hops-behind.result = taken_apart c.first_hop-field.ensures c.rest_hops-behind.ensures in
     let two-apart : (r : List ℕ) → r ≡ drop 1 (unpack c.rest_hops-behind.result) → unpack c.args.chain ≡ c.first_hop-field.result ∷ c.first_hop-second.result ∷ r = λ r e. first-apart ∙ ap (λ (w : List ℕ). c.first_hop-field.result ∷ w) (taken_apart c.first_hop-second.ensures e) in
-    let f = c in
-    line-begun f.requires.1 (two-apart _ c.rest_hops-rest.ensures) f.requires.2 c.begin_line.ensures
+    line-begun c.requires.0 (two-apart _ c.rest_hops-rest.ensures) c.requires.1 c.begin_line.ensures
 
 pub advance-requires : goal.advance-requires
 advance-requires c =
-    let f = c in
-    let l = f in
-    let s = (l) in
-    let k = l.loop-rest.invariant in (
-      s.requires.0,
-      readable-field _ f.first_hop-next.ensures.splits k.follows,
-      omega (arith, k.stored.values_length),
-      omega (arith, k.stored.marks_length),
-      line-referring k f.first_hop-next.ensures,
+    let so_far = c.loop-rest.invariant in (
+      readable-field _ c.first_hop-next.ensures.splits so_far.follows,
+      omega (arith, so_far.stored.values_length),
+      omega (arith, so_far.stored.marks_length),
+      line-referring so_far c.first_hop-next.ensures,
     )
 
 pub loop-rest-smaller : goal.loop-rest-smaller
 loop-rest-smaller c =
-    let apart : (let f = c in unpack f.loop-rest.rest ≡ f.first_hop-next.result ∷ unpack c.rest_hops-rest-in-loop-rest.result) = taken_apart c.first_hop-next.ensures c.rest_hops-rest-in-loop-rest.ensures in
-    omega (arith, ap length (apart))
+    let apart : unpack c.loop-rest.rest ≡ c.first_hop-next.result ∷ unpack c.rest_hops-rest-in-loop-rest.result = taken_apart c.first_hop-next.ensures c.rest_hops-rest-in-loop-rest.ensures in
+    omega (arith, ap length apart)
 
 pub loop-rest-preserved : goal.loop-rest-preserved
 loop-rest-preserved c =
-    let apart : (let f = c in unpack f.loop-rest.rest ≡ f.first_hop-next.result ∷ unpack c.rest_hops-rest-in-loop-rest.result) = taken_apart c.first_hop-next.ensures c.rest_hops-rest-in-loop-rest.ensures in
-    let l = c in
-    line_on l.loop-rest.invariant c.requires.1 (apart) c.advance.ensures
+    let apart : unpack c.loop-rest.rest ≡ c.first_hop-next.result ∷ unpack c.rest_hops-rest-in-loop-rest.result = taken_apart c.first_hop-next.ensures c.rest_hops-rest-in-loop-rest.ensures in
+    line_on c.loop-rest.invariant c.requires.0 apart c.advance.ensures
 
 -- the hops behind the first two, over what these read
 pub returns : goal.returns
 returns c =
-    let l = c in
-    stored_over_lem c.begin_line.ensures (line-done l.loop-rest.invariant (ap unpack c.loop-rest-test.false ∙ unpack-none))
-
-pub shape_of-values : goal.shape_of-values
-shape_of-values c = (returns c).values_length
-
-pub shape_of-marks : goal.shape_of-marks
-shape_of-marks c = (returns c).marks_length
+    stored_over_lem c.begin_line.ensures (line-done c.loop-rest.invariant (ap unpack c.loop-rest-test.false ∙ unpack-none))

@@ -5,15 +5,12 @@ use native.Mathlib.Omega.{arith}
 use Rattle.gather_line.proofs.known.Goals as goal
 
 pub read_cell-requires : goal.read_cell-requires
-read_cell-requires c =
-    let s = c in
-    (s.requires.0, s.requires.1, s.requires.2.own c.if-read-eq-NO_LINE.true)
+read_cell-requires c = (c.requires.0, c.requires.1.own c.if-read-eq-NO_LINE.true)
 
 pub read_at-requires : goal.read_at-requires
 read_at-requires c =
-    let s = c in
-    let held = s.requires.2.line c.if-read-eq-NO_LINE.false in
-    (omega (arith, held.values_room), omega (arith, held.marks_room), held.fits s.args.v s.requires.1)
+    let held = c.requires.1.line c.if-read-eq-NO_LINE.false in
+    (omega (arith, held.values_room), omega (arith, held.marks_room), held.fits c.args.v c.requires.0)
 
 pub returns-then-read-eq-NO_LINE : goal.returns-then-read-eq-NO_LINE
 returns-then-read-eq-NO_LINE c = c.read_cell.ensures ∙ known_own _ _ _ _ _ _ c.if-read-eq-NO_LINE.true

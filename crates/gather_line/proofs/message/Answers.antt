@@ -1,35 +1,28 @@
 -- `gather_line::message` meets its contract.
-use Prim.Native.Nat.{◌<◌}
 use mathlib.Core.Path.{◌≡◌, sym, ap, ◌∙◌}
 use borrow.Author.Rules.{rules}
-use lib.Dec.{T}
 use lib.IntN.{nat_abs}
-use lib.Signed.{non_neg}
 use Rattle.integers.proofs.Complement.{kept}
 use Rattle.gather_line.proofs.Writing.{writer-index, message-none, message_by}
 use Rattle.gather_line.proofs.message.Goals as goal
 
 pub writer-requires : goal.writer-requires
-writer-requires c =
-    let s = c in
-    (s.requires.0.limits.records≤, s.requires.1, s.requires.2)
+writer-requires c = (c.args.cells.now.parts.limits.records≤, c.requires.0, c.requires.1)
+
+pub returns-in_err-number : goal.returns-in_err-number
+returns-in_err-number c = c.from_residual.ensures ∙ message-none _ _ _ _ _ _ _ (sym c.in_err-number.was ∙ c.writer.ensures)
+
+pub index-requires : goal.index-requires
+index-requires c =
+    rw (kept c.in_ok-number.number (search rules)) (writer-index c.args.u _ c.requires.1 c.requires.0 (sym c.in_ok-number.was ∙ c.writer.ensures)).0
 
 pub known-requires : goal.known-requires
 known-requires c =
-    let number-index : (let z = c.in-Value.number in T (non_neg z) × (nat_abs z < c.args.sizes.records)) = (let w = c in let s = w in writer-index s.args.u _ s.requires.2 s.requires.1 (sym c.in-Value.is ∙ w.writer.ensures)) in
-    let index_is : c.index-v.result ≡ nat_abs c.in-Value.number = c.index-v.ensures ∙ ap nat_abs (kept c.in-Value.number (search rules)) in
-    let s = c in
-    (s.requires.0, rw (index_is) (number-index).1, s.requires.3)
+    let index_is : c.index.result ≡ nat_abs c.in_ok-number.number = c.index.ensures ∙ ap nat_abs (kept c.in_ok-number.number (search rules)) in
+    let number_index = writer-index c.args.u c.in_ok-number.number c.requires.1 c.requires.0 (sym c.in_ok-number.was ∙ c.writer.ensures) in
+    (rw index_is number_index.1, c.requires.2)
 
 pub returns : goal.returns
 returns c =
-    let index_is : c.index-v.result ≡ nat_abs c.in-Value.number = c.index-v.ensures ∙ ap nat_abs (kept c.in-Value.number (search rules)) in
-    let n = c in
-    c.known.ensures ∙ message_by _ _ _ _ _ _ _ _ (sym n.in-Value.is ∙ n.writer.ensures) (index_is)
-
-pub returns-in_default : goal.returns-in_default
-returns-in_default c = message-none _ _ _ _ _ _ _ (sym c.in_default.is ∙ c.writer.ensures)
-
-pub index-v-requires : goal.index-v-requires
-index-v-requires c =
-    rw (kept c.in-Value.number (search rules)) (writer-index c.args.u _ c.requires.2 c.requires.1 (sym c.in-Value.is ∙ c.writer.ensures)).0
+    let index_is : c.index.result ≡ nat_abs c.in_ok-number.number = c.index.ensures ∙ ap nat_abs (kept c.in_ok-number.number (search rules)) in
+    c.known.ensures ∙ message_by _ _ _ _ _ _ _ _ (sym c.in_ok-number.was ∙ c.writer.ensures) index_is

@@ -26,26 +26,26 @@ use Rattle.op_inspect.specs.declared.InspectAnswer.{InspectAnswer}
 use Rattle.op_inspect.proofs.Answering.{inspect_refused, inspect_short, inspect_done, lines-room, refused-answered, step-answered}
 use Rattle.op_inspect.proofs.inspect.Goals as goal
 
-pub returns-then-planned-ne0 : goal.returns-then-planned-ne0
-returns-then-planned-ne0 c =
+pub returns-in-Err : goal.returns-in-Err
+returns-in-Err c =
     let outcome : Outcome (List Fact) = (let a = c.args in inspection a.file.now a.text.now a.step (length a.values.now) (length a.marks.now)) in
     let turned_back : ((n : ℕ) → (k : ℕ) → (r : InspectAnswer) → outcome ≡ refused n k → r ≡ inspect_refusal n k → let a = c.args in InspectAnswered outcome a.file.now a.t a.values.now a.marks.now a.values.now a.marks.now r) = (λ n k r. let a = c.args in refused-answered a.file.now a.t a.values.now a.marks.now) in
-    turned_back _ _ _ (inspect_refused _ _ _ _ _ (refused-answer c.plan_step-planned.ensures.0 c.if-planned-ne0.true))
-    c.refused.ensures
+    turned_back _ _ _ (inspect_refused _ _ _ _ _ (refused-answer c.in-Err.ensures.0))
+    (rw c.number.ensures at c.refused.ensures)
 
 pub sizes_of-sizes-requires : goal.sizes_of-sizes-requires
 sizes_of-sizes-requires c =
     let file : List ℕ = c.args.file.now in
-    let answer : StepPlan = c.plan_step-planned.result in
-    let found : StepFound file c.args.text.now c.args.step answer = c.plan_step-planned.ensures.1 c.if-planned-ne0.false in
+    let answer : StepPlan = c.in-Ok.planned in
+    let found : StepFound file c.args.text.now c.args.step answer = c.in-Ok.ensures.1 in
     let loads : Loads (sizes_of file) file = loaded _ _ found.checked in
     loads.long
 
 pub is_short-requires : goal.is_short-requires
 is_short-requires c =
     let file : List ℕ = c.args.file.now in
-    let answer : StepPlan = c.plan_step-planned.result in
-    let found : StepFound file c.args.text.now c.args.step answer = c.plan_step-planned.ensures.1 c.if-planned-ne0.false in
+    let answer : StepPlan = c.in-Ok.planned in
+    let found : StepFound file c.args.text.now c.args.step answer = c.in-Ok.ensures.1 in
     let loads : Loads (sizes_of file) file = loaded _ _ found.checked in
     let f = found in
     (rw c.sizes_of-sizes.ensures (limits _ loads.within), omega (arith, f.most_is, few-lines _ _ f.checked))
@@ -55,8 +55,8 @@ returns-then-is_short c =
     let outcome : Outcome (List Fact) = (let a = c.args in inspection a.file.now a.text.now a.step (length a.values.now) (length a.marks.now)) in
     let turned_back : ((n : ℕ) → (k : ℕ) → (r : InspectAnswer) → outcome ≡ refused n k → r ≡ inspect_refusal n k → let a = c.args in InspectAnswered outcome a.file.now a.t a.values.now a.marks.now a.values.now a.marks.now r) = (λ n k r. let a = c.args in refused-answered a.file.now a.t a.values.now a.marks.now) in
     let file : List ℕ = c.args.file.now in
-    let answer : StepPlan = c.plan_step-planned.result in
-    let found : StepFound file c.args.text.now c.args.step answer = c.plan_step-planned.ensures.1 c.if-planned-ne0.false in
+    let answer : StepPlan = c.in-Ok.planned in
+    let found : StepFound file c.args.text.now c.args.step answer = c.in-Ok.ensures.1 in
     let short : Sizes → ℕ → Bool = (λ s n. let a = c.args in is_short (scratch s n) (length a.values.now) (length a.marks.now)) in
     let short-is : c.is_short.result ≡ short (sizes_of file) (most_lines found.program) = (let told : c.is_short.result ≡ short c.sizes_of-sizes.result answer.most = c.is_short.ensures in told ∙ ap₂ short c.sizes_of-sizes.ensures found.most_is) in
     let f = found in
@@ -65,10 +65,10 @@ returns-then-is_short c =
 pub show-requires : goal.show-requires
 show-requires c =
     let file : List ℕ = c.args.file.now in
-    let answer : StepPlan = c.plan_step-planned.result in
+    let answer : StepPlan = c.in-Ok.planned in
     let bytes : Bytes file = (λ i. let b = c.type_inv.file i in b.fits) in
-    let found : StepFound file c.args.text.now c.args.step answer = c.plan_step-planned.ensures.1 c.if-planned-ne0.false in
-    let holds : HoldsLines answer.plan (step_plan found.rules) = rw found.lines_are at (c.plan_step-planned.ensures.0.sound c.if-planned-ne0.false) in
+    let found : StepFound file c.args.text.now c.args.step answer = c.in-Ok.ensures.1 in
+    let holds : HoldsLines answer.plan (step_plan found.rules) = rw found.lines_are at c.in-Ok.ensures.0.sound in
     let loads : Loads (sizes_of file) file = loaded _ _ found.checked in
     let passes : StepThere (sizes_of file) found.program found.rules = step-passes _ _ _ (passed _ _ found.checked).each found.there in
     let few : answer.plan.count ≤ most_lines found.program = omega (arith, passes.lines, holds_count holds) in
@@ -93,9 +93,9 @@ show-requires c =
 pub returns : goal.returns
 returns c =
     let file : List ℕ = c.args.file.now in
-    let answer : StepPlan = c.plan_step-planned.result in
-    let found : StepFound file c.args.text.now c.args.step answer = c.plan_step-planned.ensures.1 c.if-planned-ne0.false in
-    let holds : HoldsLines answer.plan (step_plan found.rules) = rw found.lines_are at (c.plan_step-planned.ensures.0.sound c.if-planned-ne0.false) in
+    let answer : StepPlan = c.in-Ok.planned in
+    let found : StepFound file c.args.text.now c.args.step answer = c.in-Ok.ensures.1 in
+    let holds : HoldsLines answer.plan (step_plan found.rules) = rw found.lines_are at c.in-Ok.ensures.0.sound in
     let short : Sizes → ℕ → Bool = (λ s n. let a = c.args in is_short (scratch s n) (length a.values.now) (length a.marks.now)) in
     let short-is : c.is_short.result ≡ short (sizes_of file) (most_lines found.program) = (let told : c.is_short.result ≡ short c.sizes_of-sizes.result answer.most = c.is_short.ensures in told ∙ ap₂ short c.sizes_of-sizes.ensures found.most_is) in
     let a = c.args in

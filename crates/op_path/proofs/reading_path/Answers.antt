@@ -1,28 +1,58 @@
 -- `op_path::reading_path` meets its contract: the register first, then the chain and the record.
-use mathlib.Core.List.{[]}
-use Prim.Native.Nat.{ℕ}
-use mathlib.Core.Path.{sym, ap, ◌∙◌}
-use Rattle.laws.specs.Outcome.{done, unless}
+use mathlib.Core.Path.{sym, ap₂, subst₂, ◌∙◌}
+use mathlib.Core.List.{List}
+use Rattle.std.proofs.lemmas.Result.{err_from_is_err_and}
+use Rattle.laws.specs.Outcome.{done}
+use Rattle.register.specs.Shape.{Valid}
+use Rattle.register.specs.declared.Sizes.{Sizes}
+use Rattle.register.specs.declared.cells.Cell.{Cell}
+use Rattle.chain.specs.Word.{unpack}
+use Rattle.chain_path.specs.Path.{path_at_record}
 use Rattle.register_load.specs.Answer.{outcome_of}
-use Rattle.register_check.proofs.Numbers.{unless_refusal}
-use Rattle.op_path.proofs.Outcomes.{answers_same, path-refused, path-loaded}
+use Rattle.op_read.specs.Reading.{chain_outcome, refusal_number, refusal_line}
+use Rattle.op_read.specs.declared.ReadingRefusal.TheVariants.{Register, Chain, Record}
+use Rattle.op_read.proofs.Outcomes.{word-passes, loaded_shape, loaded-valid, lent_cells}
+use Rattle.op_path.proofs.Outcomes.{answers_listed, answers_refused, loaded-refused, loaded_record, loaded-listed, path-refused, path-loaded}
 use Rattle.op_path.proofs.reading_path.Goals as goal
 
-pub path_loaded-requires : goal.path_loaded-requires
-unfolding outcome_of
-path_loaded-requires c = sym c.load.ensures ∙ ap outcome_of c.in-Loaded.is
+pub returns-in_err-sizes : goal.returns-in_err-sizes
+unfolding outcome_of refusal_number refusal_line
+returns-in_err-sizes c =
+    let p = err_from_is_err_and c.from_residual.result c.from_residual.ensures.1 in
+    rw (p.1, p.2) (answers_refused (Register c.in_err-sizes.field-0.0) (path-refused c.args.file.now c.args.text.now c.args.u (sym c.in_err-sizes.ensures)))
 
-pub returns-in-Loaded : goal.returns-in-Loaded
+pub chain_of-requires : goal.chain_of-requires
 unfolding outcome_of
-returns-in-Loaded c =
-    let a = c.args in
-    let sizes = sym c.load.ensures ∙ ap outcome_of c.in-Loaded.is in
-    answers_same c.path_loaded.ensures (sym (path-loaded a.file.now a.text.now a.u sizes))
+chain_of-requires c = (loaded_shape _ _ (sym c.in_ok-sizes.ensures)).0
 
-pub returns-in-Refused : goal.returns-in-Refused
+pub returns-in_err-chain : goal.returns-in_err-chain
+unfolding outcome_of chain_outcome refusal_number refusal_line
+returns-in_err-chain c =
+    let p = err_from_is_err_and c.from_residual-in_err-chain.result c.from_residual-in_err-chain.ensures.1 in
+    rw (p.1, p.2) (answers_refused (Chain c.in_err-chain.field-0.0) (path-loaded _ _ _ (sym c.in_ok-sizes.ensures) ∙ loaded-refused _ _ _ _ (sym c.in_err-chain.ensures)))
+
+pub returns-then-sizes-u : goal.returns-then-sizes-u
+unfolding outcome_of chain_outcome refusal_number refusal_line
+returns-then-sizes-u c = answers_refused Record (path-loaded _ _ _ (sym c.in_ok-sizes.ensures) ∙ loaded_record _ _ _ _ (sym c.in_ok-chain.ensures) c.if-sizes-u.true)
+
+pub of-cells-requires : goal.of-cells-requires
 unfolding outcome_of
-returns-in-Refused c =
-    let a = c.args in
-    let bad = sym c.load.ensures ∙ ap outcome_of c.in-Refused.is in
-    let number = ap (λ (k : ℕ). unless k 0 (done [])) c.number_of.ensures ∙ unless_refusal c.in-Refused.refusal (done []) in
-    answers_same c.refused.ensures (number ∙ sym (path-refused a.file.now a.text.now a.u bad))
+of-cells-requires c = loaded_shape _ _ (sym c.in_ok-sizes.ensures)
+
+pub at_record-requires : goal.at_record-requires
+unfolding outcome_of chain_outcome
+at_record-requires c =
+    let o = c.of-cells.ensures in
+    let valid = loaded-valid _ c.args.file.now (sym c.in_ok-sizes.ensures) (λ i. let f = c.type_inv.file i in f.fits) in (
+      subst₂ Valid (sym o.0) (sym (lent_cells _ _ c.of-cells.result o)) valid,
+      rw o.0 c.if-sizes-u.false,
+      rw o.0 (word-passes _ _ (sym c.in_ok-chain.ensures)),
+    )
+
+pub returns : goal.returns
+unfolding outcome_of chain_outcome
+returns c =
+    let o = c.of-cells.ensures in
+    answers_listed c.at_record.ensures
+    (path-loaded _ _ _ (sym c.in_ok-sizes.ensures) ∙ loaded-listed _ c.args.file.now _ _ (sym c.in_ok-chain.ensures) c.if-sizes-u.false
+    ∙ sym (ap₂ (λ (s : Sizes) (l : List Cell). done (path_at_record s l (unpack c.in_ok-chain.chain) c.args.u)) o.0 (lent_cells _ _ c.of-cells.result o)))

@@ -9,10 +9,8 @@ unfolding chain_outcome chain_refusal_number
 returns-in_default c = chain_none _ _ (sym c.scan.ensures ∙ c.in_default.is)
 
 pub returns-then-end-text : goal.returns-then-end-text
-returns-then-end-text c =
-    let scanned = sym c.scan.ensures ∙ c.in-Chain.is in
-    ap chain_outcome c.judged.ensures ∙ chain_whole _ _ scanned c.requires c.if-end-text.true
+returns-then-end-text c = ap chain_outcome c.judged.ensures ∙ chain_whole _ _ (sym c.in-Some.ensures) c.requires c.if-end-text.true
 
 pub returns-else-end-text : goal.returns-else-end-text
 unfolding chain_outcome chain_refusal_number
-returns-else-end-text c = chain_rest _ _ (sym c.scan.ensures ∙ c.in-Chain.is) c.if-end-text.false
+returns-else-end-text c = chain_rest _ _ (sym c.in-Some.ensures) c.if-end-text.false

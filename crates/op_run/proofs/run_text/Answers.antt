@@ -16,7 +16,10 @@ use Rattle.program.specs.declared.Program as R
 use Rattle.op_check.proofs.Checks.{answered-refused, answered-program}
 use Rattle.op_check.proofs.Passed.{loaded, passed, few-lines}
 use Rattle.op_ready.specs.Ready.{Readied}
-use Rattle.op_ready.proofs.Readying.{ready-room, ready-copied, unready_untouched}
+use Rattle.op_ready.proofs.Readying.{ready-room}
+use Rattle.std.specs.Prelude.{Ok, Err}
+use Rattle.op_limits.specs.Number.{refusal_number, check_number}
+use Rattle.op_limits.proofs.Numbers.{not_none}
 use Rattle.machine.specs.Run.{direct, run, scratch}
 use Rattle.run_steps.specs.Answer.{Ends}
 use Rattle.op_run.specs.Direct.{direct_run}
@@ -24,65 +27,66 @@ use Rattle.op_run.specs.Answer.{lengths}
 use Rattle.op_run.proofs.Answering.{refused-answered, run-answered, unless_zero, run-refused, run-unless, register, copy_register, scratch-ready, over_copy}
 use Rattle.op_run.proofs.run_text.Goals as goal
 
-pub returns-then-checked-ne0 : goal.returns-then-checked-ne0
-returns-then-checked-ne0 c =
+pub returns-in-Err : goal.returns-in-Err
+returns-in-Err c =
     let a = c.args in
     refused-answered a.machine a.file.now a.out.now a.values.now a.marks.now _ _
-    (run-refused _ _ _ _ (answered-refused c.read-checked.ensures c.if-checked-ne0.true))
-    (record { answer_is = c.refused.ensures; out_same = refl; values_same = refl; marks_same = refl })
+    (run-refused _ _ _ _ (answered-refused c.in-Err.ensures))
+    (record { answer_is = rw c.number.ensures at c.refused.ensures; out_same = refl; values_same = refl; marks_same = refl })
 
 pub sizes_of-sizes-requires : goal.sizes_of-sizes-requires
 sizes_of-sizes-requires c =
     let a = c.args in
-    let kept : R.Program = c.read-checked.result.program in
-    let codes : List ℕ = c.read-checked.new.codes in
+    let kept : R.Program = c.in-Ok.program in
+    let codes : List ℕ = c.read.new.codes in
     let program : Program = program_of codes kept in
-    let checked : check a.file.now a.text.now ≡ done program = answered-program c.read-checked.ensures c.if-checked-ne0.false in
+    let checked : check a.file.now a.text.now ≡ done program = answered-program c.in-Ok.ensures in
     (loaded _ _ checked).long
 
-pub ready-refusal-requires : goal.ready-refusal-requires
-ready-refusal-requires c =
+pub ready-requires : goal.ready-requires
+ready-requires c =
     let a = c.args in
-    let kept : R.Program = c.read-checked.result.program in
-    let codes : List ℕ = c.read-checked.new.codes in
+    let kept : R.Program = c.in-Ok.program in
+    let codes : List ℕ = c.read.new.codes in
     let program : Program = program_of codes kept in
-    let checked : check a.file.now a.text.now ≡ done program = answered-program c.read-checked.ensures c.if-checked-ne0.false in
-    let complete : Complete codes kept = c.read-checked.ensures.complete c.if-checked-ne0.false in
+    let checked : check a.file.now a.text.now ≡ done program = answered-program c.in-Ok.ensures in
+    let complete : Complete codes kept = c.in-Ok.ensures.complete in
     let line_limit : kept.lines ≤ 64 = omega (arith, complete.lines_are, few-lines _ _ checked) in
     (rw c.sizes_of-sizes.ensures (limits _ (loaded _ _ checked).within), line_limit)
 
-pub returns-then-refusal-ne0 : goal.returns-then-refusal-ne0
-returns-then-refusal-ne0 c =
+pub returns-in-Err-ready : goal.returns-in-Err-ready
+unfolding check_number
+returns-in-Err-ready c =
     let a = c.args in
-    let kept : R.Program = c.read-checked.result.program in
-    let codes : List ℕ = c.read-checked.new.codes in
+    let kept : R.Program = c.in-Ok.program in
+    let codes : List ℕ = c.read.new.codes in
     let program : Program = program_of codes kept in
-    let checked : check a.file.now a.text.now ≡ done program = answered-program c.read-checked.ensures c.if-checked-ne0.false in
-    let complete : Complete codes kept = c.read-checked.ensures.complete c.if-checked-ne0.false in
-    let r : Readied (scratch (sizes_of a.file.now) (most_lines program)) a.file.now a.out.now a.values.now a.marks.now c.ready-refusal.new.out c.ready-refusal.new.values c.ready-refusal.new.marks c.ready-refusal.result =
-    rw (← c.sizes_of-sizes.ensures, ← complete.lines_are) c.ready-refusal.ensures in
+    let checked : check a.file.now a.text.now ≡ done program = answered-program c.in-Ok.ensures in
+    let complete : Complete codes kept = c.in-Ok.ensures.complete in
+    let r : Readied (scratch (sizes_of a.file.now) (most_lines program)) a.file.now a.out.now a.values.now a.marks.now c.ready.new.out c.ready.new.values c.ready.new.marks (Err c.in-Err-ready.refusal) =
+    rw (← c.sizes_of-sizes.ensures, ← complete.lines_are) c.in-Err-ready.ensures in
     let s = sizes_of a.file.now in
-    let by_lengths : direct_run a.file.now a.text.now a.budget (lengths a.out.now a.values.now a.marks.now) ≡ unless c.ready-refusal.result 0 (done (run s (direct s) program a.budget (cells_of_file s a.file.now))) =
+    let by_lengths : direct_run a.file.now a.text.now a.budget (lengths a.out.now a.values.now a.marks.now) ≡ unless (refusal_number c.in-Err-ready.refusal) 0 (done (run s (direct s) program a.budget (cells_of_file s a.file.now))) =
     run-unless _ _ _ _ checked r.refusal_is in
-    refused-answered a.machine a.file.now a.out.now a.values.now a.marks.now _ _ (by_lengths ∙ refuse-none _ _ _ c.if-refusal-ne0.true)
-    (record { answer_is = c.refused-then-refusal-ne0.ensures; out_same = unready_untouched r c.if-refusal-ne0.true; values_same = r.values_same; marks_same = r.marks_same })
+    refused-answered a.machine a.file.now a.out.now a.values.now a.marks.now _ _ (by_lengths ∙ refuse-none _ _ _ (not_none _))
+    (record { answer_is = rw c.number-in-Err-ready.ensures at c.refused-in-Err-ready.ensures; out_same = r.out_is; values_same = r.values_same; marks_same = r.marks_same })
 
 pub run_program-answer-requires : goal.run_program-answer-requires
 run_program-answer-requires c =
     let a = c.args in
-    let kept : R.Program = c.read-checked.result.program in
-    let codes : List ℕ = c.read-checked.new.codes in
+    let kept : R.Program = c.in-Ok.program in
+    let codes : List ℕ = c.read.new.codes in
     let program : Program = program_of codes kept in
-    let checked : check a.file.now a.text.now ≡ done program = answered-program c.read-checked.ensures c.if-checked-ne0.false in
-    let complete : Complete codes kept = c.read-checked.ensures.complete c.if-checked-ne0.false in
+    let checked : check a.file.now a.text.now ≡ done program = answered-program c.in-Ok.ensures in
+    let complete : Complete codes kept = c.in-Ok.ensures.complete in
     let line_limit : kept.lines ≤ 64 = omega (arith, complete.lines_are, few-lines _ _ checked) in
-    let r : Readied (scratch (sizes_of a.file.now) (most_lines program)) a.file.now a.out.now a.values.now a.marks.now c.ready-refusal.new.out c.ready-refusal.new.values c.ready-refusal.new.marks c.ready-refusal.result =
-    rw (← c.sizes_of-sizes.ensures, ← complete.lines_are) c.ready-refusal.ensures in
-    let copied : c.ready-refusal.new.out ≡ a.file.now = ready-copied r c.if-refusal-ne0.false in
+    let r : Readied (scratch (sizes_of a.file.now) (most_lines program)) a.file.now a.out.now a.values.now a.marks.now c.ready.new.out c.ready.new.values c.ready.new.marks (Ok tt) =
+    rw (← c.sizes_of-sizes.ensures, ← complete.lines_are) c.in-Ok-ready.ensures in
+    let copied : c.ready.new.out ≡ a.file.now = r.out_is in
     let bytes : Bytes a.file.now = λ i. (c.type_inv.file i).fits in
     let e = c.sizes_of-sizes.ensures in (
       copy_register e copied (register a.file.now a.text.now checked bytes),
-      scratch-ready e complete.lines_are r.values_same r.marks_same line_limit (ready-room r c.if-refusal-ne0.false),
+      scratch-ready e complete.lines_are r.values_same r.marks_same line_limit (ready-room r),
       complete,
       rw e (passed a.file.now a.text.now checked),
     )
@@ -90,32 +94,33 @@ run_program-answer-requires c =
 pub restore-requires : goal.restore-requires
 restore-requires c =
     let a = c.args in
-    let kept : R.Program = c.read-checked.result.program in
-    let codes : List ℕ = c.read-checked.new.codes in
+    let kept : R.Program = c.in-Ok.program in
+    let codes : List ℕ = c.read.new.codes in
     let program : Program = program_of codes kept in
-    let checked : check a.file.now a.text.now ≡ done program = answered-program c.read-checked.ensures c.if-checked-ne0.false in
-    let complete : Complete codes kept = c.read-checked.ensures.complete c.if-checked-ne0.false in
-    let r : Readied (scratch (sizes_of a.file.now) (most_lines program)) a.file.now a.out.now a.values.now a.marks.now c.ready-refusal.new.out c.ready-refusal.new.values c.ready-refusal.new.marks c.ready-refusal.result =
-    rw (← c.sizes_of-sizes.ensures, ← complete.lines_are) c.ready-refusal.ensures in
-    let copied : c.ready-refusal.new.out ≡ a.file.now = ready-copied r c.if-refusal-ne0.false in
+    let checked : check a.file.now a.text.now ≡ done program = answered-program c.in-Ok.ensures in
+    let complete : Complete codes kept = c.in-Ok.ensures.complete in
+    let r : Readied (scratch (sizes_of a.file.now) (most_lines program)) a.file.now a.out.now a.values.now a.marks.now c.ready.new.out c.ready.new.values c.ready.new.marks (Ok tt) =
+    rw (← c.sizes_of-sizes.ensures, ← complete.lines_are) c.in-Ok-ready.ensures in
+    let copied : c.ready.new.out ≡ a.file.now = r.out_is in
     sym (c.run_program-answer.auto.out ∙ ap length copied)
 
 pub returns : goal.returns
+unfolding check_number
 returns c =
     let a = c.args in
-    let kept : R.Program = c.read-checked.result.program in
-    let codes : List ℕ = c.read-checked.new.codes in
+    let kept : R.Program = c.in-Ok.program in
+    let codes : List ℕ = c.read.new.codes in
     let program : Program = program_of codes kept in
-    let checked : check a.file.now a.text.now ≡ done program = answered-program c.read-checked.ensures c.if-checked-ne0.false in
-    let complete : Complete codes kept = c.read-checked.ensures.complete c.if-checked-ne0.false in
-    let r : Readied (scratch (sizes_of a.file.now) (most_lines program)) a.file.now a.out.now a.values.now a.marks.now c.ready-refusal.new.out c.ready-refusal.new.values c.ready-refusal.new.marks c.ready-refusal.result =
-    rw (← c.sizes_of-sizes.ensures, ← complete.lines_are) c.ready-refusal.ensures in
+    let checked : check a.file.now a.text.now ≡ done program = answered-program c.in-Ok.ensures in
+    let complete : Complete codes kept = c.in-Ok.ensures.complete in
+    let r : Readied (scratch (sizes_of a.file.now) (most_lines program)) a.file.now a.out.now a.values.now a.marks.now c.ready.new.out c.ready.new.values c.ready.new.marks (Ok tt) =
+    rw (← c.sizes_of-sizes.ensures, ← complete.lines_are) c.in-Ok-ready.ensures in
     let s = sizes_of a.file.now in
-    let by_lengths : direct_run a.file.now a.text.now a.budget (lengths a.out.now a.values.now a.marks.now) ≡ unless c.ready-refusal.result 0 (done (run s (direct s) program a.budget (cells_of_file s a.file.now))) =
+    let by_lengths : direct_run a.file.now a.text.now a.budget (lengths a.out.now a.values.now a.marks.now) ≡ unless 0 0 (done (run s (direct s) program a.budget (cells_of_file s a.file.now))) =
     run-unless _ _ _ _ checked r.refusal_is in
-    let copied : c.ready-refusal.new.out ≡ a.file.now = ready-copied r c.if-refusal-ne0.false in
+    let copied : c.ready.new.out ≡ a.file.now = r.out_is in
     let ran : direct_run a.file.now a.text.now a.budget (lengths a.out.now a.values.now a.marks.now) ≡ done (run s (direct s) program a.budget (cells_of_file s a.file.now)) =
-    by_lengths ∙ unless_zero _ _ _ c.if-refusal-ne0.false in
+    by_lengths ∙ unless_zero 0 _ _ refl in
     let ended : Ends a.machine s program a.budget a.file.now c.run_program-answer.new.out c.run_program-answer.result =
     over_copy program a.budget c.sizes_of-sizes.ensures copied c.run_program-answer.ensures in
     run-answered a.machine a.file.now a.out.now a.values.now a.marks.now _ _ ran ended c.restore.ensures

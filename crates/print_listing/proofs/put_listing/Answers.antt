@@ -1,6 +1,6 @@
 -- `print_listing::put_listing` meets its contract: the cells of the file are those of its two parts.
 use Rattle.register.specs.File.{cells_of_file}
-use Rattle.register.proofs.Loading.{file-parts}
+use Rattle.register.specs.View.{cells_in}
 use Rattle.print_page.proofs.Putting.{room-first, room_next, put-more}
 use Rattle.print_listing.specs.Listing.{listing}
 use Rattle.print_listing.proofs.put_listing.Goals as goal
@@ -10,17 +10,13 @@ unfolding listing
 put_header-at-requires c = room-first _ c.requires.2
 
 pub put_records-requires : goal.put_records-requires
-unfolding listing cells_of_file
+unfolding listing cells_of_file cells_in
 put_records-requires c =
-    let s = c in
-    let h = c.put_header-at in
-    rw (c.values_part-cells.ensures, c.marks_part-filled.ensures)
-    (file-parts s.args.file.now s.args.sizes s.requires.0 s.requires.1, room_next s.requires.2 h.ensures h.auto.page)
+    let o = c.of-cells.ensures in
+    rw (o.0, o.1, o.2) (room_next c.requires.2 c.put_header-at.ensures c.put_header-at.auto.page)
 
 pub returns : goal.returns
-unfolding listing cells_of_file
+unfolding listing cells_of_file cells_in
 returns c =
-    let first = c.put_header-at in
-    let values = c.values_part-cells in
-    let marks = c.marks_part-filled in
-    put-more first.ensures (rw (values.ensures, marks.ensures) at c.put_records.ensures)
+    let o = c.of-cells.ensures in
+    put-more c.put_header-at.ensures (rw (o.0, o.1, o.2) at c.put_records.ensures)

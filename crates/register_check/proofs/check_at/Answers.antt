@@ -14,18 +14,18 @@ use Rattle.register_check.proofs.check_at.Goals as goal
 
 pub overflow_mul-j : goal.overflow_mul-j
 overflow_mul-j c =
-    let below : c.cell_index-j.result < cell_count c.args.sizes = (let s = c in rw c.cell_index-j.ensures (cell_index-below s.args.sizes s.args.u s.args.f s.requires.1 s.requires.2)) in
-    record { fits = omega (arith, below, cell_count≤ c.requires.0.limits) }
+    let below : c.cell_index-j.result < cell_count c.args.cells.now.sizes = (let s = c in rw c.cell_index-j.ensures (cell_index-below s.args.cells.now.sizes s.args.u s.args.f s.requires.0 s.requires.1)) in
+    record { fits = omega (arith, below, cell_count≤ c.args.cells.now.parts.limits) }
 
 pub value_at-value-requires : goal.value_at-value-requires
 value_at-value-requires c =
-    let below : c.cell_index-j.result < cell_count c.args.sizes = (let s = c in rw c.cell_index-j.ensures (cell_index-below s.args.sizes s.args.u s.args.f s.requires.1 s.requires.2)) in
-    omega (arith, below, c.requires.0.values_length)
+    let below : c.cell_index-j.result < cell_count c.args.cells.now.sizes = (let s = c in rw c.cell_index-j.ensures (cell_index-below s.args.cells.now.sizes s.args.u s.args.f s.requires.0 s.requires.1)) in
+    omega (arith, below, c.args.cells.now.parts.values_length)
 
-pub bounds-filled-j : goal.bounds-filled-j
-bounds-filled-j c =
-    let below : c.cell_index-j.result < cell_count c.args.sizes = (let s = c in rw c.cell_index-j.ensures (cell_index-below s.args.sizes s.args.u s.args.f s.requires.1 s.requires.2)) in
-    omega (arith, below, c.requires.0.marks_length)
+pub bounds-cells-j : goal.bounds-cells-j
+bounds-cells-j c =
+    let below : c.cell_index-j.result < cell_count c.args.cells.now.sizes = (let s = c in rw c.cell_index-j.ensures (cell_index-below s.args.cells.now.sizes s.args.u s.args.f s.requires.0 s.requires.1)) in
+    omega (arith, below, c.args.cells.now.parts.marks_length)
 
 pub returns : goal.returns
 unfolding refusal_at
@@ -33,7 +33,7 @@ returns c =
     let i = c in
     let v = c.value_at-value in
     let a = i.args in
-    let of : Bool → ℤ → ℕ → ℕ = λ t z j. cell_refusal a.sizes.records t z (get_or a.filled.now j 0) in
+    let of : Bool → ℤ → ℕ → ℕ = λ t z j. cell_refusal a.cells.now.sizes.records t z (get_or a.cells.now.marks.now j 0) in
     c.check_cell.ensures
     ∙ ap (λ (z : ℤ). of a.reference z i.cell_index-j.result) (kept v.result v.type_inv ∙ v.ensures)
-    ∙ ap₂ (λ (t : Bool) (j : ℕ). of t (value_at a.cells.now (4 * j)) j) (sym i.requires.3) i.cell_index-j.ensures
+    ∙ ap₂ (λ (t : Bool) (j : ℕ). of t (value_at a.cells.now.values.now (4 * j)) j) (sym i.requires.2) i.cell_index-j.ensures

@@ -1,46 +1,43 @@
--- `register_check::check_record` meets its contract: the references, then the measures.
-use mathlib.Core.Path.{sym, ap, ◌∙◌}
+-- `register_check::check_record` meets its contract. The loops' invariants: no field passed is refused.
 use native.Mathlib.Omega.{arith}
 use borrow.Author.Tests.{lt-ltb, le-ltb}
+use Rattle.laws.proofs.First.{first-none, first-end}
 use Rattle.register.specs.File.{width}
 use Rattle.register.specs.Load.{record_refusal}
 use Rattle.register_check.specs.Number.{check_number}
-use Rattle.laws.proofs.First.{first-none, first-stays}
-use Rattle.register_check.proofs.Numbers.{number_positive}
+use Rattle.register_check.proofs.Numbers.{goes_on_lem, stops}
+use Rattle.std.proofs.lemmas.Result.{err_from_is_err_and}
 use Rattle.register_check.proofs.check_record.Goals as goal
 
-pub check_fields-requires : goal.check_fields-requires
+pub loop-f-init : goal.loop-f-init
+loop-f-init c = first-none _
+
+pub check_at-requires : goal.check_at-requires
 unfolding width
-check_fields-requires c =
-    let p = c.requires in
-    record {
-      parts = p.0;
-      row = p.1;
-      start = omega arith;
-      end = omega arith;
-      kind = λ f _ h. lt-ltb f _ h;
-      before = first-none _;
-    }
+check_at-requires c = (c.requires, omega arith, lt-ltb _ _ c.loop-f-test.true)
 
-pub check_fields-requires-in-Passed : goal.check_fields-requires-in-Passed
-unfolding width check_number
-check_fields-requires-in-Passed c =
-    let p = c.requires in
-    record {
-      parts = p.0;
-      row = p.1;
-      start = omega arith;
-      end = omega arith;
-      kind = λ f h _. le-ltb f _ h;
-      before = sym c.check_fields.ensures ∙ ap check_number c.in-Passed.is;
-    }
-
-pub returns-in-Passed : goal.returns-in-Passed
+pub returns-in_err-check_at : goal.returns-in_err-check_at
 unfolding record_refusal width
-returns-in-Passed c = c.check_fields-in-Passed.ensures
+returns-in_err-check_at c =
+    let p = err_from_is_err_and c.from_residual.result c.from_residual.ensures.1 in
+    rw (p.1, p.2) (stops _ _ c.loop-f.invariant _ (omega arith) _ c.in_err-check_at.ensures)
 
-pub returns-in-Failed : goal.returns-in-Failed
+pub loop-f-preserved : goal.loop-f-preserved
+loop-f-preserved c = goes_on_lem _ _ c.loop-f.invariant _ c.in_ok-check_at.ensures
+
+pub check_at-requires-in-loop-f-2 : goal.check_at-requires-in-loop-f-2
+unfolding width
+check_at-requires-in-loop-f-2 c = (c.requires, omega arith, le-ltb _ _ c.loop-f-2.auto.f)
+
+pub returns-in_err-check_at-2 : goal.returns-in_err-check_at-2
+unfolding record_refusal width
+returns-in_err-check_at-2 c =
+    let p = err_from_is_err_and c.from_residual-in_err-check_at-2.result c.from_residual-in_err-check_at-2.ensures.1 in
+    rw (p.1, p.2) (stops _ _ c.loop-f-2.invariant _ (omega arith) _ c.in_err-check_at-2.ensures)
+
+pub loop-f-2-preserved : goal.loop-f-2-preserved
+loop-f-2-preserved c = goes_on_lem _ _ c.loop-f-2.invariant _ c.in_ok-check_at-2.ensures
+
+pub returns : goal.returns
 unfolding record_refusal width check_number
-returns-in-Failed c =
-    let here = ap check_number (sym c.in-Failed.is) ∙ c.check_fields.ensures in
-    here ∙ sym (first-stays _ _ _ (omega arith) (λ z. number_positive c.in-Failed.refusal (here ∙ z)))
+returns c = first-end _ _ _ c.loop-f-2.invariant (omega arith)

@@ -8,15 +8,15 @@ use lib.ListN.{length}
 use Rattle.program.specs.Kept.{program_of}
 use Rattle.step_cells.proofs.Working.{same_then}
 use Rattle.step_rules.proofs.Locals.{plain_at, plain_ready}
-use Rattle.run_steps.proofs.Loops.{nearer, rules-first, rules-next, records-first, records-next, left_behind, local_as, left-within}
+use Rattle.run_steps.proofs.Loops.{with_offence, nearer, rules-first, rules-next, records-first, records-next, left_behind, local_as, left-within}
 use Rattle.run_steps.proofs.Standing.{lines_end, scratch-behind, stands-start, ends_by}
 use Rattle.run_steps.proofs.Turn.{Held, held-anew, held_still, plain_more, turn_at, limits, out_whole, out_length, at-step, few-steps, few-rules, setting_passes}
 use Rattle.run_steps.proofs.Turn.{taken_first, taken_more, column_space, planned, lines_values, lines_marks, Prepared, rules_fit}
 use Rattle.run_steps.proofs.Turn.{values_length, marks_length, Applied, room_still, ready_still, rule-ready, rule_agrees, small_still}
 use Rattle.run_steps.proofs.Done.{Done, done_remote, done_local, ready, turn-stands, turn-nearer}
-use Rattle.run_turn.proofs.Turning.{not-both, sends_nowhere}
+use Rattle.run_turn.proofs.Turning.{not-both, goes_through, sends_nowhere}
 use Rattle.run_steps.proofs.run_steps.Goals as goal
-use Rattle.run_steps.proofs.run_steps.Goals.{then-taken-step+else-loop-k-test, else-taken-step, then-plain, else-plain, then-sends, else-sends, then-records-test+then-loop-k-2-test+in-At, else-records-test}
+use Rattle.run_steps.proofs.run_steps.Goals.{then-taken-step+else-loop-k-test, else-taken-step, then-plain, else-plain, then-sends, else-sends, then-records-test+then-loop-k-2-test+then-is_err, else-records-test}
 
 pub overflow_mul-at : goal.overflow_mul-at
 overflow_mul-at c =
@@ -32,18 +32,14 @@ pub loop-sizes-init : goal.loop-sizes-init
 unfolding program_of
 loop-sizes-init c =
     let start = stands-start c.requires.0 c.requires.4 (scratch-behind c.requires.1) c.requires.3 c.requires.2.steps_are in
-    (rw c.start-run.ensures (record { stands = λ n. start; stopped = λ u k h. not-both refl h }), refl, refl, refl, refl, λ h. absurd (omega arith))
+    (rw c.start-run.ensures (record { stands = λ n. start; stopped = λ o h. not-both refl h }), refl, refl, refl, refl, λ h. absurd (omega arith))
 
 -- A turn of the loop: the frame of the step.
 pub offset_bounds-frames-step : goal.offset_bounds-frames-step
-offset_bounds-frames-step c =
-    let t = turn_at c.requires.0 c.requires.1 c.requires.2 c.requires.3 c.loop-sizes.invariant.0 c.goes_on.ensures c.loop-sizes-test.true refl in
-    record { fits = omega (arith, few-steps t) }
+offset_bounds-frames-step c = record { fits = omega (arith, c.goes_on.ensures.left c.loop-sizes-test.true, c.requires.2.steps_are, c.requires.3.few) }
 
 pub bounds-frames-step : goal.bounds-frames-step
-bounds-frames-step c =
-    let t = turn_at c.requires.0 c.requires.1 c.requires.2 c.requires.3 c.loop-sizes.invariant.0 c.goes_on.ensures c.loop-sizes-test.true refl in
-    omega (arith, few-steps t)
+bounds-frames-step c = omega (arith, c.goes_on.ensures.left c.loop-sizes-test.true, c.requires.2.steps_are, c.requires.3.few)
 
 -- Its rules are taken out.
 pub loop-k-init : goal.loop-k-init
@@ -241,7 +237,7 @@ loop-k-2-preserved c =
     let t = turn_at c.requires.0 c.requires.1 c.requires.2 c.requires.3 c.loop-sizes.invariant.0 c.goes_on.ensures c.loop-sizes-test.true held.frame_is in
     let b : Prepared t c.if-taken-step.rules c.begin-begun.new.values c.begin-begun.new.marks c.begin-begun.result = record { taken = held.rules_are; begins = c.begin-begun.ensures } in
     let same = same_then c.records.invariant.same c.loop-k-2.invariant.done.same in
-    rules-next c.loop-k-2.invariant c.loop-k-2-test.true (rules_fit b) c.in_default.is _
+    rules-next c.loop-k-2.invariant c.loop-k-2-test.true (rules_fit b) (goes_through _ (sym c.is_err.ensures.value ∙ c.if-is_err.false)) _
     (elim c.if-plain.branch [
       | then-plain w ↦ local_as _ _ _ _ _ _ _ w.values-is w.marks-is w.stop-is (w.apply_plain-stop.ensures _ _ (rule_agrees b same _ _ c.loop-k-2-test.true _ c.records-test.true))
       | else-plain w ↦ local_as _ _ _ _ _ _ _ w.values-is w.marks-is w.stop-is (w.apply_rule-stop.ensures _ (rule_agrees b same _ _ c.loop-k-2-test.true _ c.records-test.true))
@@ -281,13 +277,13 @@ apply-sent-requires c =
     let l : Applied b c.records-test.values c.records-test.marks c.records-test.stop =
     elim c.records-test.branch [
       | else-records-test w ↦ left_behind c.records.invariant w.records-test.false w.values-is w.marks-is w.stop-is
-      | then-records-test+then-loop-k-2-test+in-At w ↦
+      | then-records-test+then-loop-k-2-test+then-is_err w ↦
           let same = same_then c.records.invariant.same w.loop-k-2.invariant.done.same in
-          left-within c.records.invariant w.records-test.true w.loop-k-2.invariant w.loop-k-2-test.true (rules_fit b) w.in-At.is w.values-is w.marks-is w.stop-is _
+          with_offence _ (sym w.is_err.ensures.value ∙ w.if-is_err.true) (λ o e. left-within c.records.invariant w.records-test.true w.loop-k-2.invariant w.loop-k-2-test.true (rules_fit b) e w.values-is w.marks-is w.stop-is _
           (elim w.if-plain.branch [
             | then-plain v ↦ local_as _ _ _ _ _ _ _ v.values-is v.marks-is v.stop-is (v.apply_plain-stop.ensures _ _ (rule_agrees b same _ _ w.loop-k-2-test.true _ w.records-test.true))
             | else-plain v ↦ local_as _ _ _ _ _ _ _ v.values-is v.marks-is v.stop-is (v.apply_rule-stop.ensures _ (rule_agrees b same _ _ w.loop-k-2-test.true _ w.records-test.true))
-          ])
+          ]))
     ] in
     let all = l.all (sends_nowhere _ _ (sym c.sends.ensures ∙ c.if-sends.true)) in
     record {
@@ -311,13 +307,13 @@ finish-run-requires c =
     let l : Applied b c.records-test.values c.records-test.marks c.records-test.stop =
     elim c.records-test.branch [
       | else-records-test w ↦ left_behind c.records.invariant w.records-test.false w.values-is w.marks-is w.stop-is
-      | then-records-test+then-loop-k-2-test+in-At w ↦
+      | then-records-test+then-loop-k-2-test+then-is_err w ↦
           let same = same_then c.records.invariant.same w.loop-k-2.invariant.done.same in
-          left-within c.records.invariant w.records-test.true w.loop-k-2.invariant w.loop-k-2-test.true (rules_fit b) w.in-At.is w.values-is w.marks-is w.stop-is _
+          with_offence _ (sym w.is_err.ensures.value ∙ w.if-is_err.true) (λ o e. left-within c.records.invariant w.records-test.true w.loop-k-2.invariant w.loop-k-2-test.true (rules_fit b) e w.values-is w.marks-is w.stop-is _
           (elim w.if-plain.branch [
             | then-plain v ↦ local_as _ _ _ _ _ _ _ v.values-is v.marks-is v.stop-is (v.apply_plain-stop.ensures _ _ (rule_agrees b same _ _ w.loop-k-2-test.true _ w.records-test.true))
             | else-plain v ↦ local_as _ _ _ _ _ _ _ v.values-is v.marks-is v.stop-is (v.apply_rule-stop.ensures _ (rule_agrees b same _ _ w.loop-k-2-test.true _ w.records-test.true))
-          ])
+          ]))
     ] in
     let d : Done b c.records-test.stop c.if-sends.values c.if-sends.marks c.if-sends.sent =
     elim c.if-sends.branch [
@@ -340,13 +336,13 @@ loop-sizes-smaller c =
     let l : Applied b c.records-test.values c.records-test.marks c.records-test.stop =
     elim c.records-test.branch [
       | else-records-test w ↦ left_behind c.records.invariant w.records-test.false w.values-is w.marks-is w.stop-is
-      | then-records-test+then-loop-k-2-test+in-At w ↦
+      | then-records-test+then-loop-k-2-test+then-is_err w ↦
           let same = same_then c.records.invariant.same w.loop-k-2.invariant.done.same in
-          left-within c.records.invariant w.records-test.true w.loop-k-2.invariant w.loop-k-2-test.true (rules_fit b) w.in-At.is w.values-is w.marks-is w.stop-is _
+          with_offence _ (sym w.is_err.ensures.value ∙ w.if-is_err.true) (λ o e. left-within c.records.invariant w.records-test.true w.loop-k-2.invariant w.loop-k-2-test.true (rules_fit b) e w.values-is w.marks-is w.stop-is _
           (elim w.if-plain.branch [
             | then-plain v ↦ local_as _ _ _ _ _ _ _ v.values-is v.marks-is v.stop-is (v.apply_plain-stop.ensures _ _ (rule_agrees b same _ _ w.loop-k-2-test.true _ w.records-test.true))
             | else-plain v ↦ local_as _ _ _ _ _ _ _ v.values-is v.marks-is v.stop-is (v.apply_rule-stop.ensures _ (rule_agrees b same _ _ w.loop-k-2-test.true _ w.records-test.true))
-          ])
+          ]))
     ] in
     let d : Done b c.records-test.stop c.if-sends.values c.if-sends.marks c.if-sends.sent =
     elim c.if-sends.branch [
@@ -370,13 +366,13 @@ loop-sizes-preserved c =
     let l : Applied b c.records-test.values c.records-test.marks c.records-test.stop =
     elim c.records-test.branch [
       | else-records-test w ↦ left_behind c.records.invariant w.records-test.false w.values-is w.marks-is w.stop-is
-      | then-records-test+then-loop-k-2-test+in-At w ↦
+      | then-records-test+then-loop-k-2-test+then-is_err w ↦
           let same = same_then c.records.invariant.same w.loop-k-2.invariant.done.same in
-          left-within c.records.invariant w.records-test.true w.loop-k-2.invariant w.loop-k-2-test.true (rules_fit b) w.in-At.is w.values-is w.marks-is w.stop-is _
+          with_offence _ (sym w.is_err.ensures.value ∙ w.if-is_err.true) (λ o e. left-within c.records.invariant w.records-test.true w.loop-k-2.invariant w.loop-k-2-test.true (rules_fit b) e w.values-is w.marks-is w.stop-is _
           (elim w.if-plain.branch [
             | then-plain v ↦ local_as _ _ _ _ _ _ _ v.values-is v.marks-is v.stop-is (v.apply_plain-stop.ensures _ _ (rule_agrees b same _ _ w.loop-k-2-test.true _ w.records-test.true))
             | else-plain v ↦ local_as _ _ _ _ _ _ _ v.values-is v.marks-is v.stop-is (v.apply_rule-stop.ensures _ (rule_agrees b same _ _ w.loop-k-2-test.true _ w.records-test.true))
-          ])
+          ]))
     ] in
     let d : Done b c.records-test.stop c.if-sends.values c.if-sends.marks c.if-sends.sent =
     elim c.if-sends.branch [

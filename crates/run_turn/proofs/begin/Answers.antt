@@ -6,28 +6,22 @@ use Rattle.run_turn.proofs.begin.Goals as goal
 
 pub gather-gathered-requires : goal.gather-gathered-requires
 gather-gathered-requires c =
-    let e = c in
-    let b = e in
-    let behind = e.enter-first.ensures.1.behind in (
-      b.requires.0,
-      planned-ready b.requires.3 b.args.machine _ _ _ b.requires.4
-          (omega (arith, b.requires.5, behind.values_length))
-          (omega (arith, b.requires.6, behind.marks_length)),
+    let behind = c.enter-first.ensures.1.behind in (
+      c.requires.0,
+      planned-ready c.requires.3 c.args.machine _ _ _ c.requires.4
+          (omega (arith, c.requires.5, behind.values_length))
+          (omega (arith, c.requires.6, behind.marks_length)),
     )
 
 pub returns : goal.returns
-returns c =
-    let g = c in
-    let e = g in
-    let b = e in
-    record {
-      values₁ = _;
-      marks₁ = _;
-      first_is = e.enter-first.ensures.0;
-      entered = e.enter-first.ensures.1;
-      gathered = gathered_by b.requires.3 b.requires.0.valid b.args.machine g.gather-gathered.ensures;
-      at_is = refl;
-      setting_is = refl;
-      machine_is = refl;
-      remote_is = refl;
-    }
+returns c = record {
+  values₁ = _;
+  marks₁ = _;
+  first_is = c.enter-first.ensures.0;
+  entered = c.enter-first.ensures.1;
+  gathered = gathered_by c.requires.3 c.requires.0.valid c.args.machine c.gather-gathered.ensures;
+  at_is = refl;
+  setting_is = refl;
+  machine_is = refl;
+  remote_is = refl;
+}

@@ -10,17 +10,17 @@ use Rattle.scratch.specs.Places.{reading_mark}
 use borrow.Author.Rules.{rules}
 use Rattle.scratch.proofs.put_reading.Goals as goal
 
-pub returns-in-Missing : goal.returns-in-Missing
+pub returns-in-None : goal.returns-in-None
 unfolding reading_value reading_mark
-returns-in-Missing c =
+returns-in-None c =
     let p = c in
-    rw p.in-Missing.is (p.clear.ensures.0, p.clear.ensures.1, record { sfits = omega arith })
+    rw p.in-None.is (p.clear.ensures.0, p.clear.ensures.1, record { sfits = omega arith })
 
-pub returns-in-Value : goal.returns-in-Value
+pub returns-in-Some : goal.returns-in-Some
 unfolding reading_value reading_mark
-returns-in-Value c =
+returns-in-Some c =
     let p = c in
     let v = p in
     let a = v.args in
-    let z = to_z-of_z {w = w64} (record { sfits = p.widen.type_inv }) ∙ p.widen.ensures ∙ kept v.in-Value.value (search rules) in
-    rw v.in-Value.is (p.put.ensures.0 ∙ ap (set a.values.now a.j) z, p.put.ensures.1, record { sfits = (search rules) })
+    let z = to_z-of_z {w = w64} (record { sfits = p.widen.type_inv }) ∙ p.widen.ensures ∙ kept v.in-Some.value (search rules) in
+    rw v.in-Some.is (p.put.ensures.0 ∙ ap (set a.values.now a.j) z, p.put.ensures.1, record { sfits = (search rules) })

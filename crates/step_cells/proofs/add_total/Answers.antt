@@ -16,19 +16,16 @@ returns-then-marks-j-eq0 c = total_missing _ _ _ _ c.if-marks-j-eq0.true
 pub increase-total-requires : goal.increase-total-requires
 unfolding stored_at
 increase-total-requires c =
-    let s = c in
-    let a = s.args in
+    let a = c.args in
     rw (to_z-of_z {w = w64} {z = get_or a.values.now a.j (pos 0)} (record { sfits = c.increase-arg-1.given }))
-    (rw (value_of-cell_of (get_or a.values.now a.j (pos 0)) _ (λ e. absurd (c.if-marks-j-eq0.false e))) at s.requires.2)
+    (rw (value_of-cell_of (get_or a.values.now a.j (pos 0)) _ (λ e. absurd (c.if-marks-j-eq0.false e))) at c.requires.2)
 
 pub returns : goal.returns
 returns c =
-    let p = c in
-    let i = p in
-    let s = i in
-    let z = get_or s.args.values.now s.args.j (pos 0) in
+    let a = c.args in
+    let z = get_or a.values.now a.j (pos 0) in
     let total =
-    to_z-of_z {w = w64} (record { sfits = i.increase-total.type_inv })
-    ∙ i.increase-total.ensures
-    ∙ ap₂ ◌+ℤ◌ (to_z-of_z {w = w64} {z = z} (record { sfits = i.increase-arg-1.given })) (to_z-of_z {w = w32} s.ranges.amount) in
-    rw (total-added _ _ _ _ i.if-marks-j-eq0.false) (put-worked _ (p.put.ensures.0 ∙ ap (set s.args.values.now s.args.j) total) p.put.ensures.1)
+    to_z-of_z {w = w64} (record { sfits = c.increase-total.type_inv })
+    ∙ c.increase-total.ensures
+    ∙ ap₂ ◌+ℤ◌ (to_z-of_z {w = w64} {z = z} (record { sfits = c.increase-arg-1.given })) (to_z-of_z {w = w32} c.ranges.amount) in
+    rw (total-added _ _ _ _ c.if-marks-j-eq0.false) (put-worked _ (c.put.ensures.0 ∙ ap (set a.values.now a.j) total) c.put.ensures.1)

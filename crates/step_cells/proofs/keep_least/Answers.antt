@@ -13,23 +13,24 @@ use Rattle.scratch.specs.Places.{stored_at}
 use Rattle.step_cells.proofs.Working.{put-worked}
 use Rattle.step_cells.proofs.Merging.{least_missing, least_smaller, least_kept}
 use Rattle.step_cells.proofs.keep_least.Goals as goal
-use Rattle.step_cells.proofs.keep_least.Goals.{then-marks-j-ne0+else-not-is_below, else-marks-j-ne0}
+use Rattle.step_cells.proofs.keep_least.Goals.{else-marks-j-ne0-via-then-marks-j-ne0+else-not-is_below, else-marks-j-ne0-via-else-marks-j-ne0}
 
 pub returns-then-not-is_below : goal.returns-then-not-is_below
 returns-then-not-is_below c =
-    let compared : (let a = c.args in c.is_below.result ≡ lt_z a.amount (get_or a.values.now a.j (pos 0))) = c.is_below.ensures ∙ ap₂ lt_z (to_z-of_z {w = w32} c.ranges.amount) (to_z-of_z {w = w64} (search rules)) in
-    least_kept _ _ _ _ c.if-marks-j-ne0.true (sym (compared) ∙ c.if-not-is_below.true)
+    let compared : c.is_below.result ≡ lt_z c.args.amount (get_or c.args.values.now c.args.j (pos 0)) =
+    c.is_below.ensures ∙ ap₂ lt_z (to_z-of_z {w = w32} c.ranges.amount) (to_z-of_z {w = w64} (search rules)) in
+    least_kept _ _ _ _ c.if-marks-j-ne0.true (sym compared ∙ c.if-not-is_below.true)
 
 pub returns : goal.returns
 returns c =
     let a = c.args in
     let stored : merged Least (stored_at a.values.now a.marks.now a.j) a.amount ≡ WorkedOut a.amount =
-    elim c.if-marks-j-ne0.branch [
-      | then-marks-j-ne0+else-not-is_below w ↦
+    elim c.else-marks-j-ne0.branch [
+      | else-marks-j-ne0-via-then-marks-j-ne0+else-not-is_below w ↦
           let compared : w.is_below.result ≡ lt_z a.amount (get_or a.values.now a.j (pos 0)) =
           w.is_below.ensures ∙ ap₂ lt_z (to_z-of_z {w = w32} c.ranges.amount) (to_z-of_z {w = w64} (search rules)) in
           least_smaller _ _ _ _ w.if-marks-j-ne0.true (sym compared ∙ w.if-not-is_below.false)
-      | else-marks-j-ne0 w ↦ least_missing _ _ _ _ w.if-marks-j-ne0.false
+      | else-marks-j-ne0-via-else-marks-j-ne0 w ↦ least_missing _ _ _ _ w.if-marks-j-ne0.false
     ] in
     let z = to_z-of_z {w = w64} (record { sfits = c.widen.type_inv }) ∙ c.widen.ensures ∙ to_z-of_z {w = w32} c.ranges.amount in
-    rw (stored) (put-worked _ (c.put.ensures.0 ∙ ap (set a.values.now a.j) z) c.put.ensures.1)
+    rw stored (put-worked _ (c.put.ensures.0 ∙ ap (set a.values.now a.j) z) c.put.ensures.1)

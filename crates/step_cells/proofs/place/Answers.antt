@@ -1,5 +1,4 @@
 -- `step_cells::place` meets its contract: the working cells stand as those of the register do.
-use Prim.Native.Nat.{◌+◌}
 use mathlib.Core.Path.{◌≡◌, ap, ◌∙◌}
 use native.Mathlib.Omega.{arith}
 use Rattle.register.specs.File.{cell_index}
@@ -14,17 +13,11 @@ column-requires c = (c.requires.0.references≤, field_below c.args.sizes c.requ
 
 pub cell_index-requires : goal.cell_index-requires
 cell_index-requires c =
-    let s = c in
-    (s.requires.0, s.requires.1, rw c.column.ensures (column-below s.args.sizes s.requires.0 s.args.field s.requires.2))
+    (c.requires.0, c.requires.1, rw c.column.ensures (column-below c.args.sizes c.requires.0 c.args.field c.requires.2))
 
 pub overflow_add-result : goal.overflow_add-result
 overflow_add-result c =
-    let index : (let s = c in c.cell_index.result ≡ cell_index s.args.sizes s.args.u (column s.args.sizes s.args.field)) = c.cell_index.ensures ∙ ap (cell_index c.args.sizes c.args.u) c.column.ensures in
-    let s = c in
-    let b = cell_index-below s.args.sizes s.args.u _ s.requires.1 (column-below s.args.sizes s.requires.0 s.args.field s.requires.2) in
-    omega (arith, index, b, cell_count≤ s.requires.0)
-
-pub returns : goal.returns
-returns c =
-    let index : (let s = c in c.cell_index.result ≡ cell_index s.args.sizes s.args.u (column s.args.sizes s.args.field)) = c.cell_index.ensures ∙ ap (cell_index c.args.sizes c.args.u) c.column.ensures in
-    ap (◌+◌ c.args.base) (index)
+    let index : c.cell_index.result ≡ cell_index c.args.sizes c.args.u (column c.args.sizes c.args.field) =
+    c.cell_index.ensures ∙ ap (cell_index c.args.sizes c.args.u) c.column.ensures in
+    let below = cell_index-below c.args.sizes c.args.u _ c.requires.1 (column-below c.args.sizes c.requires.0 c.args.field c.requires.2) in
+    omega (arith, index, below, cell_count≤ c.requires.0)

@@ -32,7 +32,7 @@ returns-then-not-holds c = (tt, λ codes read agrees. send_unheld _ _ _ (c.holds
 pub send-requires : goal.send-requires
 send-requires c =
     let p = c.requires.parts in
-    record { parts = (p.0, p.1, rw c.in-Remote.is at p.2.rule); names = rw c.in-Remote.is at c.requires.target_found }
+    record { parts = (p.0, rw c.in-Remote.is at p.1.rule); names = rw c.in-Remote.is at c.requires.target_found }
 
 pub returns : goal.returns
 unfolding target_in expression_in sent_by target_field

@@ -6,7 +6,7 @@ use Rattle.text_next.proofs.read_first.Goals as goal
 pub returns-then-text-end : goal.returns-then-text-end
 returns-then-text-end c =
     let a = c.args in
-    next-none a.sizes a.text.now a.at a.end a.count c.requires.2 c.requires.3 _ _ (omega (arith, c.if-text-end.true))
+    rw c.no_form.ensures (next-none a.sizes a.text.now a.at a.end a.count c.requires.2 c.requires.3 _ _ (omega (arith, c.if-text-end.true)))
 
 pub read_line-requires : goal.read_line-requires
 read_line-requires c =

@@ -1,11 +1,7 @@
--- `text_numbers::digits_at` meets its contract. The loop's invariant: what is left of the digits comes to the same as the whole.
-use Prim.Native.Nat.{◌-◌}
-use lib.ListN.{length}
+-- The loop's invariant: what is left of the digits comes to the same as the whole.
+use Prim.Native.Nat.{◌+◌}
 use Rattle.text_numerals.proofs.Digits.{Counted}
 use Rattle.text_numbers.proofs.digits_at.Given as goal
 
-abbrev pub invariant-loop-value : goal.invariant-loop-value
-invariant-loop-value l = Counted l.at l.n l.line l.value l.i
-
-abbrev pub decreases-loop-value : goal.decreases-loop-value
-decreases-loop-value l = length l.line - l.i
+abbrev pub invariant-loop-i : goal.invariant-loop-i
+invariant-loop-i l = Counted l.at l.n l.line l.value (l.at + l.i)

@@ -1,9 +1,11 @@
 -- `text_numbers::signed_digits` meets its contract.
+use Rattle.std.specs.Prelude.{Some}
+use Prim.Native.Nat.{ℕ}
 use mathlib.Core.Path.{sym, ap, ap₂, ◌∙◌}
+use lib.IntN.{ℤ}
 use mir.Syntax.{w64}
 use mir.Facts.{to_z-of_z}
 use Rattle.text_numerals.specs.Numeral.{signed_value}
-use Rattle.text_numbers.specs.declared.NumberRead.TheVariants.{Number}
 use Rattle.text_numerals.proofs.Digits.{capped-bound}
 use Rattle.text_numbers.proofs.Numbers.{read_unformed, read-formed}
 use Rattle.text_numbers.proofs.signed_digits.Goals as goal
@@ -21,4 +23,4 @@ pub returns : goal.returns
 returns c =
     let d = c.numeral_at-figures.ensures in
     let value = to_z-of_z {w = w64} (record { sfits = c.signed_value.type_inv }) ∙ c.signed_value.ensures ∙ ap (signed_value _) d.value-is in
-    ap₂ Number value d.end_is ∙ sym (read-formed _ _ _ (sym c.is_numeral.ensures ∙ c.if-not-is_numeral.false))
+    ap₂ (λ (z : ℤ) (n : ℕ). Some (z, n)) value d.end_is ∙ sym (read-formed _ _ _ (sym c.is_numeral.ensures ∙ c.if-not-is_numeral.false))

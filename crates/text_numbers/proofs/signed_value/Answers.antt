@@ -7,9 +7,6 @@ use Rattle.text_numerals.specs.Numeral.{signed_value}
 use Rattle.text_numbers.proofs.Numbers.{signed_fits, minus-value, plain_value}
 use Rattle.text_numbers.proofs.signed_value.Goals as goal
 
-pub overflow_sub-result : goal.overflow_sub-result
-overflow_sub-result c = rw (minus-value c.args.n c.requires) (signed_fits true c.args.n c.requires)
-
 pub returns-then-negative : goal.returns-then-negative
 returns-then-negative c =
     let n = c.args.n in
@@ -17,5 +14,5 @@ returns-then-negative c =
     ∙ minus-value n c.requires
     ∙ ap (λ (x : Bool). signed_value x n) (sym c.if-negative.true)
 
-pub returns : goal.returns
-returns c = plain_value c.args.n c.requires ∙ ap (λ (x : Bool). signed_value x c.args.n) (sym c.if-negative.false)
+pub returns-else-negative : goal.returns-else-negative
+returns-else-negative c = plain_value c.args.n c.requires ∙ ap (λ (x : Bool). signed_value x c.args.n) (sym c.if-negative.false)

@@ -7,10 +7,6 @@ use Rattle.text_numbers.proofs.with_digit.Goals as goal
 pub overflow_sub-next : goal.overflow_sub-next
 overflow_sub-next c = omega (arith, digit_low c.args.b c.requires.1)
 
-pub returns-then-next-lt2147483649 : goal.returns-then-next-lt2147483649
+pub returns : goal.returns
 unfolding capped
-returns-then-next-lt2147483649 c = omega arith
-
-pub returns-else-next-lt2147483649 : goal.returns-else-next-lt2147483649
-unfolding capped
-returns-else-next-lt2147483649 c = omega arith
+returns c = omega arith

@@ -1,24 +1,15 @@
 -- `text_scan::operand` meets its contract.
-use mathlib.Core.Path.{subst}
-use Rattle.text_terms.specs.Term.{TermAt}
-use Rattle.text_scan.proofs.Turning.{turn_term}
+use Rattle.text_syntax.specs.Lexing.{operand_behind}
+use Rattle.text_scan.proofs.Turning.{turn_term, turn_open, turn-none}
 use Rattle.text_scan.proofs.operand.Goals as goal
 
-pub read_term-requires : goal.read_term-requires
-read_term-requires c = (c.requires.0, c.requires.1.inside)
+pub returns-in-Some : goal.returns-in-Some
+returns-in-Some c = turn_term _ _ c.requires.1 c.requires.2 c.in-Some.ensures c.with_term.ensures
 
-pub opened-requires : goal.opened-requires
-opened-requires c = (
-  c.requires.1,
-  c.requires.2,
-  subst (TermAt _ _ _) c.in-NoForm.is
-      c.read_term.ensures,
-)
+pub returns-in_err-end : goal.returns-in_err-end
+unfolding operand_behind
+returns-in_err-end c = rw c.from_residual.ensures (turn-none _ _ c.requires.1 c.requires.2 c.in_default.ensures c.in_err-end.ensures)
 
-pub returns-in-Parts : goal.returns-in-Parts
-returns-in-Parts c =
-    turn_term _ _ c.requires.1 c.requires.2
-    (subst (TermAt _ _ _) c.in-Parts.is c.read_term.ensures) c.with_term.ensures
-
-pub returns-in-NoForm : goal.returns-in-NoForm
-returns-in-NoForm c = c.opened.ensures
+pub returns : goal.returns
+unfolding operand_behind
+returns c = turn_open _ _ c.requires.1 c.requires.2 c.in_ok-end.ensures

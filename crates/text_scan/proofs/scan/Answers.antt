@@ -1,29 +1,34 @@
 -- `text_scan::scan` meets its contract.
-use mathlib.Core.Path.{subst}
-use native.Mathlib.Omega.{arith}
-use Rattle.text_scan.specs.Scan.{Turns, TurnAt}
-use Rattle.text_scan.proofs.Turning.{scanning_start, scanning_more, scanning_done, scanning_none}
+use Rattle.text_syntax.specs.Lexing.{operand_behind}
+use Rattle.text_scan.proofs.Turning.{turn_operator, turn_end, turn_close, turn_unclosed, scanning_start, scanning_more, scanning_done, scanning_none}
 use Rattle.text_scan.proofs.scan.Goals as goal
 
-pub loop-next-init : goal.loop-next-init
-loop-next-init c = scanning_start _ c.requires.1 c.nothing.ensures
+pub loop-state-init : goal.loop-state-init
+loop-state-init c = scanning_start _ c.requires.1 c.nothing.ensures
 
-pub next_state-requires : goal.next_state-requires
-next_state-requires c = (c.requires.0, c.loop-next.invariant.stands)
+pub returns-in_err-state : goal.returns-in_err-state
+returns-in_err-state c = rw c.from_residual.ensures (scanning_none c.loop-state.invariant c.in_err-state.ensures)
 
-pub loop-next-smaller : goal.loop-next-smaller
-loop-next-smaller c =
-    let turns : (let a = c.args in Turns a.sizes a.line.now c.loop-next.state c.in-Next.next) = subst (TurnAt _ _ _) c.in-Next.is c.next_state.ensures in
-    omega (arith, turns.onward, turns.stands.inside)
+pub returns-then-state-eq0 : goal.returns-then-state-eq0
+returns-then-state-eq0 c =
+    let w = c.loop-state.invariant in
+    scanning_done w (turn_end _ _ w.stands c.if-state.false c.in_default.ensures c.if-state-eq0.true)
 
-pub loop-next-preserved : goal.loop-next-preserved
-loop-next-preserved c =
-    let turns : (let a = c.args in Turns a.sizes a.line.now c.loop-next.state c.in-Next.next) = subst (TurnAt _ _ _) c.in-Next.is c.next_state.ensures in
-    scanning_more c.loop-next.invariant turns
+pub returns-in_err-end : goal.returns-in_err-end
+unfolding operand_behind
+returns-in_err-end c =
+    let w = c.loop-state.invariant in
+    rw c.from_residual-in_err-end.ensures
+    (scanning_none w (turn_unclosed _ _ w.stands c.if-state.false c.in_default.ensures c.if-state-eq0.false c.in_err-end.ensures))
 
-pub returns-in-Done : goal.returns-in-Done
-returns-in-Done c = scanning_done c.loop-next.invariant
-    (subst (TurnAt _ _ _) c.in-Done.is c.next_state.ensures)
+pub loop-state-preserved-in-Some : goal.loop-state-preserved-in-Some
+loop-state-preserved-in-Some c =
+    let w = c.loop-state.invariant in
+    scanning_more w (turn_operator _ _ w.stands c.if-state.false c.in-Some.ensures c.with_operator.ensures)
 
-pub returns-in-NoForm : goal.returns-in-NoForm
-returns-in-NoForm c = scanning_none c.loop-next.invariant (subst (TurnAt _ _ _) c.in-NoForm.is c.next_state.ensures)
+pub loop-state-preserved : goal.loop-state-preserved
+unfolding operand_behind
+loop-state-preserved c =
+    let w = c.loop-state.invariant in
+    rw c.if-state.false
+    (scanning_more w (turn_close _ _ w.stands c.if-state.false c.in_default.ensures c.if-state-eq0.false c.in_ok-end.ensures))

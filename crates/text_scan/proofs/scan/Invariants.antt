@@ -4,8 +4,8 @@ use lib.ListN.{length}
 use Rattle.text_scan.proofs.Turning.{Scanning}
 use Rattle.text_scan.proofs.scan.Given as goal
 
-abbrev pub invariant-loop-next : goal.invariant-loop-next
-invariant-loop-next l = Scanning l.sizes l.line l.at l.state
+abbrev pub invariant-loop-state : goal.invariant-loop-state
+invariant-loop-state l = Scanning l.sizes l.line l.at l.state
 
-abbrev pub decreases-loop-next : goal.decreases-loop-next
-decreases-loop-next l = length l.line - l.state.at
+abbrev pub decreases-loop-state : goal.decreases-loop-state
+decreases-loop-state l = length l.line - l.state.at

@@ -1,5 +1,5 @@
 -- `text_signs::sign_at` meets its contract.
-use mathlib.Core.Path.{ap, ◌∙◌}
+use mathlib.Core.Path.{refl, ap, ◌∙◌}
 use mathlib.Core.List.{◌++◌}
 use borrow.Author.Rules.{rules}
 use lib.ListN.{get_or}
@@ -16,43 +16,43 @@ use Rattle.text_signs.proofs.sign_at.Goals as goal
 
 pub returns-in-117 : goal.returns-in-117
 unfolding fixed_token words signs spelled opens_with sized_first token_code
-returns-in-117 c = table_at _ _ 117 c.requires c.in-117.is (words ++ signs) c.sized.ensures
+returns-in-117 c = table_at _ _ 117 c.requires c.in-117.is (words ++ signs) refl
 
 pub returns-in-91 : goal.returns-in-91
 unfolding fixed_token words signs spelled opens_with sized_first token_code
-returns-in-91 c = table_at _ _ 91 c.requires c.in-91.is (words ++ signs) c.sized-in-91.ensures
+returns-in-91 c = table_at _ _ 91 c.requires c.in-91.is (words ++ signs) refl
 
 pub returns-in-93 : goal.returns-in-93
 unfolding fixed_token words signs spelled opens_with sized_first token_code
-returns-in-93 c = table_at _ _ 93 c.requires c.in-93.is (words ++ signs) c.sized-in-93.ensures
+returns-in-93 c = table_at _ _ 93 c.requires c.in-93.is (words ++ signs) refl
 
 pub returns-in-40 : goal.returns-in-40
 unfolding fixed_token words signs spelled opens_with sized_first token_code
-returns-in-40 c = table_at _ _ 40 c.requires c.in-40.is (words ++ signs) c.sized-in-40.ensures
+returns-in-40 c = table_at _ _ 40 c.requires c.in-40.is (words ++ signs) refl
 
 pub returns-in-41 : goal.returns-in-41
 unfolding fixed_token words signs spelled opens_with sized_first token_code
-returns-in-41 c = table_at _ _ 41 c.requires c.in-41.is (words ++ signs) c.sized-in-41.ensures
+returns-in-41 c = table_at _ _ 41 c.requires c.in-41.is (words ++ signs) refl
 
 pub returns-in-45 : goal.returns-in-45
 unfolding fixed_token words signs spelled opens_with sized_first token_code
-returns-in-45 c = table_at _ _ 45 c.requires c.in-45.is (words ++ signs) c.sized-in-45.ensures
+returns-in-45 c = table_at _ _ 45 c.requires c.in-45.is (words ++ signs) refl
 
 pub returns-in-58 : goal.returns-in-58
 unfolding fixed_token words signs spelled opens_with sized_first token_code
-returns-in-58 c = table_at _ _ 58 c.requires c.in-58.is (words ++ signs) (longer_is _ (first becomes _) (first colon _) c.longer.ensures c.sized-in-58.ensures)
+returns-in-58 c = table_at _ _ 58 c.requires c.in-58.is (words ++ signs) (longer_is _ (first becomes _) (first colon _) c.longer.ensures refl)
 
 pub returns-in-43 : goal.returns-in-43
 unfolding fixed_token words signs spelled opens_with sized_first token_code
-returns-in-43 c = table_at _ _ 43 c.requires c.in-43.is (words ++ signs) (longer_is _ (first (write Total) _) (first (operator Plus) _) c.longer-in-43.ensures c.sized-in-43.ensures)
+returns-in-43 c = table_at _ _ 43 c.requires c.in-43.is (words ++ signs) (longer_is _ (first (write Total) _) (first (operator Plus) _) c.longer-in-43.ensures refl)
 
 pub returns-in-61 : goal.returns-in-61
 unfolding fixed_token words signs spelled opens_with sized_first token_code
-returns-in-61 c = table_at _ _ 61 c.requires c.in-61.is (words ++ signs) (longer_is _ (first (comparison Equal) _) none c.longer-in-61.ensures c.sized-in-61.ensures)
+returns-in-61 c = table_at _ _ 61 c.requires c.in-61.is (words ++ signs) (longer_is _ (first (comparison Equal) _) none c.longer-in-61.ensures refl)
 
 pub returns-in-33 : goal.returns-in-33
 unfolding fixed_token words signs spelled opens_with sized_first token_code
-returns-in-33 c = table_at _ _ 33 c.requires c.in-33.is (words ++ signs) (longer_is _ (first (comparison Unequal) _) none c.longer-in-33.ensures c.sized-in-33.ensures)
+returns-in-33 c = table_at _ _ 33 c.requires c.in-33.is (words ++ signs) (longer_is _ (first (comparison Unequal) _) none c.longer-in-33.ensures refl)
 
 pub returns-in-60 : goal.returns-in-60
 unfolding fixed_token words signs spelled opens_with sized_first token_code

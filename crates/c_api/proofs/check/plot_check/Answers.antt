@@ -6,15 +6,13 @@ use Rattle.op_check.proofs.Checks.{answered-refused, answered-program}
 use Rattle.c_api.specs.Answer.{check_numbers}
 use Rattle.c_api.proofs.check.plot_check.Goals as goal
 
-pub returns-then-checked-ne0 : goal.returns-then-checked-ne0
+pub returns-in-Ok : goal.returns-in-Ok
 unfolding check_numbers
-returns-then-checked-ne0 c =
-    rw (answered-refused c.check-checked.ensures.answers c.if-checked-ne0.true) (record { result_is = refl; answer_is = refl })
+returns-in-Ok c =
+    let a = c.in-Ok.ensures.answers in
+    rw (answered-program a)
+    (record { result_is = refl; answer_is = ap₂ (λ (n m : ℕ). 0 ∷ 0 ∷ 0 ∷ 0 ∷ 0 ∷ 0 ∷ n ∷ m ∷ []) a.complete.steps_are a.complete.lines_are })
 
-pub returns : goal.returns
+pub returns-in-Err : goal.returns-in-Err
 unfolding check_numbers
-returns c =
-    let a = c.check-checked.ensures.answers in
-    let p = a.complete c.if-checked-ne0.false in
-    rw (answered-program a c.if-checked-ne0.false)
-    (record { result_is = refl; answer_is = ap₂ (λ (n m : ℕ). 0 ∷ 0 ∷ 0 ∷ 0 ∷ 0 ∷ 0 ∷ n ∷ m ∷ []) p.steps_are p.lines_are })
+returns-in-Err c = rw (answered-refused c.in-Err.ensures.answers) (record { result_is = c.number.ensures; answer_is = refl })

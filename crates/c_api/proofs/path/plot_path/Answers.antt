@@ -6,15 +6,15 @@ use Rattle.chain_path.proofs.Walking.{holds_count}
 use Rattle.op_path.proofs.Outcomes.{answered-refused, answered-listed}
 use Rattle.c_api.proofs.path.plot_path.Goals as goal
 
-pub returns-then-found-ne0 : goal.returns-then-found-ne0
-returns-then-found-ne0 c =
-    rw (answered-refused c.reading_path-found.ensures c.if-found-ne0.true)
-    (record { result_is = refl; answer_is = refl; arrays_stay = refl })
+pub returns-in-Err : goal.returns-in-Err
+returns-in-Err c =
+    rw (answered-refused c.in-Err.ensures)
+    (record { result_is = c.number.ensures; answer_is = ap (λ (n : ℕ). n ∷ 0 ∷ 0 ∷ 0 ∷ 0 ∷ 0 ∷ 0 ∷ 0 ∷ []) c.line.ensures; arrays_stay = refl })
 
-pub returns : goal.returns
-returns c =
-    let a = c.reading_path-found.ensures in
-    rw (answered-listed a c.if-found-ne0.false)
+pub returns-in-Ok : goal.returns-in-Ok
+returns-in-Ok c =
+    let a = c.in-Ok.ensures in
+    rw (answered-listed a)
     (record {
       result_is = refl;
       answer_is = ap (λ (n : ℕ). 0 ∷ 0 ∷ 0 ∷ 0 ∷ 0 ∷ 0 ∷ n ∷ 0 ∷ []) (sym (holds_count a.holds));

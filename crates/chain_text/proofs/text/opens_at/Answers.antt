@@ -8,11 +8,8 @@ use lib.ListN.{get_or}
 use Rattle.chain_text.proofs.Forms.{opens-within, opens-past}
 use Rattle.chain_text.proofs.text.opens_at.Goals as goal
 
-pub returns-then-text-lt2 : goal.returns-then-text-lt2
-returns-then-text-lt2 c = let a = c.args in sym (opens-past a.text.now a.at (omega arith))
-
-pub returns-then-text-at : goal.returns-then-text-at
-returns-then-text-at c = let a = c.args in sym (opens-past a.text.now a.at (omega arith))
+pub returns-then-saturating_sub-at : goal.returns-then-saturating_sub-at
+returns-then-saturating_sub-at c = let a = c.args in sym (opens-past a.text.now a.at (omega arith))
 
 pub returns : goal.returns
 returns c =

@@ -1,5 +1,5 @@
 -- `plan_keys::word::split_at` meets its contract: it calls itself on the chain behind the first hop, for one hop less.
-use Prim.Native.Nat.{ℕ, suc, ◌-◌}
+use Prim.Native.Nat.{suc, ◌-◌}
 use mathlib.Core.Path.{◌≡◌, refl, ap, ◌∙◌}
 use native.Mathlib.Omega.{arith}
 use lib.ListN.{length, length-take}

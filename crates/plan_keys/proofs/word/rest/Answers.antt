@@ -1,6 +1,5 @@
 -- `plan_keys::word::rest` meets its contract. The loop's invariant: what is left is behind as many hops as turns are done.
 use Rattle.plan_keys.proofs.Words.{tail-rest}
-use Prim.Native.Nat.{◌-◌}
 use mathlib.Core.Path.{◌≡◌, refl}
 use native.Mathlib.Omega.{arith}
 use Rattle.plan_keys.proofs.word.rest.Goals as goal

@@ -1,6 +1,7 @@
 -- `step_effects::sent::message_of` meets its contract: without a target or an amount nothing is sent.
 use mathlib.Core.Path.{◌≡◌, refl, sym, ◌∙◌}
 use mathlib.Core.Bool.{false}
+use Rattle.std.specs.Prelude.{None, Some, Ok, Err}
 use Prim.Native.Nat.{ℕ, ◌<◌}
 use lib.Signed.{mag}
 use Rattle.program.specs.declared.rule.Rule.{Rule}
@@ -28,35 +29,44 @@ unfolding messages_in
 returns-in_default c = (tt, λ read agrees in_range. send_local _ _ _ (local _ c.in_default.not-Remote))
 
 pub found_at-requires : goal.found_at-requires
-found_at-requires c =
-    let p = c.requires in
-    (p.0, p.1, (rw c.in-Remote.is at p.2.rule).0)
+found_at-requires c = (c.requires.0, (rw c.in-Remote.is at c.requires.1.rule).0)
 
-pub returns-in_default-found_at : goal.returns-in_default-found_at
+pub returns-in_err-to : goal.returns-in_err-to
 unfolding messages_in
-returns-in_default-found_at c = (
-  tt,
-  λ read agrees in_range.
-      sent_nowhere _ _ _ c.in-Remote.is (sym (c.found_at.ensures ∙ (rw c.in-Remote.is at agrees.1).0) ∙ c.in_default-found_at.is),
-)
+returns-in_err-to c =
+    let none : c.found_at.result ≡ None = search rules in
+    let left : c.from_residual.result ≡ None = search rules in
+    rw left
+    (tt, λ read agrees in_range. sent_nowhere _ _ _ c.in-Remote.is (sym (c.found_at.ensures ∙ (rw c.in-Remote.is at agrees.1).0) ∙ none))
 
 pub returns-in_default-value : goal.returns-in_default-value
 unfolding messages_in
 returns-in_default-value c =
-    (tt, λ read agrees in_range. sent-none _ _ _ c.in-Remote.is (c.effect-value.ensures read agrees) in_range c.in_default-value.not-Value)
+    let none : c.effect-value.result ≡ Ok None = search rules in
+    (tt, λ read agrees in_range. sent-none _ _ _ c.in-Remote.is (c.effect-value.ensures read agrees) in_range (λ z e. cc))
+
+pub returns-in_default-value-2 : goal.returns-in_default-value-2
+unfolding messages_in
+returns-in_default-value-2 c =
+    let out : c.effect-value.result ≡ Err (record {}) = search rules in
+    (tt, λ read agrees in_range. sent-none _ _ _ c.in-Remote.is (c.effect-value.ensures read agrees) in_range (λ z e. cc))
 
 pub index-requires : goal.index-requires
-index-requires c = named (sym c.found_at.ensures ∙ c.in-Value.is) (search rules) (rw c.in-Remote.is at c.requires.3)
+index-requires c =
+    let found : c.found_at.result ≡ Some c.in_ok-to.to = search rules in
+    named (sym c.found_at.ensures ∙ found) (search rules) (rw c.in-Remote.is at c.requires.2)
 
 pub returns : goal.returns
 unfolding sent_to messages_in target_in target_field
 returns c =
     let is = c.in-Remote.is in
-    let fits : mag c.in-Value.to < 2147483648 = search rules in
-    let found = sym c.found_at.ensures ∙ c.in-Value.is in (
+    let fits : mag c.in_ok-to.to < 2147483648 = search rules in
+    let told : c.found_at.result ≡ Some c.in_ok-to.to = search rules in
+    let found = sym c.found_at.ensures ∙ told in
+    let value : c.effect-value.result ≡ Ok (Some c.in-Ok-Some.amount) = search rules in (
       (rw is, λ n w. named-within found fits c.index.ensures n (rw is at w)),
       λ read agrees in_range.
           let to = sym (rw is at agrees.1).0 ∙ found in
-          let (amount, sent) = sent-one _ _ _ is (c.effect-value.ensures read agrees) in_range c.in-Value-value.is in
+          let (amount, sent) = sent-one _ _ _ is (c.effect-value.ensures read agrees) in_range value in
           rw c.index.ensures (both_values _ _ to amount fits (search rules)) ∙ sent,
     )

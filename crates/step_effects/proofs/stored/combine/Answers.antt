@@ -6,5 +6,4 @@ use Rattle.step_effects.proofs.stored.combine.Goals as goal
 
 pub returns : goal.returns
 returns c read agrees =
-    let b = c in
-    c.join.ensures ∙ ap₂ (joined _) (b.term_value-a.ensures read agrees.0) (b.term_value-b.ensures read agrees.1) ∙ sym (operation_joined _ _ _ _)
+    c.join.ensures ∙ ap₂ (joined _) (c.term_value-a.ensures read agrees.0) (c.term_value-b.ensures read agrees.1) ∙ sym (operation_joined _ _ _ _)

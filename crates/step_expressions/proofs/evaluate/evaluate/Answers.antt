@@ -10,7 +10,7 @@ use Rattle.step_expressions.proofs.evaluate.evaluate.Goals as goal
 pub term_at-value-requires : goal.term_at-value-requires
 term_at-value-requires c =
     let p = c.requires in
-    (p.0, p.1, p.2.reaches _ (omega arith) p.2.some)
+    (p.0, p.1.reaches _ (omega arith) p.1.some)
 
 pub overflow_sub-count : goal.overflow_sub-count
 overflow_sub-count c =
@@ -28,10 +28,10 @@ bounds-waiting-count-else-kind-gt1 c =
 pub term_at-value-requires-else-kind-gt1 : goal.term_at-value-requires-else-kind-gt1
 term_at-value-requires-else-kind-gt1 c =
     let p = c.requires in
-    (p.0, p.1, p.2.reaches _ (omega (arith, c.loop-at.invariant.beyond)) c.loop-at-test.true)
+    (p.0, p.1.reaches _ (omega (arith, c.loop-at.invariant.beyond)) c.loop-at-test.true)
 
 pub loop-at-init : goal.loop-at-init
-loop-at-init c = worked_first _ _ _ _ _ _ _ _ c.requires.2 refl (read_back _ c.term_at-value.type_inv ∙ c.term_at-value.ensures)
+loop-at-init c = worked_first _ _ _ _ _ _ _ _ c.requires.1 refl (read_back _ c.term_at-value.type_inv ∙ c.term_at-value.ensures)
 
 pub loop-at-preserved : goal.loop-at-preserved
 loop-at-preserved c =

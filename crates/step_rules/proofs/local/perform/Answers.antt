@@ -10,16 +10,11 @@ use borrow.Author.Rules.{rules}
 use Rattle.step_rules.proofs.local.perform.Goals as goal
 
 pub store-requires : goal.store-requires
-store-requires c =
-    let w = c in
-    let s = w in
-    (s.requires.0, s.requires.1, subst (WritesField s.args.sizes) w.in-Store.is s.requires.2, s.requires.3)
+store-requires c = (c.requires.0, c.requires.1, subst (WritesField c.args.sizes) c.in-Store.is c.requires.2, c.requires.3)
 
 pub column-requires : goal.column-requires
 column-requires c =
-    let w = c in
-    let s = w in
-    (s.requires.0.references≤, field_below s.args.sizes s.requires.0 _ (subst (WritesField s.args.sizes) w.in-OutOfRange.is s.requires.2))
+    (c.requires.0.references≤, field_below c.args.sizes c.requires.0 _ (subst (WritesField c.args.sizes) c.in-OutOfRange.is c.requires.2))
 
 pub returns-in-Nothing : goal.returns-in-Nothing
 returns-in-Nothing c read r e field = rule_idles _ _ _ _ _ _ _ (e ∙ c.in-Nothing.is)

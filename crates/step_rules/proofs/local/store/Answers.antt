@@ -11,15 +11,10 @@ use Rattle.step_rules.proofs.local.store.Goals as goal
 
 pub put-requires : goal.put-requires
 put-requires c =
-    let p = c in
-    let s = p in
-    let b = cell_index-below s.args.sizes s.args.u _ s.requires.1 (column-below s.args.sizes s.requires.0 _ s.requires.2) in
-    (omega (arith, p.place-place.ensures, b, s.requires.3.values_room), omega (arith, p.place-place.ensures, b, s.requires.3.marks_room))
+    let b = cell_index-below c.args.sizes c.args.u _ c.requires.1 (column-below c.args.sizes c.requires.0 _ c.requires.2) in
+    (omega (arith, c.place-place.ensures, b, c.requires.3.values_room), omega (arith, c.place-place.ensures, b, c.requires.3.marks_room))
 
 pub returns : goal.returns
 returns c =
-    let p = c in
-    let d = p in
-    let w = d in
-    let z = to_z-of_z {w = w64} (record { sfits = d.widen.type_inv }) ∙ d.widen.ensures ∙ to_z-of_z {w = w32} w.ranges.value in
-    rw (← w.place-place.ensures) (put-worked _ (p.put.ensures.0 ∙ ap (set w.args.values.now w.place-place.result) z) p.put.ensures.1)
+    let z = to_z-of_z {w = w64} (record { sfits = c.widen.type_inv }) ∙ c.widen.ensures ∙ to_z-of_z {w = w32} c.ranges.value in
+    rw (← c.place-place.ensures) (put-worked _ (c.put.ensures.0 ∙ ap (set c.args.values.now c.place-place.result) z) c.put.ensures.1)

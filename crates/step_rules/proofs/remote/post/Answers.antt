@@ -1,4 +1,5 @@
 -- `step_rules::remote::post` meets its contract: a message, where there is one, is delivered.
+use Rattle.std.specs.Prelude.{Some}
 use mathlib.Core.Path.{subst}
 use Prim.Native.Nat.{◌<◌}
 use native.Mathlib.Omega.{arith}
@@ -9,7 +10,6 @@ use Rattle.register.specs.File.{cell_count, cell_index}
 use Rattle.chain.specs.Word.{column}
 use Rattle.machine.specs.declared.message.Message.{Message}
 use Rattle.step_effects.specs.Answers.{messages_in}
-use Rattle.step_effects.specs.declared.sent.Sent.TheVariants.{One}
 use Rattle.step_rules.specs.Delivered.{Addresses}
 use Rattle.step_rules.proofs.Remotes.{message-below, delivers_none, delivers_one}
 use borrow.Author.Rules.{rules}
@@ -17,37 +17,27 @@ use Rattle.step_rules.proofs.remote.post.Goals as goal
 
 pub place-place-requires : goal.place-place-requires
 place-place-requires c =
-    let message : Message = c.in-One.message in
-    let addresses : Addresses c.args.sizes (One message) = subst (Addresses c.args.sizes) c.in-One.is c.requires.limits.1 in
-    let m = c in
-    let s = c in
-    (s.requires.limits.0, (addresses).0, (addresses).1, s.requires.limits.2.base≤)
+    let addresses : Addresses c.args.sizes (Some c.in-Some.message) = subst (Addresses c.args.sizes) c.in-Some.is c.requires.limits.1 in
+    (c.requires.limits.0, addresses.0, addresses.1, c.requires.limits.2.base≤)
 
 pub deliver-requires : goal.deliver-requires
 deliver-requires c =
-    let message : Message = c.in-One.message in
-    let addresses : Addresses c.args.sizes (One message) = subst (Addresses c.args.sizes) c.in-One.is c.requires.limits.1 in
+    let message : Message = c.in-Some.message in
+    let addresses : Addresses c.args.sizes (Some message) = subst (Addresses c.args.sizes) c.in-Some.is c.requires.limits.1 in
     let below : cell_index c.args.sizes message.target (column c.args.sizes message.field) < cell_count c.args.sizes = message-below c.args.sizes message c.requires.limits.0 addresses in
-    let k = c in
-    let m = k in
-    let s = c in
-    let e = k.place-place.ensures in
-    let r = s.requires.limits.2 in
-    (omega (arith, e, below, r.values_room), omega (arith, e, below, r.marks_room), rw e (s.requires.small.0.below _ (below)))
+    let e = c.place-place.ensures in
+    let r = c.requires.limits.2 in
+    (omega (arith, e, below, r.values_room), omega (arith, e, below, r.marks_room), rw e (c.requires.small.0.below _ below))
 
-pub returns-in-Nothing : goal.returns-in-Nothing
+pub returns-in_default : goal.returns-in_default
 unfolding messages_in
-returns-in-Nothing c = rw c.in-Nothing.is delivers_none
+returns-in_default c = rw c.in_default.is delivers_none
 
-pub returns-in-One : goal.returns-in-One
+pub returns : goal.returns
 unfolding messages_in
-returns-in-One c =
-    let message : Message = c.in-One.message in
-    let addresses : Addresses c.args.sizes (One message) = subst (Addresses c.args.sizes) c.in-One.is c.requires.limits.1 in
+returns c =
+    let message : Message = c.in-Some.message in
+    let addresses : Addresses c.args.sizes (Some message) = subst (Addresses c.args.sizes) c.in-Some.is c.requires.limits.1 in
     let below : cell_index c.args.sizes message.target (column c.args.sizes message.field) < cell_count c.args.sizes = message-below c.args.sizes message c.requires.limits.0 addresses in
-    let d = c in
-    let k = d in
-    let m = k in
-    let fits : SFits w32 (message).amount = search rules in
-    rw m.in-One.is
-    (delivers_one _ _ (below) c.requires.limits.2 fits k.place-place.ensures (to_z-of_z {w = w32} fits) d.deliver.ensures)
+    let fits : SFits w32 message.amount = search rules in
+    rw c.in-Some.is (delivers_one _ _ below c.requires.limits.2 fits c.place-place.ensures (to_z-of_z {w = w32} fits) c.deliver.ensures)

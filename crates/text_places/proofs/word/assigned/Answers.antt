@@ -1,50 +1,25 @@
 -- `text_places::word::assigned` meets its contract.
-use mathlib.Core.Path.{subst}
-use mathlib.Core.Bool.{false}
-use native.Mathlib.Omega.{arith}
+use mathlib.Core.Path.{subst, sym}
 use Rattle.text_syntax.specs.Lexing.{operand_behind}
-use Rattle.text_syntax.specs.Token.{own, openSquare, closeSquare}
-use Rattle.text_places.specs.Place.{Passes}
+use Rattle.text_places.specs.Word.{PassesAssigned}
 use Rattle.text_places.proofs.Words.{not_opened, not_own, not-closed, assigns}
 use Rattle.text_places.proofs.word.assigned.Goals as goal
 
-pub returns-in_default : goal.returns-in_default
+pub returns-in_err-inner : goal.returns-in_err-inner
 unfolding operand_behind
-returns-in_default c = not_opened (subst (Passes false false openSquare _ _) c.in_default.is c.mark.ensures)
+returns-in_err-inner c =
+    subst (PassesAssigned _ _) (sym c.from_residual.ensures) (not_opened c.in_err-inner.ensures)
 
-pub mark-requires-2 : goal.mark-requires-2
+pub returns-in_err-behind : goal.returns-in_err-behind
 unfolding operand_behind
-mark-requires-2 c = let p = subst (Passes false false openSquare _ _) c.in-At.is c.mark.ensures in (p.behind.inside, omega arith, omega arith)
+returns-in_err-behind c =
+    subst (PassesAssigned _ _) (sym c.from_residual-in_err-behind.ensures) (not_own c.in_ok-inner.ensures c.in_err-behind.ensures)
 
-pub returns-in_default-mark : goal.returns-in_default-mark
+pub returns-in_err-end : goal.returns-in_err-end
 unfolding operand_behind
-returns-in_default-mark c =
-    not_own
-    (subst (Passes false false openSquare _ _) c.in-At.is c.mark.ensures)
-    (subst (Passes false false own _ _) c.in_default-mark.is c.mark-2.ensures)
-
-pub mark-requires-3 : goal.mark-requires-3
-unfolding operand_behind
-mark-requires-3 c = let p = subst (Passes false false own _ _) c.in-At-mark.is c.mark-2.ensures in (p.behind.inside, omega arith, omega arith)
-
-pub returns-in_default-mark-2 : goal.returns-in_default-mark-2
-unfolding operand_behind
-returns-in_default-mark-2 c =
-    not-closed
-    (subst (Passes false false openSquare _ _) c.in-At.is c.mark.ensures)
-    (subst (Passes false false own _ _) c.in-At-mark.is c.mark-2.ensures)
-    (subst (Passes false false closeSquare _ _) c.in_default-mark-2.is c.mark-3.ensures)
-
-pub mark-requires-4 : goal.mark-requires-4
-unfolding operand_behind
-mark-requires-4 c = let p = subst (Passes false false closeSquare _ _) c.in-At-mark-2.is c.mark-3.ensures in (p.behind.inside, omega arith, omega arith)
+returns-in_err-end c =
+    subst (PassesAssigned _ _) (sym c.from_residual-in_err-end.ensures) (not-closed c.in_ok-inner.ensures c.in_ok-behind.ensures c.in_err-end.ensures)
 
 pub returns : goal.returns
 unfolding operand_behind
-returns c =
-    assigns
-    (subst (Passes false false openSquare _ _) c.in-At.is c.mark.ensures)
-    (subst (Passes false false own _ _) c.in-At-mark.is c.mark-2.ensures)
-    (subst (Passes false false closeSquare _ _) c.in-At-mark-2.is c.mark-3.ensures)
-    c.mark-4.result
-    c.mark-4.ensures
+returns c = assigns c.in_ok-inner.ensures c.in_ok-behind.ensures c.in_ok-end.ensures c.mark-4.result c.mark-4.ensures

@@ -1,41 +1,28 @@
 -- `text_terms::chains::first_link` meets its contract.
-use mathlib.Core.Path.{subst}
 use mathlib.Core.Bool.{false}
-use native.Mathlib.Omega.{arith}
 use Rattle.text_syntax.specs.Lexing.{operand_behind}
-use Rattle.text_syntax.specs.Token.{own, openSquare}
-use Rattle.text_places.specs.Place.{Passes}
-use Rattle.text_places.specs.Word.{PassesLetter}
 use Rattle.text_terms.proofs.ChainForms.{link_letter, link_none, link_other}
 use Rattle.text_terms.proofs.chains.first_link.Goals as goal
 
 pub mark-requires : goal.mark-requires
-mark-requires c =
-    let p = subst (PassesLetter false _ _) c.in-Letter.is (c.letter.ensures false) in
-    (p.passing.behind.inside, omega arith, omega arith)
+mark-requires c = (c.in-Some.ensures false).passing.behind.inside
 
-pub returns-in-At : goal.returns-in-At
+pub returns-in_err-end : goal.returns-in_err-end
 unfolding operand_behind
-returns-in-At c =
-    let s = c in
-    let p = subst (PassesLetter _ _ _) s.in-Letter.is (s.letter.ensures _) in
-    link_letter _ _ _ _ p.passing.text p.passing.behind
-    (subst (Passes false false openSquare _ _) c.in-At.is c.mark.ensures)
+returns-in_err-end c =
+    let p = c.in-Some.ensures c.args.due in
+    rw c.from_residual.ensures (link_none _ _ _ _ p.passing.text c.in_err-end.ensures)
 
-pub returns-in-Nothing-mark : goal.returns-in-Nothing-mark
+pub returns-in-Some : goal.returns-in-Some
 unfolding operand_behind
-returns-in-Nothing-mark c =
-    let s = c in
-    let p = subst (PassesLetter _ _ _) s.in-Letter.is (s.letter.ensures _) in
-    link_none _ _ _ _ p.passing.text (subst (Passes false false openSquare _ _) c.in-Nothing-mark.is c.mark.ensures)
+returns-in-Some c =
+    let p = c.in-Some.ensures c.args.due in
+    link_letter _ _ _ _ p.passing.text p.passing.behind c.in_ok-end.ensures
 
-pub returns-in-At-mark : goal.returns-in-At-mark
+pub returns-in_err-end-2 : goal.returns-in_err-end-2
 unfolding operand_behind
-returns-in-At-mark c = subst (Passes _ false own _ _) c.in-At-mark.is c.mark-in-Nothing.ensures
+returns-in_err-end-2 c = rw c.from_residual-in_err-end-2.ensures (link_other (c.in_default.ensures c.args.due) c.in_err-end-2.ensures)
 
-pub returns-in-Nothing-mark-2 : goal.returns-in-Nothing-mark-2
+pub returns : goal.returns
 unfolding operand_behind
-returns-in-Nothing-mark-2 c =
-    let s = c in
-    link_other (subst (PassesLetter _ _ _) s.in-Nothing.is (s.letter.ensures _))
-    (subst (Passes _ false own _ _) c.in-Nothing-mark-2.is c.mark-in-Nothing.ensures)
+returns c = c.in_ok-end-2.ensures

@@ -1,5 +1,5 @@
 -- `text_words::word::word_at` meets its contract.
-use mathlib.Core.Path.{refl, sym, ap, ◌∙◌}
+use mathlib.Core.Path.{refl, sym, ap}
 use borrow.Author.Rules.{rules}
 use lib.ListN.{get_or}
 use Rattle.text_numerals.specs.Word.{opens_with}
@@ -37,4 +37,4 @@ pub returns-in_default : goal.returns-in_default
 unfolding sized_first
 returns-in_default c =
     let none : NoWord (get_or c.args.line.now c.args.at 0) = search rules in
-    table_at _ _ _ c.requires refl words (c.sized.ensures ∙ sym (ap sized_first (no_word _ _ none)))
+    table_at _ _ _ c.requires refl words (sym (ap sized_first (no_word _ _ none)))
