@@ -44,8 +44,12 @@ fn read_local(
     ensures { ActionAt sizes line.now at (local_form (T.letter letter ∷ tokens_from false line.now at))
         codes.old codes.new count result }
 {
-    let start = word::assigned(line, at)?;
-    let read = expression::read(line, start, sizes, codes, count)?;
+    let Some(start) = word::assigned(line, at) else {
+        return None;
+    };
+    let Some(read) = expression::read(line, start, sizes, codes, count) else {
+        return None;
+    };
     if !word::ends(line, read.end) {
         return None;
     }
@@ -70,10 +74,18 @@ fn read_target(line: &[u8], at: usize, sizes: Sizes) -> Option<Target>
     requires { Limits sizes × (at ≤ length line.now) }
     ensures { TargetAt sizes line.now at result }
 {
-    let (letter, open) = word::letter(line, at)?;
-    let inner = place::mark(line, open, false, Mark::OpenSquare)?;
-    let (parts, close) = term::read_chain(line, inner, false, sizes)?;
-    let end = place::mark(line, close, false, Mark::CloseSquare)?;
+    let Some((letter, open)) = word::letter(line, at) else {
+        return None;
+    };
+    let Some(inner) = place::mark(line, open, false, Mark::OpenSquare) else {
+        return None;
+    };
+    let Some((parts, close)) = term::read_chain(line, inner, false, sizes) else {
+        return None;
+    };
+    let Some(end) = place::mark(line, close, false, Mark::CloseSquare) else {
+        return None;
+    };
     Some(Target { letter, parts, end })
 }
 
@@ -89,8 +101,12 @@ fn read_sent(
         × Roomy codes.old line.now target.end count × (length codes.old ≤ 65536) }
     ensures { SentBehind sizes line.now target codes.old codes.new count result }
 {
-    let (sort, start) = word::write(line, target.end)?;
-    let sent = side::read(line, start, sizes, codes, count)?;
+    let Some((sort, start)) = word::write(line, target.end) else {
+        return None;
+    };
+    let Some(sent) = side::read(line, start, sizes, codes, count) else {
+        return None;
+    };
     if !word::ends(line, sent.end) {
         return None;
     }
@@ -120,7 +136,9 @@ pub fn read(
     match first.token {
         Token::Letter(letter) => read_local(line, first.end, letter, sizes, codes, count),
         Token::Remote => {
-            let target = read_target(line, first.end, sizes)?;
+            let Some(target) = read_target(line, first.end, sizes) else {
+                return None;
+            };
             read_sent(line, target, sizes, codes, count)
         }
         _ => None,

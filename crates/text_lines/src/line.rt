@@ -58,7 +58,9 @@ fn read_loop(line: &[u8], at: usize, sizes: Sizes, count: usize) -> Option<LineP
     requires { Limits sizes × (at ≤ length line.now) }
     ensures { result ≡ loop_read sizes count (tokens_from false line.now at) }
 {
-    let (letter, end) = word::letter(line, at)?;
+    let Some((letter, end)) = word::letter(line, at) else {
+        return None;
+    };
     let field = letters::field_of(letter);
     let named = letters::names_field(sizes, letter);
     word_line(line, end, LineRead::Loop(field, named), count)
@@ -76,7 +78,9 @@ fn read_ruled(
     requires { Limits sizes × (at ≤ length line.now) × Roomy codes.old line.now at count × (length codes.old ≤ 65536) }
     ensures { RuledBehind sizes line.now at test codes.old codes.new count result }
 {
-    let action = action::read(line, at, sizes, codes, count)?;
+    let Some(action) = action::read(line, at, sizes, codes, count) else {
+        return None;
+    };
     let slot = Slot {
         test: test.test,
         rule: action.rule,
@@ -99,8 +103,12 @@ fn read_compared(
     requires { Limits sizes × (at ≤ length line.now) × Roomy codes.old line.now at count × (length codes.old ≤ 65536) }
     ensures { ComparedBehind sizes line.now at first codes.old codes.new count result }
 {
-    let second = side::read(line, at, sizes, codes, count)?;
-    let start = place::mark(line, second.end, false, Mark::Colon)?;
+    let Some(second) = side::read(line, at, sizes, codes, count) else {
+        return None;
+    };
+    let Some(start) = place::mark(line, second.end, false, Mark::Colon) else {
+        return None;
+    };
     let test = TestParts::when(first, second.seen, second.term);
     read_ruled(line, start, test, sizes, codes, second.used)
 }
@@ -117,8 +125,12 @@ fn read_tested(
     ensures { FormAt sizes line.now at (tested_behind (tokens_from true line.now at))
         codes.old codes.new count count result }
 {
-    let side = side::read(line, at, sizes, codes, count)?;
-    let (comparison, start) = word::comparison(line, side.end)?;
+    let Some(side) = side::read(line, at, sizes, codes, count) else {
+        return None;
+    };
+    let Some((comparison, start)) = word::comparison(line, side.end) else {
+        return None;
+    };
     let first = FirstSide {
         seen: side.seen,
         term: side.term,

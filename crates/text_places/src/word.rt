@@ -51,9 +51,15 @@ pub fn assigned(line: &[u8], at: usize) -> Option<usize>
     requires { at ≤ length line.now }
     ensures { PassesAssigned line.now at result }
 {
-    let inner = place::mark(line, at, false, Mark::OpenSquare)?;
-    let behind = place::mark(line, inner, false, Mark::Own)?;
-    let end = place::mark(line, behind, false, Mark::CloseSquare)?;
+    let Some(inner) = place::mark(line, at, false, Mark::OpenSquare) else {
+        return None;
+    };
+    let Some(behind) = place::mark(line, inner, false, Mark::Own) else {
+        return None;
+    };
+    let Some(end) = place::mark(line, behind, false, Mark::CloseSquare) else {
+        return None;
+    };
     place::mark(line, end, false, Mark::Becomes)
 }
 

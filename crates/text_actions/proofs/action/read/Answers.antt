@@ -1,15 +1,13 @@
 -- `text_actions::action::read` meets its contract.
-use mathlib.Core.Path.{◌≡◌, ap, ◌∙◌}
+use mathlib.Core.Path.{ap, subst, ◌∙◌}
 use native.Mathlib.Omega.{arith}
-use Rattle.std.specs.Prelude.{None}
-use Rattle.std.proofs.Common.{rules}
 use Rattle.text_syntax.specs.Token as S
 use Rattle.text_syntax.specs.Kind.{letter_in}
 use Rattle.text_syntax.proofs.TokenKinds.{letter_token}
 use Rattle.text_words.specs.Tokens.{token_code}
 use Rattle.text_lexer.proofs.Lexemes.{lexed}
 use Rattle.text_places.proofs.Places.{passed, goes_on_lem, absent, none_of, letter-capital, behind-behind}
-use Rattle.text_actions.specs.Action.{action_form}
+use Rattle.text_actions.specs.Action.{action_form, TargetAt}
 use Rattle.text_actions.proofs.Forms.{no_action, action_local, action_remote, action_none, target-then}
 use Rattle.text_actions.proofs.Actions.{action_from}
 use Rattle.text_actions.proofs.action.read.Goals as goal
@@ -30,7 +28,7 @@ pub read_sent-requires : goal.read_sent-requires
 read_sent-requires c =
     let p = c.requires in
     let w = lexed _ _ _ c.requires.1 c.next_token-first.ensures in
-    let t = c.in_ok-target-in-Remote.ensures in
+    let t = subst (TargetAt _ _ _) c.in-Some.is c.read_target.ensures in
     (p.0, t.behind.inside, t.capital, omega (arith, (goes_on_lem w _ c.in-Remote.is tt).onward, t.behind.onward, p.2), p.3)
 
 pub returns-in-Letter : goal.returns-in-Letter
@@ -40,21 +38,20 @@ returns-in-Letter c =
     let r = c.read_local in
     action_from _ _ _ _ _ (goes_on_lem w _ e tt) (ap action_form (passed w e) ∙ action_local _ _) r.result r.ensures
 
-pub returns-in_ok-target-in-Remote : goal.returns-in_ok-target-in-Remote
-returns-in_ok-target-in-Remote c =
+pub returns-in-Some : goal.returns-in-Some
+returns-in-Some c =
     let w = lexed _ _ _ c.requires.1 c.next_token-first.ensures in
     let e = c.in-Remote.is in
-    let t = c.in_ok-target-in-Remote.ensures in
+    let t = subst (TargetAt _ _ _) c.in-Some.is c.read_target.ensures in
     let r = c.read_sent in
     action_from _ _ _ _ _ (behind-behind (goes_on_lem w _ e tt) t.behind)
     (ap action_form (passed w e) ∙ action_remote _ ∙ target-then t.form_is) r.result (r.ensures t.inner t.parts_are)
 
-pub returns-in_err-target-in-Remote : goal.returns-in_err-target-in-Remote
-returns-in_err-target-in-Remote c =
-    let none : c.from_residual.result ≡ None = search rules in
+pub returns-in_default-read_target : goal.returns-in_default-read_target
+returns-in_default-read_target c =
     let w = lexed _ _ _ c.requires.1 c.next_token-first.ensures in
-    let t = c.in_err-target-in-Remote.ensures in
-    rw none (no_action (ap action_form (passed w c.in-Remote.is) ∙ action_remote _ ∙ t.none))
+    let t = subst (TargetAt _ _ _) c.in_default-read_target.is c.read_target.ensures in
+    no_action (ap action_form (passed w c.in-Remote.is) ∙ action_remote _ ∙ t.none)
 
 pub returns-in_default : goal.returns-in_default
 unfolding token_code

@@ -1,50 +1,58 @@
 -- `text_actions::action::read_target` meets its contract.
-use mathlib.Core.Path.{◌≡◌}
+use mathlib.Core.Path.{subst}
 use mathlib.Core.Bool.{false}
-use Rattle.std.specs.Prelude.{None}
-use Rattle.std.proofs.Common.{rules}
 use Rattle.text_syntax.specs.Lexing.{operand_behind}
+use Rattle.text_syntax.specs.Token.{openSquare, closeSquare}
+use Rattle.text_places.specs.Place.{Passes}
+use Rattle.text_places.specs.Word.{PassesLetter}
+use Rattle.text_terms.specs.Term.{ChainPartsAt}
 use Rattle.text_places.proofs.Places.{behind-behind}
 use Rattle.text_actions.proofs.Forms.{target_none, target_unopened, target_unread, target_unclosed, target-closed}
 use Rattle.text_actions.proofs.action.read_target.Goals as goal
 
-pub returns-in_err-letter : goal.returns-in_err-letter
-returns-in_err-letter c =
-    let none : c.from_residual.result ≡ None = search rules in
-    rw none (target_none (c.in_err-letter.ensures false))
+pub returns-in_default : goal.returns-in_default
+returns-in_default c = target_none (subst (PassesLetter false _ _) c.in_default.is (c.letter.ensures false))
 
 pub mark-requires : goal.mark-requires
-mark-requires c = let l = c.in_ok-letter.ensures false in l.passing.behind.inside
+mark-requires c = let l = subst (PassesLetter false _ _) c.in-Some.is (c.letter.ensures false) in l.passing.behind.inside
 
-pub returns-in_err-inner : goal.returns-in_err-inner
+pub returns-in_default-mark : goal.returns-in_default-mark
 unfolding operand_behind
-returns-in_err-inner c =
-    let none : c.from_residual-in_err-inner.result ≡ None = search rules in
-    let l = c.in_ok-letter.ensures false in
-    rw none (target_unopened l.passing c.in_err-inner.ensures)
+returns-in_default-mark c =
+    let l = subst (PassesLetter false _ _) c.in-Some.is (c.letter.ensures false) in
+    target_unopened l.passing (subst (Passes false false openSquare _ _) c.in_default-mark.is c.mark.ensures)
 
-pub returns-in_err-parts : goal.returns-in_err-parts
+pub read_chain-requires : goal.read_chain-requires
 unfolding operand_behind
-returns-in_err-parts c =
-    let none : c.from_residual-in_err-parts.result ≡ None = search rules in
-    let l = c.in_ok-letter.ensures false in
-    rw none (target_unread l.passing c.in_ok-inner.ensures c.in_err-parts.ensures)
+read_chain-requires c =
+    let o = subst (Passes false false openSquare _ _) c.in-Some-mark.is c.mark.ensures in
+    (c.requires.0, o.behind.inside)
 
-pub returns-in_err-end : goal.returns-in_err-end
+pub returns-in_default-read_chain : goal.returns-in_default-read_chain
 unfolding operand_behind
-returns-in_err-end c =
-    let none : c.from_residual-in_err-end.result ≡ None = search rules in
-    let l = c.in_ok-letter.ensures false in
-    let w = c.in_ok-parts.ensures in
-    rw none (target_unclosed l.passing c.in_ok-inner.ensures w.form_is c.in_err-end.ensures)
+returns-in_default-read_chain c =
+    let l = subst (PassesLetter false _ _) c.in-Some.is (c.letter.ensures false) in
+    let o = subst (Passes false false openSquare _ _) c.in-Some-mark.is c.mark.ensures in
+    target_unread l.passing o (subst (ChainPartsAt _ false _ _) c.in_default-read_chain.is c.read_chain.ensures)
+
+pub mark-requires-2 : goal.mark-requires-2
+mark-requires-2 c = let w = subst (ChainPartsAt _ false _ _) c.in-Some-read_chain.is c.read_chain.ensures in w.behind.inside
+
+pub returns-in_default-mark-2 : goal.returns-in_default-mark-2
+unfolding operand_behind
+returns-in_default-mark-2 c =
+    let l = subst (PassesLetter false _ _) c.in-Some.is (c.letter.ensures false) in
+    let o = subst (Passes false false openSquare _ _) c.in-Some-mark.is c.mark.ensures in
+    let w = subst (ChainPartsAt _ false _ _) c.in-Some-read_chain.is c.read_chain.ensures in
+    target_unclosed l.passing o w.form_is (subst (Passes false false closeSquare _ _) c.in_default-mark-2.is c.mark-2.ensures)
 
 pub returns : goal.returns
 unfolding operand_behind
 returns c =
-    let l = c.in_ok-letter.ensures false in
-    let o = c.in_ok-inner.ensures in
-    let w = c.in_ok-parts.ensures in
-    let x = c.in_ok-end.ensures in
+    let l = subst (PassesLetter false _ _) c.in-Some.is (c.letter.ensures false) in
+    let o = subst (Passes false false openSquare _ _) c.in-Some-mark.is c.mark.ensures in
+    let w = subst (ChainPartsAt _ false _ _) c.in-Some-read_chain.is c.read_chain.ensures in
+    let x = subst (Passes false false closeSquare _ _) c.in-Some-mark-2.is c.mark-2.ensures in
     record {
       inner = w.letters;
       form_is = target-closed l.passing o w.form_is x;
