@@ -9,12 +9,12 @@ use Rattle.laws.specs.Outcome.{Outcome, done, refused, unless, after}
 use Rattle.register.specs.Cells.{cells_of}
 use Rattle.register.specs.File.{cell_count, values_part, marks_part, cells_of_file}
 use Rattle.register.specs.Load.{load}
-use Rattle.register.specs.Shape.{Limits, Valid}
+use Rattle.register.specs.Shape.{Limits, Parts, Valid}
 use Rattle.register.specs.View.{cells_in}
 use Rattle.register.specs.declared.cells.Cells.{Cells}
 use Rattle.register.specs.declared.Sizes.{Sizes}
 use Rattle.register.proofs.Bounds.{limits}
-use Rattle.register.proofs.Roundtrip.{Bytes, loads, cells-valid}
+use Rattle.register.proofs.Roundtrip.{Bytes, loads, file-is, cells-valid}
 use Rattle.chain.specs.Word.{Passes, value_at_record}
 use Rattle.chain_text.specs.Text.{Form, formed, unformed, form, letters_refusal, word_of}
 use Rattle.op_read.specs.Reading.{word_of_form, at_record, reading_loaded, reading}
@@ -37,10 +37,14 @@ word-passes s (formed ls []) {w} e = go (letters_refusal s ls) refl e
     go zero h e = subst (Passes s) (same-done refl e) (letters_pass s ls h)
     go (suc k) h e = not_done refl e
 
--- a file that loads: its limits and its length, and its cells
+-- a file that loads: its limits and its length, its two parts, and its cells
 module _ (s : Sizes) (file : List ℕ) (e : load file ≡ done s) where
   pub loaded_shape : Limits s × (length file ≡ 12 + 5 * cell_count s)
   loaded_shape = let l = loads s file e in (limits s l.within, l.whole)
+
+  pub loaded-parts : {v m : List ℕ} → Bytes file → v ≡ values_part s file → m ≡ marks_part s file → Parts s v m × Valid s (cells_of v m)
+  unfolding cells_of_file
+  loaded-parts b p q = let l = loads s file e in rw (p, q) (file-is s file b l, cells-valid s file b l)
 
   pub loaded-valid : Bytes file → Valid s (cells_of_file s file)
   unfolding cells_of_file

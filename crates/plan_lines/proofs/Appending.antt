@@ -107,9 +107,9 @@ need_round {xs} {l} g h had =
     ∙ sym (round-none g (⊎_elim (λ q. q) (λ q. absurd (omega (arith, had q))) (lt_or_le (hops g) (line_from g))))))
     (lt_or_le (line_index l g) (length l))
 
--- the answer for the lines with one more: where all 64 places are taken, and where one is left
-pub extended_full : {p : Plan} {l : List Fact} (f : Fact) → HoldsLines p l → p.count ≡ 64 → Extended (l ++ (f ∷ [])) (record { plan = p; full = true })
-extended_full {p} {l} f h e =
+-- the answer for the lines with one more: where all 64 places are taken, whatever the plan then, and where one is left
+pub extended_full : {p q : Plan} {l : List Fact} (f : Fact) → HoldsLines p l → p.count ≡ 64 → Extended (l ++ (f ∷ [])) (record { plan = q; full = true })
+extended_full {p} {q} {l} f h e =
     let k : length (l ++ (f ∷ [])) ≡ 65 = simp length-append (omega (arith, holds_count h)) in
     record { full_is = sym (lt-ltb 64 (length (l ++ (f ∷ []))) (omega (arith, k))); holds = λ n. absurd (omega (arith, k)) }
 

@@ -130,10 +130,10 @@ impl Plan {
         }
     }
 
-    // One line more, where there is room.
+    // One line more, where there is room. Where there is none, no more than 64 lines are counted.
     pub fn append(&mut self, line: Line) -> Result<(), Full>
         requires { HoldsLines self.old (facts self.old) × LineOf (facts self.old) line }
-        ensures { ExtendedTo (facts self.old ++ (fact_of line.key ∷ [])) self.new result }
+        ensures { ExtendedTo (facts self.old ++ (fact_of line.key ∷ [])) self.new result × Keyed self.new.keys self.new.count }
     {
         let i = self.count;
         if i == 64 {

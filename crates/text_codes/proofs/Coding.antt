@@ -1,14 +1,13 @@
 -- Codes that are written behind each other.
 use Rattle.std.specs.Prelude.{Some}
 use Prim.Native.Nat.{ℕ, zero, suc, ◌+◌, ◌-◌, ◌≤◌, ◌<◌}
-use mathlib.Core.Path.{◌≡◌, refl, sym, ap, ap₂, subst, ◌∙◌}
+use mathlib.Core.Path.{◌≡◌, refl, sym, ap, ap₂, ◌∙◌}
 use mathlib.Core.List.{List, [], ◌∷◌, ◌++◌}
 use native.Mathlib.Omega.{arith}
 use lib.ListN.{length, set, length-set, length-append}
 use lib.Seq.{get_or-set_same, get_or-set_other}
-use Rattle.program.specs.declared.rule.Operator.{Operator}
-use Rattle.program.specs.Code.{Code, code_of, code_at, codes_from, codes_in, kind_of}
-use Rattle.program.proofs.Codes.{codes-first, codes-none, codes_agree, operator_coded}
+use Rattle.program.specs.Code.{Code, code_of, code_at, codes_from, codes_in}
+use Rattle.program.proofs.Codes.{codes-first, codes-none, codes_agree}
 use Rattle.text_codes.specs.Codes.{sign_codes, Wrote}
 
 -- codes in two parts
@@ -62,7 +61,7 @@ wrote_code a n c h = record {
   same_length = length-set a n c;
 }
 
--- one operator
-pub wrote_sign : (a : List ℕ) (n : ℕ) (o : Operator) → n < length a → Wrote a (set a n (kind_of o)) n (n + 1) (sign_codes (Some o))
+-- the code of an operator, if there is one
+pub wrote_sign : (a : List ℕ) (n c : ℕ) → n < length a → Wrote a (set a n c) n (n + 1) (sign_codes (Some c))
 unfolding sign_codes
-wrote_sign a n o h = subst (λ (c : Code). Wrote a (set a n (kind_of o)) n (n + 1) (c ∷ [])) (operator_coded o) (wrote_code a n (kind_of o) h)
+wrote_sign a n c h = wrote_code a n c h

@@ -1,6 +1,5 @@
 -- The codes of an expression in the array, as the readers write them.
 use Rattle.std.specs.Prelude.{ℕ, ◌+◌, ◌<◌, ◌≡◌, Option, None, Some, List, [], ◌∷◌, ◌++◌, length}
-use Rattle.program.specs.declared.rule.Operator.{Operator}
 use Rattle.program.specs.Code.{Code, operator, code_of, codes_in, SameBelow}
 use Rattle.text_syntax.specs.Written.{Expression, term, group, operation}
 use Rattle.text_codes.specs.Coded.{term_code}
@@ -11,10 +10,10 @@ written_codes (term x) = code_of (term_code x) ∷ []
 written_codes (group e) = written_codes e
 written_codes (operation o x y) = written_codes x ++ (written_codes y ++ (operator o ∷ []))
 
--- the code of an operator, if there is one
-unfoldable pub sign_codes : Option Operator → List Code
+-- a code that is to be written, if there is one
+unfoldable pub sign_codes : Option ℕ → List Code
 sign_codes None = []
-sign_codes (Some o) = operator o ∷ []
+sign_codes (Some c) = code_of c ∷ []
 
 -- codes were written from..to, and those before are as they were
 pub record Wrote (a b : List ℕ) (from to : ℕ) (cs : List Code) : Type 0 where

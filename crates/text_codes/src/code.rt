@@ -2,9 +2,6 @@
 ghost use Rattle.std.specs.Prelude.{◌<◌, length};
 ghost use Rattle.text_codes.specs.Codes.{sign_codes, Wrote};
 
-use program::code;
-use program::rule::Operator;
-
 // A term as a code, and what 9 to 12 ask of it: that capitals name fields, that the chain goes over references, whether it is
 // one, that it has at most 16 hops, that the number is in range.
 #[derive(Clone, Copy)]
@@ -19,13 +16,13 @@ pub struct TermParts {
 
 // The code of an operator at place `at`, if there is one, and the place behind it.
 #[tactic(auto, using(crate::proofs::Coding::wrote_none), unfolding(crate::specs::Codes::sign_codes))]
-pub fn put_sign(codes: &mut [u64], at: usize, sign: Option<Operator>) -> usize
+pub fn put_sign(codes: &mut [u64], at: usize, sign: Option<u64>) -> usize
     requires { at < length codes.old }
     ensures { Wrote codes.old codes.new at result (sign_codes sign) }
 {
-    let Some(operator) = sign else {
+    let Some(code) = sign else {
         return at;
     };
-    codes[at] = code::of_operator(operator);
+    codes[at] = code;
     at + 1
 }

@@ -1,6 +1,7 @@
 -- What is answered behind an element that operators of a rank join.
-use Rattle.std.specs.Prelude.{ℕ, ◌≤◌, ◌≡◌, Bool, true, false, List, length, Option, Some, None, Result, Ok, Err}
+use Rattle.std.specs.Prelude.{ℕ, ◌≤◌, ◌<◌, ◌≡◌, Bool, true, false, List, length, Option, Some, None, Result, Ok, Err}
 use Rattle.program.specs.declared.rule.Operator.{Operator}
+use Rattle.program.specs.Code.{kind_of}
 use Rattle.text_syntax.specs.Grammar.{is_sum, is_smaller, operator_form}
 use Rattle.text_syntax.specs.Flat.{with_operator}
 use Rattle.text_joins.specs.declared.Gathered.{Gathered}
@@ -38,7 +39,7 @@ pub record Continues (rank : Operator → Bool) (line : List ℕ) (g : Gathered)
   pub ranked : Ranked rank sign line g.end x.gathered.end
   pub seen_is : summary_of x.gathered.seen ≡ with_operator sign (summary_of g.seen)
   pub used_is : x.gathered.used ≡ g.used
-  pub sign_is : x.sign ≡ Some sign
+  pub sign_is : x.sign ≡ Some (kind_of sign)
 
 -- none does
 pub record Finishes (rank : Operator → Bool) (line : List ℕ) (g h : Gathered) : Type 0 where
@@ -51,10 +52,21 @@ NextAt rank line g (Next x) = Continues rank line g x
 NextAt rank line g (Done h) = Finishes rank line g h
 
 -- the operator's code was written, and then one of these
-pub record PutNext (rank : Operator → Bool) (line codes codes' : List ℕ) (sign : Option Operator) (g : Gathered) (x : Joining) : Type 0 where
+pub record PutNext (rank : Operator → Bool) (line codes codes' : List ℕ) (sign : Option ℕ) (g : Gathered) (x : Joining) : Type 0 where
   pub used : ℕ
   pub put : Wrote codes codes' g.used used (sign_codes sign)
   pub next : NextAt rank line (record g { used = used }) x
+
+-- there is room for an operator's code behind what was read
+abbrev pub ReadyFor : List ℕ → List ℕ → Result Gathered Unread → Type 0
+ReadyFor line codes (Ok g) = (g.end ≤ length line) × (g.seen.operators ≤ g.end) × (g.used < length codes)
+ReadyFor line codes (Err e) = Unit {0}
+
+-- what is not read stays so
+abbrev pub JoinedBy : (Operator → Bool) → List ℕ → List ℕ → List ℕ → Option ℕ → Result Gathered Unread → Result Joining Unread → Type 0
+JoinedBy rank line codes codes' sign (Ok g) (Ok x) = PutNext rank line codes codes' sign g x
+JoinedBy rank line codes codes' sign (Ok g) (Err e) = ⊥
+JoinedBy rank line codes codes' sign (Err e) r = r ≡ Err e
 
 -- an expression with `)` behind it
 pub record Closed (line : List ℕ) (g h : Gathered) : Type 0 where

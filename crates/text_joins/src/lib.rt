@@ -2,7 +2,7 @@
 #![tactic(auto)]
 
 ghost use Rattle.std.specs.Prelude.{◌≤◌, ◌<◌, length};
-ghost use Rattle.text_joins.specs.Join.{RankedAt, rank_of, PutNext, EndInside, GroupedBy};
+ghost use Rattle.text_joins.specs.Join.{RankedAt, rank_of, ReadyFor, JoinedBy, EndInside, GroupedBy};
 
 use program::rule::Operator;
 use text_codes::summary::Summary;
@@ -37,12 +37,12 @@ fn ranked(line: &[u8], at: usize, sums: bool) -> Option<(Operator, usize)>
     Some((sign, end))
 }
 
-// What stands before the element that is due: what has been gathered so far, and the operator whose code is to stand behind
+// What stands before the element that is due: what has been gathered so far, and the operator's code that is to stand behind
 // those of the element.
 #[derive(Clone, Copy)]
 pub struct Pending {
     pub gathered: Gathered,
-    pub sign: Option<Operator>,
+    pub sign: Option<u64>,
 }
 
 // Another element is due, or that is all.
@@ -56,22 +56,23 @@ pub enum Joining {
 pub fn joined(
     line: &[u8],
     codes: &mut [u64],
-    read: Gathered,
-    sign: Option<Operator>,
+    element: Result<Gathered, Unread>,
+    sign: Option<u64>,
     sums: bool,
-) -> Joining
-    requires { (read.end ≤ length line.now) × (read.seen.operators ≤ read.end) × (read.used < length codes.old) }
-    ensures { PutNext (rank_of sums) line.now codes.old codes.new sign read result }
+) -> Result<Joining, Unread>
+    requires { ReadyFor line.now codes.old element }
+    ensures { JoinedBy (rank_of sums) line.now codes.old codes.new sign element result }
 {
+    let read = element?;
     let used = code::put_sign(codes, read.used, sign);
     let Some((next, end)) = ranked(line, read.end, sums) else {
-        return Joining::Done(Gathered { used, ..read });
+        return Ok(Joining::Done(Gathered { used, ..read }));
     };
     let seen = read.seen.with_operator(next);
-    Joining::Next(Pending {
+    Ok(Joining::Next(Pending {
         gathered: Gathered { seen, end, used },
-        sign: Some(next),
-    })
+        sign: Some(program::code::of_operator(next)),
+    }))
 }
 
 // A group whose expression is read: `)` must stand behind it.

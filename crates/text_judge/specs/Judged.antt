@@ -6,8 +6,8 @@ use Rattle.text_lines.specs.declared.line.LineParts.{LineParts}
 use Rattle.text_state.specs.declared.state.State.{State}
 use Rattle.text_refusals.specs.Number.{refusal_number}
 use Rattle.text_refusals.specs.Refusal.{refusal_of}
-use Rattle.text_refusals.specs.declared.Refusal.{Refusal}
 use Rattle.text_judge.specs.declared.Next.{Next}
+use Rattle.text_judge.specs.declared.RefusedLine.{RefusedLine}
 
 abbrev pub parts_of : Next → LineParts
 parts_of r = record { line = r.line; used = r.used }
@@ -19,7 +19,7 @@ pub record LineJudged (scope : Scope) (t : List ℕ) (at : ℕ) (x : State) (ful
   pub read : LineNext scope.sizes (first_form (drop at t)) end a b n p
   pub refusal_is : number ≡ refusal_of x full p.line
 
--- a line that passes, or why it is refused
-abbrev pub Judged : Scope → List ℕ → ℕ → State → Bool → List ℕ → List ℕ → ℕ → Result Next Refusal → Type 0
+-- a line that passes, or that is refused
+abbrev pub Judged : Scope → List ℕ → ℕ → State → Bool → List ℕ → List ℕ → ℕ → Result Next RefusedLine → Type 0
 Judged scope t at x full a b n (Ok r) = LineJudged scope t at x full a b n r.end (parts_of r) 0
-Judged scope t at x full a b n (Err e) = (end : ℕ) × (p : LineParts) × LineJudged scope t at x full a b n end p (refusal_number e)
+Judged scope t at x full a b n (Err e) = LineJudged scope t at x full a b n e.next.end (parts_of e.next) (refusal_number e.refusal)

@@ -11,12 +11,19 @@ use text_rules::line::LineRead;
 use text_rules::scope::Scope;
 use text_state::state::State;
 
-// A line that passes: where it ends, how many codes there are behind it, and its reading.
+// A line: where it ends, how many codes there are behind it, and its reading.
 #[derive(Clone, Copy)]
 pub struct Next {
     pub end: usize,
     pub used: usize,
     pub line: LineRead,
+}
+
+// A line that is read and refused.
+#[derive(Clone, Copy)]
+pub struct RefusedLine {
+    pub refusal: Refusal,
+    pub next: Next,
 }
 
 // The line that begins at `at`. `full`: the plan of the open step needs more than 64 lines.
@@ -28,16 +35,19 @@ pub fn next_line(
     codes: &mut [u64],
     used: usize,
     full: bool,
-) -> Result<Next, Refusal>
+) -> Result<Next, RefusedLine>
     requires { Limits scope.sizes × (at < length text.now) × (used ≤ at) × CodeRoom (length text.now) codes.old }
     ensures { Judged scope text.now at state full codes.old codes.new used result }
 {
     let end = text_next::line_end(text, at);
     let first = text_next::read_first(text, at, end, scope.sizes, codes, used);
-    text_refusals::line_refusal(state, full, first.line)?;
-    Ok(Next {
+    let next = Next {
         end,
         used: first.used,
         line: first.line,
-    })
+    };
+    match text_refusals::line_refusal(state, full, first.line) {
+        Ok(()) => Ok(next),
+        Err(refusal) => Err(RefusedLine { refusal, next }),
+    }
 }

@@ -32,6 +32,7 @@ use Rattle.text_rules.proofs.Passing.{Reached, start_reached, advance_reached}
 use Rattle.text_next.specs.Front.{line_bytes, first_form, CodeRoom, LineNext}
 use Rattle.program.specs.Stored.{rules_in}
 use Rattle.program.specs.Kept.{steps_in, program_of}
+use Rattle.text_judge.specs.declared.RefusedLine.{RefusedLine}
 use Rattle.text_judge.specs.Judged.{parts_of, Judged}
 use Rattle.text_judge.specs.declared.Next.{Next}
 use Rattle.text_reader.specs.Answers.{check_outcome, Answers}
@@ -197,10 +198,10 @@ module _ (scope : Scope) {t : List ℕ} {a : Open} {codes : List ℕ} {slots : L
     pub passed : {y : Next} → Judged scope t at x a.full codes b n (Ok y) → Passes b (parts_of y)
     passed {y} j = passes (parts_of y) j.end_is here j.read (sym j.refusal_is)
 
-    pub answer-line : {e : Refusal} → Judged scope t at x a.full codes b n (Err e)
-        → Answers b (read_from scope start 1 (lines t)) (Err (record { refusal = e; line = i }))
+    pub answer-line : {e : RefusedLine} → Judged scope t at x a.full codes b n (Err e)
+        → Answers b (read_from scope start 1 (lines t)) (Err (record { refusal = e.refusal; line = i }))
     unfolding check_outcome
-    answer-line {e} j = record { outcome_is = sym (stopped j.1 j.2.end_is here j.2.read e j.2.refusal_is); complete = tt }
+    answer-line {e} j = record { outcome_is = sym (stopped (parts_of e.next) j.end_is here j.read e.refusal j.refusal_is); complete = tt }
 
 -- the arrays and the plan behind each sort of line; m is the number of lines of the open step's plan
 module _ {scope : Scope} (lim : Limits scope.sizes) {t : List ℕ} {a : Open} {codes : List ℕ} {slots : List Located} {frames : List Frame} {x : S.State} {n at i : ℕ}

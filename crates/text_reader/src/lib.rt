@@ -40,7 +40,10 @@ pub fn read_lines(text: &[u8], scope: Scope, codes: &mut [u64]) -> Result<Progra
     while at < text.len() {
         let next = match next_line(text, at, scope, state, codes, used, open_step.full) {
             Ok(next) => next,
-            Err(refusal) => return Err(Refused { refusal, line }),
+            Err(refused) => {
+                let refusal = refused.refusal;
+                return Err(Refused { refusal, line });
+            }
         };
         let lines = open_step.plan.count;
         match store::plan_line(&mut open_step, codes, state, next.line) {

@@ -9,7 +9,7 @@ use Rattle.plan_lines.proofs.Adding.{holds-facts, extended-holds, extended-settl
 use Rattle.plan_builder.proofs.+add_fact.Goals as goal
 
 pub returns-then-is_settled : goal.returns-then-is_settled
-returns-then-is_settled t c = extended-settled _ c.requires.0 (sym c.is_settled.ensures ∙ c.if-is_settled.true)
+returns-then-is_settled t c = (extended-settled _ c.requires.0 (sym c.is_settled.ensures ∙ c.if-is_settled.true), c.requires.0.keyed)
 
 -- a fact that is not settled: its line needs nothing, ..
 pub append-requires : goal.append-requires
@@ -20,7 +20,7 @@ append-requires t c =
 pub returns-then-key-le-ONE_HOP : goal.returns-then-key-le-ONE_HOP
 returns-then-key-le-ONE_HOP t c =
     let n = new-one (sym c.is_settled.ensures ∙ c.if-is_settled.false) (hops-short _ c.if-key-le-ONE_HOP.true) in
-    one-done n (rw c.first_line.ensures at c.append.ensures)
+    (one-done n (rw c.first_line.ensures at c.append.ensures.0), c.append.ensures.1)
 
 -- .. or it has two needs
 pub needs_of-needs-requires : goal.needs_of-needs-requires
@@ -35,35 +35,35 @@ add_fact-requires t c =
 pub returns-in_err-add_fact : goal.returns-in_err-add_fact
 returns-in_err-add_fact t c =
     let n = new-both (sym c.is_settled.ensures ∙ c.if-is_settled.false) (hops_long _ c.if-key-le-ONE_HOP.false) in
-    back_full n (extended_as refl c.needs_of-needs.ensures.back_is c.add_fact.ensures) (search rules) (search rules)
+    (back_full n (extended_as refl c.needs_of-needs.ensures.back_is c.add_fact.ensures.0) (search rules) (search rules), c.add_fact.ensures.1)
 
 pub add_fact-requires-2 : goal.add_fact-requires-2
 add_fact-requires-2 t c =
     let shorter = needs_shorter (fact_of c.args.key) (hops_long _ c.if-key-le-ONE_HOP.false) c.needs_of-needs.ensures in
-    let with_back = extended_as refl c.needs_of-needs.ensures.back_is c.add_fact.ensures in
+    let with_back = extended_as refl c.needs_of-needs.ensures.back_is c.add_fact.ensures.0 in
     (omega (arith, c.decreases, shorter), (holds-facts (extended-holds with_back (search rules)), omega (arith, c.requires.1, shorter)))
 
 -- .. and then that for Read(b)
 pub returns-in_err-add_fact-2 : goal.returns-in_err-add_fact-2
 returns-in_err-add_fact-2 t c =
     let n = new-both (sym c.is_settled.ensures ∙ c.if-is_settled.false) (hops_long _ c.if-key-le-ONE_HOP.false) in
-    let with_back = extended_as refl c.needs_of-needs.ensures.back_is c.add_fact.ensures in
+    let with_back = extended_as refl c.needs_of-needs.ensures.back_is c.add_fact.ensures.0 in
     let back-held = extended-holds with_back (search rules) in
-    read_full n (extended_as back-held.facts_are c.needs_of-needs.ensures.read_is c.add_fact-2.ensures) (search rules) (search rules)
+    (read_full n (extended_as back-held.facts_are c.needs_of-needs.ensures.read_is c.add_fact-2.ensures.0) (search rules) (search rules), c.add_fact-2.ensures.1)
 
 pub line_after-line-requires : goal.line_after-line-requires
 line_after-line-requires t c =
     let n = new-both (sym c.is_settled.ensures ∙ c.if-is_settled.false) (hops_long _ c.if-key-le-ONE_HOP.false) in
-    let with_back = extended_as refl c.needs_of-needs.ensures.back_is c.add_fact.ensures in
+    let with_back = extended_as refl c.needs_of-needs.ensures.back_is c.add_fact.ensures.0 in
     let back-held = extended-holds with_back (search rules) in
-    let h = extended-holds (extended_as back-held.facts_are c.needs_of-needs.ensures.read_is c.add_fact-2.ensures) (search rules) in
+    let h = extended-holds (extended_as back-held.facts_are c.needs_of-needs.ensures.read_is c.add_fact-2.ensures.0) (search rules) in
     let f = holds-facts h in
     (h.keyed, f.ordered, f.rounds_are, record { next = both-next n h; needs_are = c.needs_of-needs.ensures; two = n.two; short = c.requires.1 })
 
 pub returns : goal.returns
 returns t c =
     let n = new-both (sym c.is_settled.ensures ∙ c.if-is_settled.false) (hops_long _ c.if-key-le-ONE_HOP.false) in
-    let with_back = extended_as refl c.needs_of-needs.ensures.back_is c.add_fact.ensures in
+    let with_back = extended_as refl c.needs_of-needs.ensures.back_is c.add_fact.ensures.0 in
     let back-held = extended-holds with_back (search rules) in
-    let h = extended-holds (extended_as back-held.facts_are c.needs_of-needs.ensures.read_is c.add_fact-2.ensures) (search rules) in
-    both-done n h (rw c.line_after-line.ensures.0 at c.append-2.ensures)
+    let h = extended-holds (extended_as back-held.facts_are c.needs_of-needs.ensures.read_is c.add_fact-2.ensures.0) (search rules) in
+    (both-done n h (rw c.line_after-line.ensures.0 at c.append-2.ensures.0), c.append-2.ensures.1)
