@@ -84,9 +84,11 @@ pub fn exchange_to(
     ensures { ExchangedTo cells.now.sizes (cells_in cells.now) plan.now last
         values.old marks.old values.new marks.new result }
 {
+    // A copy: what stands behind the reference would be read anew for each message.
+    let own = *cells;
     let mut sent = 0;
     for t in 1..=last {
-        sent += exchange(cells, values, marks, plan, t);
+        sent += exchange(&own, values, marks, plan, t);
     }
     sent
 }

@@ -21,7 +21,12 @@ pub struct StepPlan {
 pub fn plan_step(file: &[u8], text: &[u8], step: u64) -> Result<StepPlan, Refused>
     ensures { PlanAnswers (plan_of_step file.now text.now step) result × IfOk result (λ r. StepFound file.now text.now step r) }
 {
-    let program = check::check(file, text)?;
+    // The program stays where it is: it is large, and to take it out would be one more of it on the stack.
+    let checked = check::check(file, text);
+    let program = match &checked {
+        Ok(program) => program,
+        Err(refused) => return Err(*refused),
+    };
     if !op_limits::is_step(program.steps, step) {
         return Err(Refused::from(Refusal::Step));
     }

@@ -9,6 +9,17 @@ ghost use Rattle.op_ready.specs.Ready.{Readied};
 use op_limits::Refusal;
 use register::Sizes;
 
+// The bytes of one slice to another of the same length: by a loop, since the library's function asks `memmove` of whom the static
+// library is linked to.
+fn copy(from: &[u8], to: &mut [u8])
+    requires { length from.now ≡ length to.old }
+    ensures { to.new ≡ from.now }
+{
+    for i in 0..from.len() {
+        to[i] = from[i];
+    }
+}
+
 // The register in the output, for a run of a program with at most this many lines in a step; or 18 or 19, and nothing is written.
 #[tactic(auto, unfolding(crate::specs::Ready::length_refusal, op_limits::specs::Number::check_number, op_limits::specs::Number::refusal_number))]
 pub fn ready(
@@ -29,7 +40,7 @@ pub fn ready(
     if op_limits::is_short(sizes, lines, values.len(), marks.len()) {
         return Err(Refusal::Scratch);
     }
-    out.copy_from_slice(file);
+    copy(file, out);
     Ok(())
 }
 
@@ -39,6 +50,6 @@ pub fn restore(file: &[u8], out: &mut [u8], refusal: u32)
     ensures { out.new ≡ cond (eqb refusal 0) out.old file.now }
 {
     if refusal != 0 {
-        out.copy_from_slice(file);
+        copy(file, out);
     }
 }

@@ -35,10 +35,11 @@ use Rattle.text_places.specs.Place.{tokens_from, Passing, Absent}
 use Rattle.text_codes.specs.Coded.{parts_of}
 use Rattle.text_terms.specs.Term.{TermFormed, NoTerm}
 use Rattle.text_codes.specs.Summary.{summary_of, term_summary}
-use Rattle.text_joins.specs.Join.{rank_of, Unranked, EndInside, GroupedBy, Continues, PutNext}
+use Rattle.text_joins.specs.Join.{rank_of, Unranked, EndInside, GroupedBy, Continues, ReadyFor, JoinedBy}
 use Rattle.text_expressions.specs.Reading.{joined_form, element_form, AllDeep, ReadAs, Unread, TooDeep, ReadingAt}
 use Rattle.text_places.proofs.Places.{past-absent, behind-behind}
 use Rattle.text_codes.specs.Codes.{written_codes, sign_codes, Wrote, Roomy}
+use Rattle.program.proofs.Codes.{operator_coded}
 use Rattle.text_codes.proofs.Coding.{wrote_none, wrote_then}
 use Rattle.text_codes.proofs.Summaries.{term_summary_lem, term_few, operator_few}
 
@@ -63,11 +64,6 @@ pub record Joins (rank : Operator → Bool) (element : List S.Token → Form Exp
 abbrev from_form : Bool → Expression → List S.Token → Form Expression
 from_form true = expression_from
 from_form false = minimum_from
-
--- how many readers of what operators join stand between a rank and operands
-abbrev pub level : Bool → ℕ
-level true = 1
-level false = 0
 
 pub rank_joins : (sums : Bool) → Joins (rank_of sums) (element_form sums) (from_form sums) (joined_form sums)
 rank_joins true = record { first = expression-joined; more = expression-more; end = expression-end; grows = expression_grows }
@@ -156,8 +152,10 @@ module _ {sums : Bool} {s : Sizes} {room : ℕ} {before : Gathered} {line a : Li
           few = omega (arith, operator_few c.sign g.seen c.seen_is, e.few, r.passing.behind.onward);
           earlier = written_codes v;
           wrote = subst (λ (n : ℕ). Wrote a d' before.used n (written_codes v)) (sym c.used_is) element_wrote;
-          coded = λ z. ap (λ (o : Option Operator). written_codes v ++ (written_codes z ++ sign_codes o)) c.sign_is;
-          few_codes = omega (arith, element_few, r.passing.behind.onward, ap (λ (o : Option Operator). length (sign_codes o)) c.sign_is, c.used_is);
+          coded = λ z.
+              ap (λ (o : Option ℕ). written_codes v ++ (written_codes z ++ sign_codes o)) c.sign_is
+              ∙ ap (λ (k : Code). written_codes v ++ (written_codes z ++ (k ∷ []))) (operator_coded c.sign);
+          few_codes = omega (arith, element_few, r.passing.behind.onward, ap (λ (o : Option ℕ). length (sign_codes o)) c.sign_is, c.used_is);
         }
 
   pub joined-room : Roomy a line before.end before.used → Roomy b line x.gathered.end x.gathered.used
@@ -179,25 +177,29 @@ module _ {sums : Bool} {s : Sizes} {room : ℕ} {before : Gathered} {line a : Li
       }
 
   -- where no element is read, nothing is
-  pub joined_err : (d : List ℕ) (u : J.Unread) → ReadingAt (element_form sums) s room x.gathered line b d (Err u) → ReadingAt (joined_form sums) s room before line a d (Err u)
-  joined_err d NoForm e = joined-none e
-  joined_err d TooDeepRead e = joined_deep e
+  joined_err : (d d' : List ℕ) (u : J.Unread) → ReadingAt (element_form sums) s room x.gathered line b d (Err u) → ReadingAt (joined_form sums) s room before line a d' (Err u)
+  joined_err d d' NoForm e = joined-none e
+  joined_err d d' TooDeepRead e = joined_deep e
 
   -- there is room for the operator's code
-  pub joined-ready : {d : List ℕ} {g : Gathered} → Roomy a line before.end before.used → ReadAs (element_form sums) s room x.gathered line b d g
-      → (g.end ≤ length line) × (g.seen.operators ≤ g.end) × (g.used < length d)
-  joined-ready q e = (e.behind.inside, e.few, omega (arith, joined-room q, e.wrote.same_length, e.few_codes, e.behind.inside))
+  pub joined-ready : (d : List ℕ) (r : Result Gathered J.Unread) → Roomy a line before.end before.used
+      → ReadingAt (element_form sums) s room x.gathered line b d r → ReadyFor line d r
+  joined-ready d (Ok g) q e = (e.behind.inside, e.few, omega (arith, joined-room q, e.wrote.same_length, e.few_codes, e.behind.inside))
+  joined-ready d (Err u) q e = tt
 
-  -- what is answered: the next element is due, or that is all
+  -- what is answered: the next element is due, or that is all, or nothing is read
   module _ (d' : List ℕ) where
-    abbrev pub JoinedTo : Joining → Type 0
-    JoinedTo (Next y) = Joined sums s room before line a y d' × (x.gathered.end < y.gathered.end)
-    JoinedTo (Done g) = ReadAs (joined_form sums) s room before line a d' g
+    abbrev pub JoinedTo : Result Joining J.Unread → Type 0
+    JoinedTo (Ok (Next y)) = Joined sums s room before line a y d' × (x.gathered.end < y.gathered.end)
+    JoinedTo (Ok (Done g)) = ReadAs (joined_form sums) s room before line a d' g
+    JoinedTo (Err u) = ReadingAt (joined_form sums) s room before line a d' (Err u)
 
-    pub joined_by : {d : List ℕ} {g : Gathered} → ReadAs (element_form sums) s room x.gathered line b d g → (y : Joining)
-        → PutNext (rank_of sums) line d d' x.sign g y → JoinedTo y
-    joined_by e (Next y) q = (joined-more e q.put q.next, omega (arith, e.behind.onward, q.next.ranked.passing.behind.onward))
-    joined_by {g} e (Done h) q = subst (ReadAs (joined_form sums) s room before line a d') (sym q.next.all) (joined-done e q.put q.next.none)
+    pub joined_by : (d : List ℕ) (r : Result Gathered J.Unread) → ReadingAt (element_form sums) s room x.gathered line b d r
+        → (y : Result Joining J.Unread) → JoinedBy (rank_of sums) line d d' x.sign r y → JoinedTo y
+    joined_by d (Ok g) e (Ok (Next y)) q = (joined-more e q.put q.next, omega (arith, e.behind.onward, q.next.ranked.passing.behind.onward))
+    joined_by d (Ok g) e (Ok (Done h)) q = subst (ReadAs (joined_form sums) s room before line a d') (sym q.next.all) (joined-done e q.put q.next.none)
+    joined_by d (Ok g) e (Err u) q = absurd q
+    joined_by d (Err u) e y q = subst JoinedTo (sym q) (joined_err d d' u e)
 
 -- a term as an operand
 pub term_operand : {s : Sizes} {room : ℕ} {before : Gathered} {line : List ℕ} {a b : List ℕ} {p : TermParts} {g : Summary} {end : ℕ}

@@ -2,10 +2,10 @@
 // before, at the place and with the number of codes then.
 ghost use Rattle.std.specs.Prelude.{◌≤◌, true, length};
 ghost use Rattle.register.specs.Shape.{Limits};
-ghost use Rattle.text_syntax.specs.Grammar.{expression, operand};
+ghost use Rattle.text_syntax.specs.Grammar.{expression, minimum, operand};
 ghost use Rattle.text_terms.specs.Term.{NoTerm};
 ghost use Rattle.text_codes.specs.Codes.{Roomy};
-ghost use Rattle.text_expressions.specs.Reading.{joined_form, element_form, ReadingAt};
+ghost use Rattle.text_expressions.specs.Reading.{ReadingAt};
 
 use register::Sizes;
 use text_joins::{Gathered, Joining, Pending, Unread};
@@ -13,7 +13,9 @@ use text_places::mark::Mark;
 use text_places::place;
 use text_terms::term;
 
-// An expression: what `<?` joins, joined by `+` and `-`.
+// An expression: what `<?` joins, joined by `+` and `-`. It and `read_minimum` are two, since one function of both ranks calls itself
+// twice for a group and takes 1.6 times the time of a text full of groups.
+#[cycle(read_expression_read_group_read_minimum_read_operand)]
 pub fn read_expression(
     line: &[u8],
     sizes: Sizes,
@@ -25,58 +27,47 @@ pub fn read_expression(
     requires roomy { Roomy codes.old line.now before.end before.used }
     ensures { ReadingAt expression sizes room before line.now codes.old codes.new result }
 {
-    read_joined(line, sizes, room, before, codes, true)
-}
-
-// Elements joined by the operators of a rank: by `+` and `-`, or by `<?`.
-#[cycle(read_element_read_group_read_joined_read_operand)]
-fn read_joined(
-    line: &[u8],
-    sizes: Sizes,
-    room: usize,
-    before: Gathered,
-    codes: &mut [u64],
-    sums: bool,
-) -> Result<Gathered, Unread>
-    requires limits { Limits sizes × (room ≤ 8) × (before.end ≤ length line.now) × (before.seen.operators ≤ before.end) }
-    requires roomy { Roomy codes.old line.now before.end before.used }
-    ensures { ReadingAt (joined_form sums) sizes room before line.now codes.old codes.new result }
-{
     let mut next = Pending {
         gathered: before,
         sign: None,
     };
     loop {
-        let read = read_element(line, sizes, room, next.gathered, codes, sums)?;
-        match text_joins::joined(line, codes, read, next.sign, sums) {
+        let read = read_minimum(line, sizes, room, next.gathered, codes);
+        match text_joins::joined(line, codes, read, next.sign, true)? {
             Joining::Next(more) => next = more,
             Joining::Done(done) => return Ok(done),
         }
     }
 }
 
-// What the operators of a rank join: `+` and `-` what `<?` joins, and that operands.
-#[cycle(read_element_read_group_read_joined_read_operand)]
-fn read_element(
+// Operands joined by `<?`.
+#[cycle(read_expression_read_group_read_minimum_read_operand)]
+fn read_minimum(
     line: &[u8],
     sizes: Sizes,
     room: usize,
     before: Gathered,
     codes: &mut [u64],
-    sums: bool,
 ) -> Result<Gathered, Unread>
     requires limits { Limits sizes × (room ≤ 8) × (before.end ≤ length line.now) × (before.seen.operators ≤ before.end) }
     requires roomy { Roomy codes.old line.now before.end before.used }
-    ensures { ReadingAt (element_form sums) sizes room before line.now codes.old codes.new result }
+    ensures { ReadingAt minimum sizes room before line.now codes.old codes.new result }
 {
-    if sums {
-        return read_joined(line, sizes, room, before, codes, false);
+    let mut next = Pending {
+        gathered: before,
+        sign: None,
+    };
+    loop {
+        let read = read_operand(line, sizes, room, next.gathered, codes);
+        match text_joins::joined(line, codes, read, next.sign, false)? {
+            Joining::Next(more) => next = more,
+            Joining::Done(done) => return Ok(done),
+        }
     }
-    read_operand(line, sizes, room, before, codes)
 }
 
 // A term or a group.
-#[cycle(read_element_read_group_read_joined_read_operand)]
+#[cycle(read_expression_read_group_read_minimum_read_operand)]
 fn read_operand(
     line: &[u8],
     sizes: Sizes,
@@ -100,7 +91,7 @@ fn read_operand(
 }
 
 // A group, where no term stands: an expression in brackets, of which one less remains.
-#[cycle(read_element_read_group_read_joined_read_operand)]
+#[cycle(read_expression_read_group_read_minimum_read_operand)]
 fn read_group(
     line: &[u8],
     sizes: Sizes,
@@ -119,6 +110,6 @@ fn read_group(
         return Err(Unread::Deep);
     }
     let inner = Gathered { end, ..before };
-    let read = read_joined(line, sizes, room - 1, inner, codes, true);
+    let read = read_expression(line, sizes, room - 1, inner, codes);
     text_joins::close_group(line, read)
 }
