@@ -22,7 +22,7 @@ fn value_of(cell: Cell) -> i64
     }
 }
 
-// The mark of a cell, as the file has it.
+// The mark of a cell, as the file has it: each case has one of its own.
 #[tactic(auto, unfolding(register::specs::Cells::mark_of))]
 fn mark_of(cell: Cell) -> u8
     ensures { result ≡ mark_of cell }

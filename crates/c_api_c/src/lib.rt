@@ -1,4 +1,5 @@
 // The exported functions, for programs in other languages: each is the one of its name in c_api, under the same clauses.
+// Each stands under the name that C has, so that the two runs are two functions.
 #![tactic(auto)]
 
 ghost use Rattle.std.specs.Prelude.{length};

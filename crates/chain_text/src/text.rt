@@ -1,4 +1,5 @@
 // The text of a chain.
+// It has a reader of its own, of bytes: no spaces may stand in it, as they may between the tokens of `text_terms`.
 ghost use Rattle.std.specs.Prelude.{◌≡◌, ◌+◌, ◌-◌, ◌*◌, ◌^◌, ◌≤◌, length, drop};
 ghost use Rattle.register.specs.Shape.{Limits};
 ghost use Rattle.chain_text.specs.Text.{form};

@@ -60,6 +60,7 @@ pub fn unsigned(value: i32) -> u32
     value.cast_unsigned()
 }
 
+// It stands beside `in_range`, and `subtract` too, since a page names them (docs/PROMISES.md).
 pub fn add(a: i32, b: i32) -> Option<i32>
     ensures { result ≡ sum_of (a +ℤ b) }
 {
@@ -112,6 +113,7 @@ pub fn is_index(n: usize, value: i32) -> bool
 }
 
 // A value that is not negative, as an index.
+// `as` here and in `of_index`: the clause says that no bit is lost, and hot loops call them.
 pub fn index(value: i32) -> usize
     requires { T (non_neg value) }
     ensures { result ≡ nat_abs value }

@@ -58,6 +58,7 @@ fn run_text(
 }
 
 // The straight run: every reading is had by following references.
+// The machine is no parameter here and below, since `plot_run_direct` and `plot_run_messages` are names that C has.
 pub fn run_direct(
     file: &[u8],
     text: &[u8],

@@ -105,6 +105,7 @@ fn run_steps(
         let mut stop = Ok(());
         'records: for u in 0..sizes.records {
             for k in 0..used {
+                // A flag and no function as a value: the compiler lifts it out of the loop.
                 if plain {
                     stop = local::apply_plain(out, values, marks, sizes, base, u, rules[k]);
                 } else {

@@ -82,6 +82,7 @@ pub fn apply_rule(
 }
 
 // The same for a plain rule, which needs no codes.
+// It is a way of its own for speed: by the general one a rule at a record took 17 ns and not 2.6 (docs/DECISIONS.md).
 pub fn apply_plain(
     out: &[u8],
     values: &mut [i64],

@@ -62,6 +62,7 @@ fn apply_rule(
 }
 
 // The same for a plain rule, which needs no codes.
+// It is a way of its own for speed: by the general one a rule at a record took 17 ns and not 2.6 (docs/DECISIONS.md).
 fn apply_plain(
     cells: &Cells<'_>,
     values: &mut [i64],
@@ -105,6 +106,7 @@ pub fn apply(
     let mut sent = 0;
     for u in 0..sizes.records {
         for k in 0..count {
+            // A flag and no function as a value: the compiler lifts it out of the loop.
             if plain {
                 sent = apply_plain(&cells, values, marks, base, u, rules[k], sent);
             } else {

@@ -1,4 +1,5 @@
 // The chains of a line.
+// They have a reader of their own, of tokens: spaces may stand between these, as they may not in `chain_text`.
 ghost use Rattle.std.specs.Prelude.{false, ◌+◌, ◌-◌, ◌*◌, ◌^◌, ◌≤◌, length};
 ghost use Rattle.register.specs.Shape.{Limits};
 ghost use Rattle.text_terms.specs.Chain.{LinkAt, ChainAt, ClosesAt};
